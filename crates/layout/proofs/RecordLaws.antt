@@ -1,0 +1,227 @@
+-- The bytes of a log record: their length, that the stores of a writer make them, that they are read back, and that
+-- what is read and written again is the same. Assumes nothing.
+use mathlib.Core.Path.{_≡_, refl, sym, ap, _∙_}
+use Prim.Native.Nat.{ℕ, _+_, _^_, _≤_, _<_}
+use native.Mathlib.Omega.{arith}
+use mathlib.Core.List.{List, [], _∷_, _++_, append-assoc}
+use lib.ListN.{length, getD, drop, set, length-append}
+use lib.Seq.{getD-at}
+use borrow.Author.Tests.{le-leb}
+use Rattle.layout.specs.Field.{enc, dec}
+use Rattle.layout.specs.Part.{part, splice}
+use Rattle.layout.specs.Block.{zeros}
+use Rattle.layout.specs.Cells.{flat}
+use Rattle.layout.specs.Item.{itemBytes, itemOf, byTag, headOf, pairOf, valueOf, versionItem, commitItem}
+use Rattle.layout.specs.Journal.{Record, version, commit, versionBody, commitBody, recordBytes, recordSize, logBytes, emptyBlock, usedOf, addRecord}
+use Rattle.layout.specs.declared.item.VersionHead.{VersionHead}
+use Rattle.layout.specs.declared.item.Pair.{Pair}
+use Rattle.layout.specs.declared.item.Area.the-variants.{Journal}
+use Rattle.layout.specs.declared.item.Item.the-variants.{Version, Commit}
+use Rattle.layout.proofs.PartLaws.{splice-is, length-part}
+use Rattle.layout.proofs.FieldLaws.{Bytes, length-enc, dec-lt, bytes-take, bytes-drop}
+use Rattle.layout.proofs.ReadLaws.{part-mid, dec-mid, part-join, part-cons, enc-part}
+use Rattle.layout.proofs.ItemLaws.{item-bytes}
+use Rattle.layout.proofs.WriteLaws.{set-splice, splice-then, set-then, splice-whole}
+
+pub length-versionBody : (h : VersionHead) (v : List ℕ) → length v ≡ 16 → length (versionBody h v) ≡ 30
+unfolding versionBody
+length-versionBody h v e = simp (length-append, length-enc, e)
+
+pub length-commitBody : (p : Pair) → length (commitBody p) ≡ 16
+unfolding commitBody
+length-commitBody p = simp (length-append, length-enc)
+
+pub length-itemBytes : (tag : ℕ) (c : List ℕ) → length (itemBytes tag c) ≡ 3 + length c
+unfolding itemBytes
+length-itemBytes tag c = simp (length-append, length-enc) (omega arith)
+
+-- a version's value is 16 bytes
+abbrev pub ValueFits : Record → Type 0
+ValueFits (version h v) = length v ≡ 16
+ValueFits (commit p) = Unit {0}
+
+pub length-recordBytes : (r : Record) → ValueFits r → length (recordBytes r) ≡ recordSize r
+unfolding recordBytes recordSize
+length-recordBytes (version h v) e = length-itemBytes 1 (versionBody h v) ∙ rw (length-versionBody h v e)
+length-recordBytes (commit p) e = length-itemBytes 2 (commitBody p) ∙ rw (length-commitBody p)
+
+-- ---- what the stores make
+
+pub begin-is : (s : ℕ) (a b c : List ℕ) → a ≡ zeros 512 → b ≡ splice a 0 (enc 8 s) → c ≡ splice b 8 (enc 2 10) → c ≡ emptyBlock s
+unfolding emptyBlock logBytes flat
+begin-is s a b c ea eb ec =
+    let n : length (enc 8 s ++ enc 2 10) ≡ 10 = simp (length-append, length-enc) in
+    let f : splice (zeros 512) 0 (enc 8 s ++ enc 2 10) ≡ (enc 8 s ++ enc 2 10) ++ zeros 502 = splice-is (zeros 512) 0 (enc 8 s ++ enc 2 10) (rw n (omega arith)) ∙ rw n in
+    rw (ec, eb, ea, splice-then (zeros 512) 0 (enc 8 s) 8 (enc 2 10) (simp length-enc)) f
+
+pub commit-written : (l a : List ℕ) (p : Pair) → length l ≡ 16 → a ≡ splice l 0 (enc 8 (p .number .0)) → splice a 8 (enc 8 (p .time .0)) ≡ commitBody p
+unfolding commitBody
+commit-written l a p n ea =
+    rw (ea, splice-then l 0 (enc 8 (p .number .0)) 8 (enc 8 (p .time .0)) (simp length-enc)) (splice-whole l _ (simp (length-append, length-enc, n)))
+
+pub version-written : (l a b d v : List ℕ) (h : VersionHead) → length l ≡ 30 → length v ≡ 16
+    → a ≡ splice l 0 (enc 2 (h .slot))
+    → b ≡ splice (set (set a 2 (h .key)) 3 (h .kind)) 4 (enc 2 (h .earlier))
+    → d ≡ splice b 6 (enc 8 (h .number .0))
+    → splice d 14 v ≡ versionBody h v
+unfolding versionBody
+version-written l a b d v h n m ea eb ed =
+    rw (
+      ed,
+      eb,
+      ea,
+      set-then l 0 x 2 (h .key) (simp length-enc),
+      set-then l 0 (x ++ (h .key ∷ [])) 3 (h .kind) (simp (length-append, length-enc)),
+      splice-then l 0 ((x ++ (h .key ∷ [])) ++ (h .kind ∷ [])) 4 (enc 2 (h .earlier)) (simp (length-append, length-enc)),
+      splice-then l 0 (((x ++ (h .key ∷ [])) ++ (h .kind ∷ [])) ++ enc 2 (h .earlier)) 6 (enc 8 (h .number .0)) (simp (length-append, length-enc)),
+      splice-then l 0 ((((x ++ (h .key ∷ [])) ++ (h .kind ∷ [])) ++ enc 2 (h .earlier)) ++ enc 8 (h .number .0)) 14 v (simp (length-append, length-enc)),
+    )
+    (ap (splice l 0) body ∙ splice-whole l (versionBody h v) (length-versionBody h v m ∙ sym n))
+  where
+    x : List ℕ
+    x = enc 2 (h .slot)
+
+    body : ((((x ++ (h .key ∷ [])) ++ (h .kind ∷ [])) ++ enc 2 (h .earlier)) ++ enc 8 (h .number .0)) ++ v ≡ versionBody h v
+    body = simp append-assoc
+
+-- tag, length and body behind each other
+pub item-written : (b c w : List ℕ) (at tag len : ℕ) → length w ≡ len → c ≡ splice (set b at tag) (at + 1) (enc 2 len)
+    → splice c (at + 3) w ≡ splice b at (itemBytes tag w)
+unfolding itemBytes
+item-written b c w at tag len n e =
+    rw (
+      e,
+      set-splice b at tag,
+      splice-then b at (tag ∷ []) (at + 1) (enc 2 len) refl,
+      splice-then b at (tag ∷ enc 2 len) (at + 3) w (simp length-enc),
+      n,
+    )
+
+pub version-added : (b c w v : List ℕ) (h : VersionHead) (at : ℕ) → at ≡ usedOf b → length v ≡ 16
+    → c ≡ splice (set b at 1) (at + 1) (enc 2 30) → w ≡ versionBody h v
+    → splice (splice c (at + 3) w) 8 (enc 2 (at + 33)) ≡ addRecord b (version h v)
+unfolding addRecord recordBytes recordSize
+version-added b c w v h at u n e f =
+    rw (item-written b c w at 1 30 (ap length f ∙ length-versionBody h v n) e, f, u)
+
+pub commit-added : (b c w : List ℕ) (p : Pair) (at : ℕ) → at ≡ usedOf b
+    → c ≡ splice (set b at 2) (at + 1) (enc 2 16) → w ≡ commitBody p
+    → splice (splice c (at + 3) w) 8 (enc 2 (at + 19)) ≡ addRecord b (commit p)
+unfolding addRecord recordBytes recordSize
+commit-added b c w p at u e f =
+    rw (item-written b c w at 2 16 (ap length f ∙ length-commitBody p) e, f, u)
+
+-- ---- what was written is read back
+
+-- the fields of a version lie within their bytes
+pub record VersionSized (h : VersionHead) (v : List ℕ) : Type 0 where
+  pub slot : h .slot < 65536
+  pub key : h .key < 256
+  pub kind : h .kind < 256
+  pub earlier : h .earlier < 65536
+  pub number : h .number .0 < 2 ^ 64
+  pub size : length v ≡ 16
+  pub bytes : Bytes v
+
+pub record PairSized (p : Pair) : Type 0 where
+  pub number : p .number .0 < 2 ^ 64
+  pub time : p .time .0 < 2 ^ 64
+
+abbrev pub RecordSized : Record → Type 0
+RecordSized (version h v) = VersionSized h v
+RecordSized (commit p) = PairSized p
+
+same-head : (h : VersionHead) (s k d e n : ℕ) → s ≡ h .slot → k ≡ h .key → d ≡ h .kind → e ≡ h .earlier → n ≡ h .number .0
+    → _≡_ {A = VersionHead} (record { slot = s; key = k; kind = d; earlier = e; number = record { 0 = n } }) h
+same-head h s k d e n es ek ed ee en = rw (es, ek, ed, ee, en)
+
+pub head-back : (h : VersionHead) (v z : List ℕ) → VersionSized h v → headOf (versionBody h v ++ z) ≡ h
+unfolding headOf versionBody
+head-back h v z s =
+    let x = enc 2 (h .slot) in
+    let y = x ++ (h .key ∷ h .kind ∷ []) in
+    let e = enc 2 (h .earlier) in
+    let n = enc 8 (h .number .0) ++ (v ++ z) in
+    let m : length y ≡ 4 = simp (length-append, length-enc) in
+    let f : versionBody h v ++ z ≡ x ++ (h .key ∷ h .kind ∷ (e ++ n)) = simp append-assoc in
+    let g : versionBody h v ++ z ≡ (x ++ (h .key ∷ [])) ++ (h .kind ∷ (e ++ n)) = simp append-assoc in
+    let k : versionBody h v ++ z ≡ y ++ (e ++ n) = simp append-assoc in
+    let j : versionBody h v ++ z ≡ (y ++ e) ++ n = simp append-assoc in
+    same-head h _ _ _ _ _
+    (ap (λ (t : List ℕ). dec (part t 0 2)) f ∙ dec-mid [] (h .key ∷ h .kind ∷ (e ++ n)) 0 2 (h .slot) refl (s .slot))
+    (ap (λ (t : List ℕ). getD t 2 0) f ∙ getD-at x (h .key) (h .kind ∷ (e ++ n)) 0 2 (length-enc 2 (h .slot)))
+    (ap (λ (t : List ℕ). getD t 3 0) g ∙ getD-at (x ++ (h .key ∷ [])) (h .kind) (e ++ n) 0 3 (simp (length-append, length-enc)))
+    (ap (λ (t : List ℕ). dec (part t 4 2)) k ∙ dec-mid y n 4 2 (h .earlier) m (s .earlier))
+    (ap (λ (t : List ℕ). dec (part t 6 8)) j ∙ dec-mid (y ++ e) (v ++ z) 6 8 (h .number .0) (rw (length-append, m, length-enc)) (s .number))
+
+pub value-back : (h : VersionHead) (v z : List ℕ) → VersionSized h v → valueOf (versionBody h v ++ z) ≡ v
+unfolding valueOf versionBody
+value-back h v z s =
+    let p = ((enc 2 (h .slot) ++ (h .key ∷ h .kind ∷ [])) ++ enc 2 (h .earlier)) ++ enc 8 (h .number .0) in
+    let f : versionBody h v ++ z ≡ p ++ (v ++ z) = simp append-assoc in
+    ap valueOf f ∙ part-mid p v z 14 16 (simp (length-append, length-enc)) (s .size)
+
+pub pair-back : (p : Pair) (z : List ℕ) → PairSized p → pairOf (commitBody p ++ z) ≡ p
+unfolding pairOf commitBody
+pair-back p z s =
+    let f : commitBody p ++ z ≡ enc 8 (p .number .0) ++ (enc 8 (p .time .0) ++ z) = simp append-assoc in
+    same-pair p _ _
+    (ap (λ (t : List ℕ). dec (part t 0 8)) f ∙ dec-mid [] (enc 8 (p .time .0) ++ z) 0 8 (p .number .0) refl (s .number))
+    (ap (λ (t : List ℕ). dec (part t 8 8)) f ∙ dec-mid (enc 8 (p .number .0)) z 8 8 (p .time .0) (length-enc 8 (p .number .0)) (s .time))
+  where
+    same-pair : (p : Pair) (n t : ℕ) → n ≡ p .number .0 → t ≡ p .time .0 → _≡_ {A = Pair} (record { number = record { 0 = n }; time = record { 0 = t } }) p
+    same-pair p n t en et = rw (en, et)
+
+-- a record at the front of the bytes
+pub version-back : (h : VersionHead) (v z : List ℕ) → VersionSized h v → itemOf Journal (recordBytes (version h v) ++ z) ≡ Version h
+unfolding recordBytes byTag versionItem
+version-back h v z s =
+    let n : length (versionBody h v) ≡ 30 = length-versionBody h v (s .size) in
+    let l : 30 ≤ length (versionBody h v ++ z) = simp (length-append, n) (omega arith) in
+    item-bytes Journal 1 (versionBody h v) z (omega arith) ∙ simp (n, le-leb _ _ l, head-back h v z s)
+
+pub commit-back : (p : Pair) (z : List ℕ) → PairSized p → itemOf Journal (recordBytes (commit p) ++ z) ≡ Commit p
+unfolding recordBytes byTag commitItem
+commit-back p z s =
+    let n : length (commitBody p) ≡ 16 = length-commitBody p in
+    let l : 16 ≤ length (commitBody p ++ z) = simp (length-append, n) (omega arith) in
+    item-bytes Journal 2 (commitBody p) z (omega arith) ∙ simp (n, le-leb _ _ l, pair-back p z s)
+
+-- ---- what is read and written again is the same
+
+pub version-again : (b : List ℕ) → Bytes b → 30 ≤ length b → versionBody (headOf b) (valueOf b) ≡ part b 0 30
+unfolding versionBody headOf valueOf
+version-again b k h =
+    rw (
+      enc-part b 0 2 (omega arith) k,
+      enc-part b 4 2 (omega arith) k,
+      enc-part b 6 8 (omega arith) k,
+      part-join b 6 8 16,
+      part-join b 4 2 24,
+      part-cons b 3 26 (omega arith),
+      part-cons b 2 27 (omega arith),
+    ) (part-join b 0 2 28)
+
+pub commit-again : (b : List ℕ) → Bytes b → 16 ≤ length b → commitBody (pairOf b) ≡ part b 0 16
+unfolding commitBody pairOf
+commit-again b k h = rw (enc-part b 0 8 (omega arith) k, enc-part b 8 8 (omega arith) k) (part-join b 0 8 8)
+
+-- and what is read from bytes lies within its bytes
+pub dec-part-lt : (b : List ℕ) (at w : ℕ) → Bytes b → at + w ≤ length b → dec (part b at w) < 256 ^ w
+dec-part-lt b at w k h = dec-lt w (part b at w) (bytes-take w (drop at b) (bytes-drop at b k)) (rw (length-part b at w h) (omega arith))
+
+pub version-sized : (b : List ℕ) → Bytes b → 30 ≤ length b → VersionSized (headOf b) (valueOf b)
+unfolding headOf valueOf
+version-sized b k h = record {
+  slot = dec-part-lt b 0 2 k (omega arith);
+  key = k 2 .fits;
+  kind = k 3 .fits;
+  earlier = dec-part-lt b 4 2 k (omega arith);
+  number = dec-part-lt b 6 8 k (omega arith);
+  size = length-part b 14 16 h;
+  bytes = bytes-take 16 (drop 14 b) (bytes-drop 14 b k);
+}
+
+pub pair-sized : (b : List ℕ) → Bytes b → 16 ≤ length b → PairSized (pairOf b)
+unfolding pairOf
+pair-sized b k h = record { number = dec-part-lt b 0 8 k (omega arith); time = dec-part-lt b 8 8 k (omega arith) }

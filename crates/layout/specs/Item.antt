@@ -1,0 +1,69 @@
+-- Tag, length, content: log records and master fields.
+use Prim.Native.Nat.{ℕ, _+_}
+use mathlib.Core.Bool.{Bool, true, false, cond}
+use mathlib.Core.List.{List, [], _∷_, _++_}
+use lib.ListN.{length, getD, drop}
+use lib.Dec.{eqb, leb, ltb}
+use Rattle.layout.specs.Field.{enc, dec}
+use Rattle.layout.specs.Part.{part}
+use Rattle.layout.specs.declared.item.VersionHead.{VersionHead}
+use Rattle.layout.specs.declared.item.Pair.{Pair}
+use Rattle.layout.specs.declared.item.Area.{Area}
+use Rattle.layout.specs.declared.item.Area.the-variants.{Journal, Master}
+use Rattle.layout.specs.declared.item.Item.{Item}
+use Rattle.layout.specs.declared.item.Item.the-variants.{End, Version, Commit, Number, Damaged}
+
+-- 01: "one-byte tag, two-byte length and content"
+unfoldable pub itemBytes : ℕ → List ℕ → List ℕ
+itemBytes tag content = tag ∷ (enc 2 (length content) ++ content)
+
+-- 01: "version, body 30 bytes: slot (2), record number (1), kind (1), earlier slot (2), transaction number (8), value (16)"
+unfoldable pub headOf : List ℕ → VersionHead
+headOf b = record {
+  slot = dec (part b 0 2);
+  key = getD b 2 0;
+  kind = getD b 3 0;
+  earlier = dec (part b 4 2);
+  number = record { 0 = dec (part b 6 8) };
+}
+
+unfoldable pub valueOf : List ℕ → List ℕ
+valueOf b = part b 14 16
+
+-- 01: "commit, body 16: number, time"
+unfoldable pub pairOf : List ℕ → Pair
+pairOf b = record { number = record { 0 = dec (part b 0 8) }; time = record { 0 = dec (part b 8 8) } }
+
+-- an item of length `want`, if the length read is that and the bytes hold it
+abbrev pub ofLength : ℕ → ℕ → List ℕ → Item → Item
+ofLength want len body item = cond (eqb len want) (cond (leb want (length body)) item Damaged) Damaged
+
+abbrev pub byArea : Area → Item → Item → Item
+byArea Journal j m = j
+byArea Master j m = m
+
+unfoldable pub numberItem : ℕ → ℕ → ℕ → List ℕ → Item
+numberItem tag want len body = ofLength want len body (Number tag (dec (part body 0 want)))
+
+unfoldable pub versionItem : ℕ → List ℕ → Item
+versionItem len body = ofLength 30 len body (Version (headOf body))
+
+unfoldable pub commitItem : ℕ → List ℕ → Item
+commitItem len body = ofLength 16 len body (Commit (pairOf body))
+
+-- 01: log tags 1 version, 2 commit; master tags 1: L, 2 bytes, 2: D, 2 bytes, 3, 4 and 5: 8 bytes; any other is damage
+unfoldable pub byTag : Area → ℕ → ℕ → List ℕ → Item
+byTag a tag len body =
+    cond (eqb tag 1) (byArea a (versionItem len body) (numberItem 1 2 len body))
+    (cond (eqb tag 2) (byArea a (commitItem len body) (numberItem 2 2 len body))
+    (cond (eqb tag 3) (byArea a Damaged (numberItem 3 8 len body))
+    (cond (eqb tag 4) (byArea a Damaged (numberItem 4 8 len body))
+    (cond (eqb tag 5) (byArea a Damaged (numberItem 5 8 len body))
+    Damaged))))
+
+-- the first item of the bytes
+unfoldable pub itemOf : Area → List ℕ → Item
+itemOf a bs =
+    cond (eqb (length bs) 0) End
+    (cond (ltb (length bs) 3) Damaged
+    (byTag a (getD bs 0 0) (dec (part bs 1 2)) (drop 3 bs)))

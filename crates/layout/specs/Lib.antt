@@ -1,0 +1,12 @@
+pub mod Field
+pub mod Part
+pub mod Iter
+pub mod Equal
+pub mod Cells
+pub mod Block
+pub mod Slot
+pub mod Page
+pub mod Item
+pub mod Journal
+pub mod Table
+pub mod Master

@@ -1,0 +1,101 @@
+// A log block: sequence, used bytes, records, zeros.
+use crate::item::Pair;
+use crate::item::VersionHead;
+ghost use mathlib.Core.Path.{_≡_};
+ghost use Prim.Native.Nat.{_+_, _≤_, _<_, _*_};
+ghost use lib.ListN.{length};
+ghost use Rattle.layout.specs.Journal.{version, commit, versionBody, commitBody, sequenceOf, usedOf, emptyBlock, addRecord, usedForm};
+ghost use Rattle.layout.specs.Part.{splice};
+
+// The sequence of a block.
+pub fn sequence(block: &[u8]) -> u64
+    requires { ⌜ length (now block) ≡ 512 ⌝ }
+    ensures { λ r. ⌜ r ≡ sequenceOf (now (block .entry)) ⌝ }
+{
+    crate::field::get8(block, 0)
+}
+
+// The used bytes of a block, counted from its start.
+pub fn used(block: &[u8]) -> u64
+    requires { ⌜ length (now block) ≡ 512 ⌝ }
+    ensures { λ r. ⌜ r ≡ usedOf (now (block .entry)) ⌝ }
+{
+    crate::field::get2(block, 8)
+}
+
+// Makes the block an empty one of the sequence.
+pub fn begin(block: &mut [u8], sequence: u64)
+    requires { ⌜ length (now block) ≡ 512 ⌝ }
+    ensures { λ _. ⌜ now (block .exit) ≡ emptyBlock sequence ⌝ }
+{
+    crate::block::clear(block);
+    crate::field::put8(block, 0, sequence);
+    crate::field::put2(block, 8, 10);
+}
+
+// Writes the body of a version record.
+fn write_version(body: &mut [u8], head: VersionHead, value: &[u8])
+    requires { ⌜ length (now body) ≡ 30 ⌝ }
+    requires { ⌜ length (now value) ≡ 16 ⌝ }
+    ensures { λ _. ⌜ now (body .exit) ≡ versionBody head (now (value .entry)) ⌝ }
+{
+    crate::field::put2(body, 0, head.slot);
+    body[2] = head.key;
+    body[3] = head.kind;
+    crate::field::put2(body, 4, head.earlier);
+    crate::field::put8(body, 6, head.number.0);
+    crate::block::copy(&mut body[14..30], value);
+}
+
+// Writes the body of a commit record.
+fn write_commit(body: &mut [u8], pair: Pair)
+    requires { ⌜ length (now body) ≡ 16 ⌝ }
+    ensures { λ _. ⌜ now (body .exit) ≡ commitBody pair ⌝ }
+{
+    crate::field::put8(body, 0, pair.number.0);
+    crate::field::put8(body, 8, pair.time.0);
+}
+
+// Puts a version record behind the used bytes.
+pub fn add_version(block: &mut [u8], head: VersionHead, value: &[u8])
+    requires { ⌜ length (now block) ≡ 512 ⌝ }
+    requires { ⌜ (10 ≤ usedOf (now block)) × (usedOf (now block) + 33 ≤ 512) ⌝ }
+    requires { ⌜ length (now value) ≡ 16 ⌝ }
+    ensures { λ _. ⌜ now (block .exit) ≡ addRecord (now (block .entry)) (version head (now (value .entry))) ⌝ }
+{
+    let at = used(block) as usize;
+    block[at] = 1;
+    crate::field::put2(block, at + 1, 30);
+    let a = at + 3;
+    write_version(&mut block[a..a + 30], head, value);
+    crate::field::put2(block, 8, (at + 33) as u64);
+}
+
+// Puts a commit record behind the used bytes.
+pub fn add_commit(block: &mut [u8], pair: Pair)
+    requires { ⌜ length (now block) ≡ 512 ⌝ }
+    requires { ⌜ (10 ≤ usedOf (now block)) × (usedOf (now block) + 19 ≤ 512) ⌝ }
+    ensures { λ _. ⌜ now (block .exit) ≡ addRecord (now (block .entry)) (commit pair) ⌝ }
+{
+    let at = used(block) as usize;
+    block[at] = 2;
+    crate::field::put2(block, at + 1, 16);
+    let a = at + 3;
+    write_commit(&mut block[a..a + 16], pair);
+    crate::field::put2(block, 8, (at + 19) as u64);
+}
+
+// Are the used bytes in range, and zeros behind them?
+pub fn in_form(block: &[u8]) -> bool
+    requires { ⌜ length (now block) ≡ 512 ⌝ }
+    ensures { λ r. ⌜ r ≡ usedForm (now (block .entry)) ⌝ }
+{
+    let n = used(block) as usize;
+    if n < 10 {
+        return false;
+    }
+    if 512 < n {
+        return false;
+    }
+    crate::block::all_zero(&block[n..])
+}

@@ -1,0 +1,76 @@
+-- What happens in a run, and what is seen of it.
+use Prim.Native.Nat.{ℕ, _^_}
+use mathlib.Core.Bool.{Bool, true, false, _&&_}
+use mathlib.Core.Option.{Option}
+use mathlib.Core.List.{List, [], _∷_}
+use lib.ListN.{length}
+use lib.Dec.{eqb, ltb}
+
+-- a call on an open store, with its arguments. A key is 01's record number.
+pub data Call : Type 0 where
+  begin : ℕ → Call  -- clock
+  write : ℕ → ℕ → List ℕ → Call  -- number, key, value
+  erase : ℕ → ℕ → Call  -- number, key
+  current-read : ℕ → ℕ → Call  -- number, key
+  commit : ℕ → ℕ → Call  -- number, clock
+  abort : ℕ → Call  -- number
+  as-of : ℕ → ℕ → Call  -- key, time
+  changes : ℕ → ℕ → ℕ → List ℕ → Call  -- key, first and last time, answer buffer
+  store-log : Call
+  store-page : ℕ → Call
+  checkpoint : Call
+
+-- 01: "calls and cuts"; an opening brings any cache
+pub data Event : Type 0 where
+  opening : List ℕ → Event
+  cut : Event
+  call : Call → Event
+
+-- what a read gives: 01's "none or erased are results"
+pub data Strip : Type 0 where
+  missing : Strip
+  erased : Strip
+  present : List ℕ → Strip
+
+-- a used slot that an opening finds: key, kind, value, and its commit time or none
+pub record Sight : Type 0 where
+  pub key : ℕ
+  pub kind : ℕ
+  pub value : List ℕ
+  pub time : Option ℕ
+
+-- 01: "the answers, and whether a write, erase or commit changed a log block on the medium"; a read's strip, a list's
+-- answer buffer, and what an opening finds
+pub record Observation : Type 0 where
+  pub refusal : ℕ  -- 0: not refused
+  pub result : ℕ
+  pub strip : Strip
+  pub changed : Bool
+  pub buffer : List ℕ
+  pub found : List Sight
+
+-- the numbers and bytes that a call can be given: numbers below 2^64, keys and bytes below 256, values of 16 bytes
+unfoldable pub areBytes : List ℕ → Bool
+areBytes [] = true
+areBytes (b ∷ bs) = ltb b 256 && areBytes bs
+
+abbrev pub isWord : ℕ → Bool
+isWord n = ltb n (2 ^ 64)
+
+unfoldable pub callTyped : Call → Bool
+callTyped (begin k) = isWord k
+callTyped (write n key v) = isWord n && (ltb key 256 && (eqb (length v) 16 && areBytes v))
+callTyped (erase n key) = isWord n && ltb key 256
+callTyped (current-read n key) = isWord n && ltb key 256
+callTyped (commit n k) = isWord n && isWord k
+callTyped (abort n) = isWord n
+callTyped (as-of key t) = ltb key 256 && isWord t
+callTyped (changes key t1 t2 b) = ltb key 256 && (isWord t1 && (isWord t2 && areBytes b))
+callTyped store-log = true
+callTyped (store-page p) = isWord p
+callTyped checkpoint = true
+
+unfoldable pub typed : Event → Bool
+typed (opening c) = areBytes c
+typed cut = true
+typed (call k) = callTyped k

@@ -1,0 +1,4 @@
+pub mod Event
+pub mod Book
+pub mod Machine
+pub mod Demand

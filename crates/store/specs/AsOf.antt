@@ -1,0 +1,33 @@
+-- Read as of a time.
+use Prim.Native.Nat.{ℕ}
+use mathlib.Core.Bool.{Bool}
+use mathlib.Core.Option.{Option, none, some}
+use mathlib.Core.List.{List, [], _∷_}
+use lib.ListN.{length}
+use lib.Dec.{leb}
+use Rattle.layout.specs.Block.{zeros}
+use Rattle.store.specs.declared.Refusal.{Refusal}
+use Rattle.store.specs.declared.Refusal.the-variants.{Unfit, NotYet}
+use Rattle.store.specs.declared.Answer.the-variants.{Missing}
+use Rattle.store.specs.declared.Best.{Best}
+use Rattle.store.specs.declared.Best.the-variants.{Version, Neither}
+use Rattle.store.specs.declared.State.{State}
+use Rattle.store.specs.Answer.{Outcome, refuses, ask}
+use Rattle.store.specs.State.{fits}
+use Rattle.store.specs.Chain.{newest, cellAt, bestOf}
+use Rattle.store.specs.CurrentRead.{reads, readCell}
+
+-- 01: "state and buffers fit? 16", "t not above the last commit time? 10"
+abbrev pub asOfAsks : State → List ℕ → List ℕ → ℕ → List (Bool × Refusal)
+asOfAsks s m c t = (fits s (length m) (length c), Unfit) ∷ (leb t (s .last .0), NotYet) ∷ []
+
+abbrev pub asOfAt : Best → State → List ℕ → List ℕ → Outcome
+asOfAt Neither s m c = reads Missing (zeros 16) s m c
+asOfAt (Version n t) s m c = readCell (cellAt c n) s m c
+
+unfoldable pub asOfIf : Option Refusal → State → List ℕ → List ℕ → ℕ → ℕ → Outcome
+asOfIf (some r) s m c key t = refuses r s m c
+asOfIf none s m c key t = asOfAt (bestOf (newest c key (s .slots)) c (s .places) t) s m c
+
+unfoldable pub asOfOf : State → List ℕ → List ℕ → ℕ → ℕ → Outcome
+asOfOf s m c key t = asOfIf (ask (asOfAsks s m c t)) s m c key t

@@ -1,0 +1,108 @@
+-- A record's versions in the cache: the newest, their times, and what is found by following earlier slots. A key is
+-- 01's record number.
+use Prim.Native.Nat.{ℕ, zero, suc, _+_, _-_}
+use mathlib.Core.Bool.{Bool, true, false, cond, not, _&&_, _||_}
+use mathlib.Core.List.{List}
+use lib.Dec.{eqb, leb, ltb}
+use Rattle.layout.specs.Page.{cacheSlot}
+use Rattle.layout.specs.Slot.{Cell, cellOf}
+use Rattle.layout.specs.declared.CommitTime.{CommitTime}
+use Rattle.layout.specs.declared.slot.Slot.{Slot}
+use Rattle.layout.specs.declared.slot.Slot.the-variants.{Empty, Waiting, Stamped}
+use Rattle.store.specs.declared.Place.{Place}
+use Rattle.store.specs.declared.Found.{Found}
+use Rattle.store.specs.declared.Found.the-variants.{At, Nothing}
+use Rattle.store.specs.declared.Timing.{Timing}
+use Rattle.store.specs.declared.Timing.the-variants.{Timed, Untimed}
+use Rattle.store.specs.declared.Best.{Best}
+use Rattle.store.specs.declared.Best.the-variants.{Version, Neither}
+use Rattle.store.specs.Places.{isAt, findActive, timeUnder}
+
+-- what slot n of the cache holds
+unfoldable pub cellAt : List ℕ → ℕ → Cell
+cellAt c n = cellOf (cacheSlot c n)
+
+-- an empty slot is no version
+abbrev pub isVersion : Slot → Bool
+isVersion Empty = false
+isVersion (Waiting n) = true
+isVersion (Stamped t) = true
+
+unfoldable pub versionOf : List ℕ → ℕ → ℕ → Bool
+versionOf c key n = isVersion (cellAt c n .state) && eqb (cellAt c n .key) key
+
+-- the record's newest version: the highest slot below n that holds one
+unfoldable pub newest : List ℕ → ℕ → ℕ → Found
+newest c key zero = Nothing
+newest c key (suc n) = cond (versionOf c key n) (At n) (newest c key n)
+
+-- 01: "A version's time is its stamp or its pair's time"
+unfoldable pub versionTime : List Place → Slot → Timing
+versionTime ps Empty = Untimed
+versionTime ps (Waiting n) = timeUnder ps (n .0)
+versionTime ps (Stamped t) = Timed t
+
+-- 01: "The record is held while its newest version waits under another active number"
+abbrev pub heldAs : Slot → List Place → ℕ → Bool
+heldAs Empty ps n = false
+heldAs (Waiting m) ps n = not (eqb (m .0) n) && isAt (findActive ps (m .0))
+heldAs (Stamped t) ps n = false
+
+abbrev pub heldAt : Found → List ℕ → List Place → ℕ → Bool
+heldAt (At s) c ps n = heldAs (cellAt c s .state) ps n
+heldAt Nothing c ps n = false
+
+unfoldable pub held : List ℕ → List Place → ℕ → ℕ → ℕ → Bool
+held c ps slots key n = heldAt (newest c key slots) c ps n
+
+-- 01: "following earlier slots, each step on the lower slot alone": what is found from the earlier slot, if it is lower
+abbrev pub downTo : {A : Type 0} → ℕ → ℕ → A → (ℕ → A) → A
+downTo earlier s stop go = cond (ltb earlier s) (go earlier) stop
+
+abbrev pub isTimed : Timing → Bool
+isTimed (Timed t) = true
+isTimed Untimed = false
+
+-- 01: "A current read gives the record's newest version that is committed or its own"
+abbrev pub visible : Slot → List Place → ℕ → Bool
+visible Empty ps n = false
+visible (Waiting m) ps n = eqb (m .0) n || isTimed (timeUnder ps (m .0))
+visible (Stamped t) ps n = true
+
+abbrev pub unlessEmpty : {A : Type 0} → Slot → A → A → A
+unlessEmpty Empty stop go = stop
+unlessEmpty (Waiting n) stop go = go
+unlessEmpty (Stamped t) stop go = go
+
+-- k bounds the steps
+unfoldable pub visibleFrom : List ℕ → List Place → ℕ → ℕ → ℕ → Found
+visibleFrom c ps n zero s = Nothing
+visibleFrom c ps n (suc k) s =
+    unlessEmpty (cellAt c s .state) Nothing
+    (cond (visible (cellAt c s .state) ps n) (At s)
+    (downTo (cellAt c s .earlier) s Nothing (visibleFrom c ps n k)))
+
+abbrev pub visibleOf : Found → List ℕ → List Place → ℕ → Found
+visibleOf (At s) c ps n = visibleFrom c ps n (suc s) s
+visibleOf Nothing c ps n = Nothing
+
+-- 01: "As of t: the committed version with greatest time not above t, the later slot among equals": slot s against the
+-- best of the lower ones
+abbrev pub laterOf : ℕ → CommitTime → Best → Best
+laterOf s t Neither = Version s t
+laterOf s t (Version r u) = cond (leb (u .0) (t .0)) (Version s t) (Version r u)
+
+abbrev pub betterOf : Timing → ℕ → ℕ → Best → Best
+betterOf Untimed s t rest = rest
+betterOf (Timed u) s t rest = cond (leb (u .0) t) (laterOf s u rest) rest
+
+unfoldable pub bestFrom : List ℕ → List Place → ℕ → ℕ → ℕ → Best
+bestFrom c ps t zero s = Neither
+bestFrom c ps t (suc k) s =
+    unlessEmpty (cellAt c s .state) Neither
+    (betterOf (versionTime ps (cellAt c s .state)) s t
+    (downTo (cellAt c s .earlier) s Neither (bestFrom c ps t k)))
+
+unfoldable pub bestOf : Found → List ℕ → List Place → ℕ → Best
+bestOf (At s) c ps t = bestFrom c ps t (suc s) s
+bestOf Nothing c ps t = Neither

@@ -1,0 +1,97 @@
+-- Store page.
+use Prim.Native.Nat.{ℕ, zero, suc, _+_}
+use mathlib.Core.Bool.{Bool, not}
+use mathlib.Core.Option.{Option, none, some}
+use mathlib.Core.List.{List, [], _∷_}
+use lib.ListN.{length, set}
+use lib.Dec.{leb, ltb}
+use Rattle.layout.specs.Equal.{eqList}
+use Rattle.layout.specs.Block.{blk, put, pageBlockAt}
+use Rattle.layout.specs.Slot.{slotState}
+use Rattle.layout.specs.Page.{pageSlot, pageEnd, stampCell}
+use Rattle.layout.specs.declared.slot.Slot.{Slot}
+use Rattle.layout.specs.declared.slot.Slot.the-variants.{Empty, Waiting, Stamped}
+use Rattle.store.specs.declared.Place.{Place}
+use Rattle.store.specs.declared.Refusal.{Refusal}
+use Rattle.store.specs.declared.Refusal.the-variants.{Unfit, NoPage, NotLogged, Unchanged}
+use Rattle.store.specs.declared.Answer.the-variants.{Done}
+use Rattle.store.specs.declared.Found.{Found}
+use Rattle.store.specs.declared.Found.the-variants.{At, Nothing}
+use Rattle.store.specs.declared.Timing.{Timing}
+use Rattle.store.specs.declared.Timing.the-variants.{Timed, Untimed}
+use Rattle.store.specs.declared.State.{State}
+use Rattle.store.specs.Answer.{Outcome, leaves, refuses, ask}
+use Rattle.store.specs.Places.{placeAt, findCommitted, storedUnder, lowered}
+use Rattle.store.specs.State.{fits}
+
+-- the time with which a slot is stamped, if it waits and its commit record is stored
+unfoldable pub stampTime : State → Slot → Timing
+stampTime s Empty = Untimed
+stampTime s (Waiting n) = storedUnder (s .places) (s .end .0) (n .0)
+stampTime s (Stamped t) = Untimed
+
+-- 01: "Storing a page first stamps its waiting versions whose commit record is **stored**": the k slots from slot i on
+abbrev pub stampWith : Timing → List ℕ → ℕ → List ℕ
+stampWith (Timed t) page i = stampCell page i (t .0)
+stampWith Untimed page i = page
+
+unfoldable pub stampFrom : State → List ℕ → ℕ → ℕ → List ℕ
+stampFrom s page i zero = page
+stampFrom s page i (suc k) = stampFrom s (stampWith (stampTime s (slotState (pageSlot page i))) page i) (i + 1) k
+
+unfoldable pub stampedPage : State → List ℕ → List ℕ
+stampedPage s page = stampFrom s page 0 15
+
+-- each version stamped counts its transaction's place down
+abbrev pub lowerAt : Found → List Place → List Place
+lowerAt (At i) ps = set ps i (lowered (placeAt ps i))
+lowerAt Nothing ps = ps
+
+abbrev pub settleWith : Timing → State → Slot → List Place → List Place
+settleWith Untimed s slot ps = ps
+settleWith (Timed t) s Empty ps = ps
+settleWith (Timed t) s (Waiting n) ps = lowerAt (findCommitted (s .places) (n .0)) ps
+settleWith (Timed t) s (Stamped u) ps = ps
+
+unfoldable pub settleFrom : State → List ℕ → List Place → ℕ → ℕ → List Place
+settleFrom s page ps i zero = ps
+settleFrom s page ps i (suc k) =
+    let slot = slotState (pageSlot page i) in
+    settleFrom s page (settleWith (stampTime s slot) s slot ps) (i + 1) k
+
+unfoldable pub settled : State → List ℕ → List Place
+settled s page = settleFrom s page (s .places) 0 15
+
+-- 01: "state and buffers fit? 16", "page below D? 11. Its end place stored? 12", "would a byte on the medium change? 13"
+abbrev pub storePageAsks : State → List ℕ → List ℕ → ℕ → List (Bool × Refusal)
+storePageAsks s m c p =
+    (fits s (length m) (length c), Unfit)
+    ∷ (ltb p (s .pages), NoPage)
+    ∷ (leb (pageEnd (blk c p)) (s .end .0), NotLogged)
+    ∷ (not (eqList (blk m (pageBlockAt (s .blocks) p)) (stampedPage s (blk c p))), Unchanged)
+    ∷ []
+
+unfoldable pub pageStored : State → ℕ → List ℕ → State
+pageStored s p page = record {
+  blocks = s .blocks;
+  pages = s .pages;
+  slots = s .slots;
+  next = s .next;
+  last = s .last;
+  saved = s .saved;
+  end = s .end;
+  tail = s .tail;
+  places = settled s page;
+  ring = s .ring;
+  first = set (s .first) p 0;
+  phase = s .phase;
+}
+
+unfoldable pub storePageIf : Option Refusal → State → List ℕ → List ℕ → ℕ → Outcome
+storePageIf (some r) s m c p = refuses r s m c
+storePageIf none s m c p =
+    let page = stampedPage s (blk c p) in
+    leaves Done (pageStored s p (blk c p)) (put m (pageBlockAt (s .blocks) p) page) (put c p page)
+
+unfoldable pub storePageOf : State → List ℕ → List ℕ → ℕ → Outcome
+storePageOf s m c p = storePageIf (ask (storePageAsks s m c p)) s m c p

@@ -1,0 +1,98 @@
+-- Write and erase.
+use Prim.Native.Nat.{ℕ, _+_, _*_}
+use mathlib.Core.Bool.{Bool, cond, not}
+use mathlib.Core.Option.{Option, none, some}
+use mathlib.Core.List.{List, [], _∷_}
+use lib.ListN.{length, getD, set}
+use lib.Dec.{eqb, ltb}
+use Rattle.layout.specs.Block.{zeros, pageOf}
+use Rattle.layout.specs.Slot.{Cell}
+use Rattle.layout.specs.Page.{putVersion}
+use Rattle.layout.specs.Journal.{Record, version, sequenceOf}
+use Rattle.layout.specs.declared.slot.Slot.the-variants.{Waiting}
+use Rattle.layout.specs.declared.item.VersionHead.{VersionHead}
+use Rattle.store.specs.declared.Refusal.{Refusal}
+use Rattle.store.specs.declared.Refusal.the-variants.{Unfit, NotActive, Held, NoSlot, LogFull}
+use Rattle.store.specs.declared.Answer.the-variants.{Written}
+use Rattle.store.specs.declared.Found.{Found}
+use Rattle.store.specs.declared.Found.the-variants.{At, Nothing}
+use Rattle.store.specs.declared.State.{State}
+use Rattle.store.specs.Answer.{Outcome, leaves, refuses, ask}
+use Rattle.store.specs.Places.{isAt, findActive, placeAt, raised}
+use Rattle.store.specs.State.{fits}
+use Rattle.store.specs.Tail.{mayLog, logged, Logged, tailEnd}
+use Rattle.store.specs.Chain.{newest, held}
+
+-- 01: "state and buffers fit? 16", "number active? 5", "not held by another? 6", "next slot below 15 × D? 7", "may the
+-- log take it? 8" (a version record takes 33 bytes)
+abbrev pub writeAsks : State → List ℕ → List ℕ → ℕ → ℕ → List (Bool × Refusal)
+writeAsks s m c n key =
+    (fits s (length m) (length c), Unfit)
+    ∷ (isAt (findActive (s .places) n), NotActive)
+    ∷ (not (held c (s .places) (s .slots) key n), Held)
+    ∷ (ltb (s .slots) (15 * s .pages), NoSlot)
+    ∷ (mayLog s m 33, LogFull)
+    ∷ []
+
+-- 01: "earlier slot of that record (65535: none)"
+abbrev pub orNone : Found → ℕ
+orNone (At s) = s
+orNone Nothing = 65535
+
+-- 01: "A write or erase takes the next slot and a version record"
+unfoldable pub newHead : State → List ℕ → ℕ → ℕ → ℕ → VersionHead
+newHead s c n key kind = record {
+  slot = s .slots;
+  key = key;
+  kind = kind;
+  earlier = orNone (newest c key (s .slots));
+  number = record { 0 = n };
+}
+
+unfoldable pub cellFor : VersionHead → List ℕ → Cell
+cellFor h value = record { state = Waiting (h .number); key = h .key; kind = h .kind; earlier = h .earlier; value = value }
+
+-- the first block that changed page p since it was stored: it stays where there is one
+unfoldable pub touched : List ℕ → ℕ → ℕ → List ℕ
+touched first p seq = set first p (cond (eqb (getD first p 0) 0) seq (getD first p 0))
+
+unfoldable pub written : State → ℕ → Logged → State
+written s i g = record {
+  blocks = s .blocks;
+  pages = s .pages;
+  slots = s .slots + 1;
+  next = s .next;
+  last = s .last;
+  saved = g .saved;
+  end = g .end;
+  tail = g .tail;
+  places = set (s .places) i (raised (placeAt (s .places) i));
+  ring = s .ring;
+  first = touched (s .first) (pageOf (s .slots)) (sequenceOf (g .tail));
+  phase = s .phase;
+}
+
+unfoldable pub writeStep : State → List ℕ → List ℕ → ℕ → VersionHead → List ℕ → Outcome
+writeStep s m c i h value =
+    let g = logged s m (version h value) in
+    leaves (Written (s .slots)) (written s i g) (g .medium)
+    (putVersion c (s .slots) (tailEnd (g .tail) .0) (cellFor h value))
+
+abbrev pub writeAt : Found → State → List ℕ → List ℕ → VersionHead → List ℕ → Outcome
+writeAt Nothing s m c h value = refuses NotActive s m c
+writeAt (At i) s m c h value = writeStep s m c i h value
+
+unfoldable pub writeIf : Option Refusal → State → List ℕ → List ℕ → ℕ → ℕ → ℕ → List ℕ → Outcome
+writeIf (some r) s m c n key kind value = refuses r s m c
+writeIf none s m c n key kind value = writeAt (findActive (s .places) n) s m c (newHead s c n key kind) value
+
+-- a version of either kind
+unfoldable pub addOf : State → List ℕ → List ℕ → ℕ → ℕ → ℕ → List ℕ → Outcome
+addOf s m c n key kind value = writeIf (ask (writeAsks s m c n key)) s m c n key kind value
+
+-- 01: "kind (0 present, 1 erased)", "an erased value are zeros"
+unfoldable pub writeOf : State → List ℕ → List ℕ → ℕ → ℕ → List ℕ → Outcome
+writeOf s m c n key value = addOf s m c n key 0 value
+
+unfoldable pub eraseOf : State → List ℕ → List ℕ → ℕ → ℕ → Outcome
+eraseOf s m c n key = addOf s m c n key 1 (zeros 16)

@@ -1,0 +1,251 @@
+//! One medium and what stands on it: executes a script's lines one by one.
+
+use crate::chain::{self, Strip};
+use crate::checkpoint::checkpoint;
+use crate::format::format;
+use crate::journal::store_log;
+use crate::layout::*;
+use crate::open::open;
+use crate::pages::store_page;
+use crate::rules::Rules;
+use crate::state::*;
+use crate::transactions::{abort, begin, commit, erase, write};
+use std::marker::PhantomData;
+
+/// The longest cache or answer buffer that a line may ask for.
+pub const MAX_BUFFER: u64 = 40000;
+/// What an answer buffer holds before the call.
+pub const UNTOUCHED: u8 = 170;
+
+/// One line of the script language.
+#[derive(Clone, Copy, PartialEq, Eq, Debug)]
+pub enum Line {
+    Format {
+        log_blocks: u64,
+        pages: u64,
+    },
+    Open {
+        fill: u8,
+    },
+    OpenSized {
+        bytes: u64,
+    },
+    Cut,
+    Begin {
+        clock: u64,
+    },
+    Write {
+        number: u64,
+        record: u8,
+        value: Value,
+    },
+    Erase {
+        number: u64,
+        record: u8,
+    },
+    Read {
+        number: u64,
+        record: u8,
+    },
+    Commit {
+        number: u64,
+        clock: u64,
+    },
+    Abort {
+        number: u64,
+    },
+    AsOf {
+        record: u8,
+        time: u64,
+    },
+    Changes {
+        record: u8,
+        from: u64,
+        to: u64,
+        bytes: u64,
+    },
+    StoreLog,
+    StorePage {
+        page: u64,
+    },
+    Checkpoint,
+    ShowBlock {
+        block: u64,
+    },
+    ShowPage {
+        page: u64,
+    },
+    Poke {
+        offset: u64,
+        byte: u8,
+    },
+}
+
+#[derive(Clone, Copy, PartialEq, Eq, Debug)]
+pub enum Reply {
+    /// The line has no place here: the run ends before it.
+    Ended,
+    Refused(Refusal),
+    Answer(u64),
+    Strip(Strip),
+    /// The list's lines are in the machine's answer buffer.
+    Listed {
+        lines: usize,
+        kept: bool,
+    },
+    ShownBlock(Option<usize>),
+    ShownPage(Option<usize>),
+}
+
+pub struct Machine<R: Rules> {
+    pub log_blocks: u64,
+    pub pages: u64,
+    /// Empty as long as no formatting was accepted.
+    pub medium: Vec<u8>,
+    pub state: Option<State>,
+    pub cache: Vec<u8>,
+    /// The cache of an opening under way; a refused one leaves the other alone.
+    pub opening: Vec<u8>,
+    pub answer: Vec<u8>,
+    rules: PhantomData<R>,
+}
+
+impl<R: Rules> Default for Machine<R> {
+    fn default() -> Self {
+        Machine {
+            log_blocks: 0,
+            pages: 0,
+            medium: Vec::new(),
+            state: None,
+            cache: Vec::new(),
+            opening: Vec::new(),
+            answer: Vec::new(),
+            rules: PhantomData,
+        }
+    }
+}
+
+impl<R: Rules> Machine<R> {
+    pub fn call(&mut self, line: &Line) -> Reply {
+        match *line {
+            Line::Format { log_blocks, pages } => self.format(log_blocks, pages),
+            _ if self.medium.is_empty() => Reply::Ended,
+            Line::Open { fill } => self.open(BLOCK * self.pages as usize, fill),
+            Line::OpenSized { bytes } => self.open(bytes as usize, 0),
+            Line::Cut => {
+                self.state = None;
+                Reply::Answer(0)
+            }
+            Line::ShowBlock { block } => {
+                let blocks = self.medium.len() / BLOCK;
+                Reply::ShownBlock((block < blocks as u64).then_some(block as usize))
+            }
+            Line::ShowPage { page } => {
+                let shown = self.state.is_some() && page < self.pages;
+                Reply::ShownPage(shown.then_some(page as usize))
+            }
+            Line::Poke { offset, byte } => {
+                if offset < self.medium.len() as u64 {
+                    self.medium[offset as usize] = byte;
+                }
+                Reply::Answer(0)
+            }
+            _ => self.call_open(line),
+        }
+    }
+
+    fn format(&mut self, log_blocks: u64, pages: u64) -> Reply {
+        self.state = None;
+        self.medium.clear();
+        if sizes_in_range(log_blocks, pages) {
+            let bytes = medium_bytes(log_blocks as usize, pages as usize);
+            self.medium.resize(bytes, 0);
+        }
+        match format(&mut self.medium, log_blocks, pages) {
+            Ok(()) => {
+                (self.log_blocks, self.pages) = (log_blocks, pages);
+                Reply::Answer(0)
+            }
+            Err(refusal) => Reply::Refused(refusal),
+        }
+    }
+
+    fn open(&mut self, cache_bytes: usize, fill: u8) -> Reply {
+        self.opening.clear();
+        self.opening.resize(cache_bytes, fill);
+        let (log_blocks, pages) = (self.log_blocks, self.pages);
+        match open::<R>(&self.medium, &mut self.opening, log_blocks, pages) {
+            Ok(state) => {
+                let last_time = state.last_time;
+                self.state = Some(state);
+                std::mem::swap(&mut self.cache, &mut self.opening);
+                Reply::Answer(last_time)
+            }
+            Err(fault) => Reply::Refused(fault.refusal()),
+        }
+    }
+
+    /// The calls that need an accepted opening.
+    fn call_open(&mut self, line: &Line) -> Reply {
+        let Some(state) = &mut self.state else {
+            return Reply::Ended;
+        };
+        let (medium, cache) = (&mut self.medium, &mut self.cache);
+        match *line {
+            Line::Begin { clock } => answer(begin(state, medium, cache, clock)),
+            Line::Write {
+                number,
+                record,
+                ref value,
+            } => answer(write(state, medium, cache, (number, record), value).map(|n| n as u64)),
+            Line::Erase { number, record } => {
+                answer(erase(state, medium, cache, (number, record)).map(|n| n as u64))
+            }
+            Line::Read { number, record } => {
+                strip(chain::current_read(state, medium, cache, number, record))
+            }
+            Line::Commit { number, clock } => answer(commit(state, medium, cache, number, clock)),
+            Line::Abort { number } => done(abort(state, medium, cache, number)),
+            Line::AsOf { record, time } => strip(chain::as_of(state, medium, cache, record, time)),
+            Line::StoreLog => done(store_log::<R>(state, medium, cache)),
+            Line::StorePage { page } => done(store_page::<R>(state, medium, cache, page)),
+            Line::Checkpoint => done(checkpoint::<R>(state, medium, cache)),
+            Line::Changes {
+                record,
+                from,
+                to,
+                bytes,
+            } => self.list(record, (from, to), bytes as usize),
+            _ => Reply::Ended,
+        }
+    }
+
+    fn list(&mut self, record: u8, range: (u64, u64), bytes: usize) -> Reply {
+        let Some(state) = &self.state else {
+            return Reply::Ended;
+        };
+        self.answer.clear();
+        self.answer.resize(bytes, UNTOUCHED);
+        let (medium, cache) = (&self.medium, &self.cache);
+        match chain::changes(state, medium, cache, record, range, &mut self.answer) {
+            Ok(lines) => {
+                let rest = &self.answer[lines * CHANGE_BYTES..];
+                let kept = rest.iter().all(|&byte| byte == UNTOUCHED);
+                Reply::Listed { lines, kept }
+            }
+            Err(refusal) => Reply::Refused(refusal),
+        }
+    }
+}
+
+fn answer(result: Result<u64, Refusal>) -> Reply {
+    result.map_or_else(Reply::Refused, Reply::Answer)
+}
+
+fn done(result: Result<(), Refusal>) -> Reply {
+    answer(result.map(|()| 0))
+}
+
+fn strip(result: Result<Strip, Refusal>) -> Reply {
+    result.map_or_else(Reply::Refused, Reply::Strip)
+}

@@ -1,0 +1,152 @@
+//! The oracle's commands.
+
+use oracle::damage::{self, Tally};
+use oracle::fuzz::{self, Reached};
+use oracle::judge::Strictness;
+use oracle::profiles::{self, Profile, PROFILES};
+use oracle::rules::Sound;
+use oracle::scripts::{self, Options};
+use oracle::{script, stripbook};
+use std::io::{Read, Write};
+use std::process::ExitCode;
+
+const USAGE: &str = "\
+oracle run                     runs a script from standard input and prints what it answers
+oracle stripbook               the same for the stripbook language
+oracle expect [--stripbook]    the output that a script must print
+oracle script --seed S --calls N [--profile NAME] [--no-checkpoint] [--plain]
+oracle script --stripbook --seed S --calls N [--bad-end]
+oracle fuzz --seeds A-B [--calls N] [--profile NAME]
+oracle damage --seeds A-B
+oracle profiles                lists the profiles, by the seeds that take them";
+
+struct Arguments(Vec<String>);
+
+impl Arguments {
+    fn has(&self, option: &str) -> bool {
+        self.0.iter().any(|word| word == option)
+    }
+
+    fn value(&self, option: &str) -> Option<&str> {
+        let at = self.0.iter().position(|word| word == option)?;
+        self.0.get(at + 1).map(String::as_str)
+    }
+
+    fn number(&self, option: &str, default: Option<u64>) -> Result<u64, String> {
+        match self.value(option) {
+            Some(word) => word.parse().map_err(|_| format!("{option}: {word}?")),
+            None => default.ok_or(format!("{option} is missing")),
+        }
+    }
+
+    fn seeds(&self) -> Result<std::ops::RangeInclusive<u64>, String> {
+        let word = self.value("--seeds").ok_or("--seeds is missing")?;
+        let (first, last) = word.split_once('-').unwrap_or((word, word));
+        match (first.parse(), last.parse()) {
+            (Ok(first), Ok(last)) => Ok(first..=last),
+            _ => Err(format!("--seeds: {word}?")),
+        }
+    }
+
+    fn profile(&self, seed: u64) -> Result<&'static Profile, String> {
+        match self.value("--profile") {
+            // Damage is done to histories of every profile.
+            None | Some("damage") => Ok(profiles::by_seed(seed)),
+            Some(name) => profiles::by_name(name).ok_or(format!("no profile {name}")),
+        }
+    }
+}
+
+fn main() -> ExitCode {
+    let mut words = std::env::args().skip(1);
+    let command = words.next().unwrap_or_default();
+    let arguments = Arguments(words.collect());
+    let done = match command.as_str() {
+        "run" => run(false),
+        "stripbook" => run(true),
+        "expect" => run(arguments.has("--stripbook")),
+        "script" => write_script(&arguments),
+        "fuzz" => run_fuzz(&arguments),
+        "damage" => run_damage(&arguments),
+        "profiles" => list_profiles(),
+        _ => Err(USAGE.into()),
+    };
+    match done {
+        Ok(()) => ExitCode::SUCCESS,
+        Err(text) => {
+            eprintln!("{text}");
+            ExitCode::FAILURE
+        }
+    }
+}
+
+fn print(bytes: &[u8]) -> Result<(), String> {
+    let written = std::io::stdout().write_all(bytes);
+    written.map_err(|error| error.to_string())
+}
+
+fn run(is_stripbook: bool) -> Result<(), String> {
+    let (mut text, mut out) = (Vec::new(), Vec::new());
+    let read = std::io::stdin().read_to_end(&mut text);
+    read.map_err(|error| error.to_string())?;
+    if is_stripbook {
+        stripbook::run(&text, &mut out);
+    } else {
+        script::run(&text, &mut out);
+    }
+    print(&out)
+}
+
+fn write_script(arguments: &Arguments) -> Result<(), String> {
+    let seed = arguments.number("--seed", None)?;
+    let calls = arguments.number("--calls", None)?;
+    if arguments.has("--stripbook") {
+        let bad_end = arguments.has("--bad-end");
+        return print(&scripts::stripbook_script(seed, calls, bad_end));
+    }
+    print(&scripts::script(&Options {
+        seed,
+        calls,
+        profile: arguments.profile(seed)?,
+        checkpoints: !arguments.has("--no-checkpoint"),
+        shows: !arguments.has("--plain"),
+        damage: arguments.value("--profile") == Some("damage"),
+    }))
+}
+
+fn run_fuzz(arguments: &Arguments) -> Result<(), String> {
+    let calls = arguments.number("--calls", Some(1500))?;
+    let mut all = Reached::default();
+    for seed in arguments.seeds()? {
+        let profile = arguments.profile(seed)?;
+        match fuzz::run_seed::<Sound>(seed, profile, calls, Strictness::All) {
+            Ok(reached) => all.add(&reached),
+            Err(found) => return Err(fuzz::report::<Sound>(seed, &found, Strictness::All)),
+        }
+    }
+    println!("{all:#?}");
+    Ok(())
+}
+
+fn run_damage(arguments: &Arguments) -> Result<(), String> {
+    let mut all = Tally::default();
+    for seed in arguments.seeds()? {
+        all.add(&damage::run_seed(seed)?);
+    }
+    println!("accepted: {}", all.accepted);
+    for (condition, count) in all.refused.iter().enumerate().skip(1) {
+        println!("condition {condition}: {count}");
+    }
+    if all.every_condition_failed() {
+        Ok(())
+    } else {
+        Err("not every condition occurred".into())
+    }
+}
+
+fn list_profiles() -> Result<(), String> {
+    for (seed, profile) in PROFILES.iter().enumerate() {
+        println!("{seed} {}", profile.name);
+    }
+    Ok(())
+}

@@ -1,0 +1,216 @@
+//! The examples of document 01.
+
+use oracle::script;
+
+const VALUE: &str = "0102030405060708090a0b0c0d0e0f10";
+const OTHER: &str = "ffffffffffffffffffffffffffffffff";
+
+/// Runs a script given as lines, each with the answer that it must print.
+fn check(exchange: &[(String, String)]) {
+    let text: String = exchange
+        .iter()
+        .map(|(line, _)| format!("{line}\n"))
+        .collect();
+    let expected: String = exchange
+        .iter()
+        .map(|(_, line)| format!("{line}\n"))
+        .collect();
+    let mut out = Vec::new();
+    script::run(text.as_bytes(), &mut out);
+    assert_eq!(String::from_utf8(out).unwrap(), expected);
+}
+
+fn exchange(log_blocks: u64, pages: u64, lines: &[(&str, &str)]) -> Vec<(String, String)> {
+    let mut all = vec![
+        (format!("F {log_blocks} {pages}"), "F 0 0".to_string()),
+        ("O 7".to_string(), "O 0 0".to_string()),
+    ];
+    all.extend(lines.iter().map(|(line, answer)| {
+        let line = line.replace("VALUE", VALUE).replace("OTHER", OTHER);
+        let answer = answer.replace("VALUE", VALUE).replace("OTHER", OTHER);
+        (line, answer)
+    }));
+    all
+}
+
+fn write(number: u64, record: u64, answer: &str) -> (String, String) {
+    (format!("W {number} {record} {VALUE}"), answer.to_string())
+}
+
+#[test]
+fn fresh_as_of() {
+    check(&exchange(
+        2,
+        1,
+        &[("Q 7 0", "Q 0 none"), ("Q 7 1", "Q 10 -")],
+    ));
+}
+
+#[test]
+fn clocks_that_fall() {
+    check(&exchange(
+        2,
+        1,
+        &[
+            ("B 10", "B 0 1"),
+            ("W 1 7 VALUE", "W 0 0"),
+            ("C 1 5", "C 0 10"),
+            ("B 3", "B 0 2"),
+            ("W 2 7 VALUE", "W 0 1"),
+            ("C 2 3", "C 0 11"),
+        ],
+    ));
+}
+
+#[test]
+fn the_last_time() {
+    check(&exchange(
+        2,
+        1,
+        &[
+            ("B 10", "B 0 1"),
+            ("W 1 7 VALUE", "W 0 0"),
+            ("C 1 18446744073709551615", "C 0 18446744073709551615"),
+            ("B 10", "B 0 2"),
+            ("W 2 7 VALUE", "W 0 1"),
+            ("C 2 3", "C 9 -"),
+            ("R 2 7", "R 0 VALUE"),
+            ("B 1", "B 0 3"),
+            ("C 3 1", "C 0 0"),
+        ],
+    ));
+}
+
+#[test]
+fn two_writes_in_a_transaction() {
+    check(&exchange(
+        2,
+        1,
+        &[
+            ("B 10", "B 0 1"),
+            ("W 1 7 VALUE", "W 0 0"),
+            ("W 1 7 OTHER", "W 0 1"),
+            ("C 1 10", "C 0 10"),
+            ("Q 7 10", "Q 0 OTHER"),
+            ("Q 7 9", "Q 0 none"),
+        ],
+    ));
+}
+
+#[test]
+fn the_sixteenth_write_on_one_page() {
+    let mut lines = exchange(2, 1, &[("B 10", "B 0 1")]);
+    lines.extend((0..15).map(|slot| write(1, slot, &format!("W 0 {slot}"))));
+    lines.push(write(1, 15, "W 7 -"));
+    check(&lines);
+}
+
+#[test]
+fn fifteen_versions_use_505_bytes() {
+    let mut text = String::from("F 2 3\nO 0\nB 10\n");
+    text.extend((0..15).map(|record| format!("W 1 {record} {VALUE}\n")));
+    text.push_str("C 1 10\nM 4\nS\nM 3\n");
+    let mut out = Vec::new();
+    script::run(text.as_bytes(), &mut out);
+    let out = String::from_utf8(out).unwrap();
+    let shown: Vec<&str> = out.lines().filter(|line| line.starts_with('M')).collect();
+    // Sequence 1, 505 bytes used; then sequence 2 with the commit record alone.
+    assert!(shown[0].starts_with("M 0100000000000000f901"));
+    assert!(shown[1].starts_with("M 02000000000000001d00021000"));
+}
+
+#[test]
+fn thirty_versions_fit_two_blocks() {
+    let mut lines = exchange(2, 3, &[("B 10", "B 0 1")]);
+    lines.extend((0..30).map(|slot| write(1, slot, &format!("W 0 {slot}"))));
+    lines.push(write(1, 30, "W 8 -"));
+    check(&lines);
+}
+
+#[test]
+fn erase_of_a_never_written_record() {
+    check(&exchange(
+        2,
+        1,
+        &[
+            ("B 10", "B 0 1"),
+            ("E 1 9", "E 0 0"),
+            ("C 1 1", "C 0 10"),
+            ("Q 9 10", "Q 0 erased"),
+            ("Q 9 9", "Q 0 none"),
+        ],
+    ));
+}
+
+#[test]
+fn a_number_without_trace_is_given_again() {
+    check(&exchange(
+        2,
+        1,
+        &[
+            ("B 10", "B 0 1"),
+            ("X", "X 0 0"),
+            ("O 255", "O 0 0"),
+            ("B 10", "B 0 1"),
+        ],
+    ));
+}
+
+#[test]
+fn sixty_four_live() {
+    let mut lines = exchange(8, 8, &[]);
+    for number in 1..=64 {
+        lines.push(("B 1".into(), format!("B 0 {number}")));
+    }
+    lines.push(("B 1".into(), "B 4 -".into()));
+    // Committed ones with waiting versions are live as well.
+    for number in 1..=64u64 {
+        lines.push(write(number, number, &format!("W 0 {}", number - 1)));
+        lines.push((format!("C {number} 1"), format!("C 0 {number}")));
+    }
+    lines.push(("B 1".into(), "B 4 -".into()));
+    lines.push(("S".into(), "S 0 0".into()));
+    lines.push(("P 0".into(), "P 0 0".into()));
+    lines.push(("B 1".into(), "B 0 65".into()));
+    check(&lines);
+}
+
+#[test]
+fn stripbook_listing() {
+    let mut out = Vec::new();
+    oracle::stripbook::run(b"B 10\nW 1 7 65\nC 1 5\nQ 7 10\nX\nQ 7 10\n", &mut out);
+    assert_eq!(out, b"B 0 1\nW 0 0\nC 0 10\nQ 0 65\nX 0 0\nQ 10 -\n");
+}
+
+#[test]
+fn stripbook_forms() {
+    let run = |text: &str| {
+        let mut out = Vec::new();
+        oracle::stripbook::run(text.as_bytes(), &mut out);
+        String::from_utf8(out).unwrap()
+    };
+    assert_eq!(run(""), "");
+    assert_eq!(run("\nB 1\n"), "");
+    assert_eq!(run("B 007"), "B 0 1\n");
+    assert_eq!(run("B 1\nC 1 1\nX\n"), "B 0 1\nC 0 -\nX 0 0\n");
+    assert_eq!(run("B 1\nQ 256 0\nB 1\n"), "B 0 1\n");
+    assert_eq!(run("B 18446744073709551615\nB  1\n"), "B 0 1\n");
+    assert_eq!(run("B 18446744073709551616\n"), "");
+    assert_eq!(run("X \n"), "");
+    assert_eq!(run("B 1\r\n"), "");
+}
+
+#[test]
+fn list_of_changes() {
+    let lines = "F 4 2\nO 0\nB 5\nW 1 7 VALUE\nC 1 5\nB 6\nW 2 7 VALUE\nC 2 6\nB 7\nE 3 7\nC 3 7\n\
+                 L 7 0 7 64\nL 7 6 7 33\nL 7 0 7 63\nL 7 0 8 64\nL 7 7 0 0\n";
+    let mut out = Vec::new();
+    script::run(lines.replace("VALUE", VALUE).as_bytes(), &mut out);
+    let out = String::from_utf8(out).unwrap();
+    let zeros = "0".repeat(32);
+    let expected = format!(
+        "L 0 2\n5 0 {VALUE}\n7 1 {zeros}\n= kept\nL 0 1\n7 1 {zeros}\n= kept\n\
+         L 14 -\nL 10 -\nL 0 0\n= kept\n"
+    );
+    assert_eq!(&out[out.find('L').unwrap()..], expected);
+}

@@ -1,0 +1,111 @@
+//! A fixed set of seeds: random histories against the book, damaged media, scripts.
+
+use oracle::damage::{self, Tally};
+use oracle::fuzz::{report, run_seed, Reached};
+use oracle::judge::Strictness;
+use oracle::profiles::{by_name, by_seed, PROFILES};
+use oracle::rules::Sound;
+use oracle::scripts::{script, stripbook_script, Options};
+
+#[test]
+fn histories_agree_with_the_book() {
+    let mut all = Reached::default();
+    for seed in 0..280 {
+        match run_seed::<Sound>(seed, by_seed(seed), 1500, Strictness::All) {
+            Ok(reached) => all.add(&reached),
+            Err(found) => panic!("{}", report::<Sound>(seed, &found, Strictness::All)),
+        }
+    }
+    println!("{all:?}");
+    // What a run can be refused for by a history, each at least once.
+    for refusal in [2, 4, 5, 6, 7, 8, 9, 10, 11, 12, 13, 14] {
+        assert!(
+            all.refusals[refusal] > 0,
+            "refusal {refusal} never occurred"
+        );
+    }
+    assert_eq!(all.live_commits, 64);
+    assert!(all.table_pairs > 32);
+    assert!(all.torn > 0 && all.none_matched > 0);
+    assert!(all.places_reused > 0 && all.begun_over_dead > 0);
+}
+
+#[test]
+fn damaged_media_break_every_condition() {
+    let mut all = Tally::default();
+    for seed in 0..60 {
+        all.add(&damage::run_seed(seed).unwrap());
+    }
+    println!("{all:?}");
+    assert!(all.every_condition_failed());
+}
+
+fn options(seed: u64) -> Options {
+    Options {
+        seed,
+        calls: 200,
+        profile: by_seed(seed),
+        checkpoints: true,
+        shows: true,
+        damage: false,
+    }
+}
+
+fn answers(script: &[u8]) -> Vec<u8> {
+    let mut out = Vec::new();
+    oracle::script::run(script, &mut out);
+    out
+}
+
+/// Lines that stand for a call or a show; the lines of a list are no answers of their own.
+fn answered(out: &[u8]) -> usize {
+    let lines = out.split(|&byte| byte == b'\n');
+    lines
+        .filter(|line| line.first().is_some_and(u8::is_ascii_alphabetic))
+        .count()
+}
+
+#[test]
+fn scripts_run_to_their_end() {
+    for seed in 0..2 * PROFILES.len() as u64 {
+        for damage in [false, true] {
+            let text = script(&Options {
+                damage,
+                ..options(seed)
+            });
+            let lines = text.iter().filter(|&&byte| byte == b'\n').count();
+            assert_eq!(answered(&answers(&text)), lines, "seed {seed}");
+        }
+    }
+}
+
+#[test]
+fn scripts_without_checkpoints_have_none() {
+    for seed in 0..PROFILES.len() as u64 {
+        let text = script(&Options {
+            checkpoints: false,
+            ..options(seed)
+        });
+        assert!(!text.split(|&byte| byte == b'\n').any(|line| line == b"K"));
+    }
+}
+
+#[test]
+fn stripbook_scripts_end_at_a_line_of_another_form() {
+    for seed in 0..40 {
+        let whole = stripbook_script(seed, 100, false);
+        let ended = stripbook_script(seed, 100, true);
+        let (mut out, mut same) = (Vec::new(), Vec::new());
+        oracle::stripbook::run(&whole, &mut out);
+        oracle::stripbook::run(&ended, &mut same);
+        assert_eq!(out, same);
+        assert_eq!(out.iter().filter(|&&byte| byte == b'\n').count(), 100);
+    }
+}
+
+#[test]
+fn every_profile_has_its_name() {
+    for profile in &PROFILES {
+        assert!(by_name(profile.name).is_some_and(|found| std::ptr::eq(found, profile)));
+    }
+}

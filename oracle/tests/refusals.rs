@@ -1,0 +1,105 @@
+//! Refusals that no history reaches, and the forms of the script language.
+
+use oracle::layout::*;
+use oracle::machine::{Line, Machine};
+use oracle::rules::Sound;
+use oracle::state::*;
+use oracle::transactions::{abort, begin};
+use oracle::{chain, checkpoint, journal, pages};
+
+fn opened() -> (State, Vec<u8>, Vec<u8>) {
+    let mut machine = Machine::<Sound>::default();
+    machine.call(&Line::Format {
+        log_blocks: 3,
+        pages: 2,
+    });
+    machine.call(&Line::Open { fill: 0 });
+    let state = machine.state.take().unwrap();
+    (state, machine.medium, machine.cache)
+}
+
+#[test]
+fn numbers_run_out() {
+    let (mut state, medium, cache) = opened();
+    state.next_number = u64::MAX - 1;
+    assert_eq!(begin(&mut state, &medium, &cache, 1), Ok(u64::MAX - 1));
+    assert_eq!(begin(&mut state, &medium, &cache, 1), Err(NO_NUMBER_LEFT));
+}
+
+/// Every call asks first whether state and buffers fit, and then changes nothing.
+fn refused_as_misfit(state: &State, medium: &[u8], cache: &[u8]) {
+    let (mut after, mut medium_after, mut cache_after) =
+        (state.clone(), medium.to_vec(), cache.to_vec());
+    let (s, m, c) = (&mut after, &mut medium_after[..], &mut cache_after[..]);
+    let value = [0; 16];
+    assert_eq!(begin(s, m, c, 1), Err(MISFIT));
+    let written = oracle::transactions::write(s, m, c, (1, 1), &value);
+    assert_eq!(written, Err(MISFIT));
+    assert_eq!(oracle::transactions::erase(s, m, c, (1, 1)), Err(MISFIT));
+    assert_eq!(oracle::transactions::commit(s, m, c, 1, 1), Err(MISFIT));
+    assert_eq!(abort(s, m, c, 1), Err(MISFIT));
+    assert_eq!(chain::current_read(s, m, c, 1, 1), Err(MISFIT));
+    assert_eq!(chain::as_of(s, m, c, 1, 1), Err(MISFIT));
+    let listed = chain::changes(s, m, c, 1, (0, 1), &mut []);
+    assert_eq!(listed, Err(MISFIT));
+    assert_eq!(journal::store_log::<Sound>(s, m, c), Err(MISFIT));
+    assert_eq!(pages::store_page::<Sound>(s, m, c, 99), Err(MISFIT));
+    assert_eq!(checkpoint::checkpoint::<Sound>(s, m, c), Err(MISFIT));
+    assert!(after == *state && medium_after == medium && cache_after == cache);
+}
+
+#[test]
+fn misfits() {
+    let (state, medium, cache) = opened();
+    refused_as_misfit(&state, &medium[1..], &cache);
+    refused_as_misfit(&state, &medium, &cache[..BLOCK]);
+    let edits: [fn(&mut State); 9] = [
+        |state| state.log_blocks = 1,
+        |state| state.log_blocks = 33,
+        |state| state.pages = 0,
+        |state| state.pages = 65,
+        |state| state.next_slot = 31,
+        |state| state.tail_used = 9,
+        |state| state.tail_used = 513,
+        |state| state.tail_sequence = 0,
+        |state| state.tail_sequence = 1 << 48,
+    ];
+    for edit in edits {
+        let mut state = state.clone();
+        edit(&mut state);
+        refused_as_misfit(&state, &medium, &cache);
+    }
+}
+
+fn run(text: &str) -> String {
+    let mut out = Vec::new();
+    oracle::script::run(text.as_bytes(), &mut out);
+    String::from_utf8(out).unwrap()
+}
+
+#[test]
+fn script_forms() {
+    assert_eq!(run("B 1\n"), "");
+    assert_eq!(run("M 0\n"), "");
+    assert_eq!(
+        run("F 1 1\nF 2 1\nF 33 1\nM 0\nF 2 1\n"),
+        "F 1 -\nF 0 0\nF 1 -\n"
+    );
+    assert_eq!(run("F 2 1\nB 1\nO 0\n"), "F 0 0\n");
+    assert_eq!(
+        run("F 2 1\no 511\no 512\nB 1"),
+        "F 0 0\no 2 -\no 0 0\nB 0 1\n"
+    );
+    assert_eq!(run("F 2 1\no 40001\n"), "F 0 0\n");
+    assert_eq!(run("F 2 1\nO 256\n"), "F 0 0\n");
+    assert_eq!(run("F 2 1\nV 0\nM 6\n"), "F 0 0\nV -\nM -\n");
+    assert_eq!(run("F 2 1\nZ 99999 ff\nZ 0 FF\nO 0\n"), "F 0 0\nZ 0 0\n");
+    assert_eq!(run("F 2 1\n\nO 0\n"), "F 0 0\n");
+}
+
+#[test]
+fn a_refused_opening_leaves_the_run_alone() {
+    let text = "F 2 1\nO 0\nB 1\nZ 0 07\nO 9\nE 1 4\nX\nO 0\nZ 0 01\nO 0\n";
+    let expected = "F 0 0\nO 0 0\nB 0 1\nZ 0 0\nO 3 -\nE 0 0\nX 0 0\nO 3 -\nZ 0 0\nO 0 0\n";
+    assert_eq!(run(text), expected);
+}
