@@ -25,9 +25,9 @@ use Rattle.layout.specs.declared.master.Value.the-variants.{Of, Missing}
 use Rattle.layout.specs.declared.master.Found.the-variants.{Whole, Broken}
 use Rattle.layout.proofs.Choose.{cond-elim}
 use Rattle.layout.proofs.EqualLaws.{zero-true, zero-zeros}
-use Rattle.layout.proofs.FieldLaws.{Bytes, length-enc, bytes-drop}
+use Rattle.layout.proofs.FieldLaws.{Bytes, length-enc, bytes-enc, bytes-drop}
 use Rattle.layout.proofs.PartLaws.{lent-rest}
-use Rattle.layout.proofs.CellLaws.{lay, splice-zeros}
+use Rattle.layout.proofs.CellLaws.{lay, splice-zeros, bytes-cons, bytes-append, bytes-zeros}
 use Rattle.layout.proofs.BlockLaws.{part-blk, blk-same, blk-other}
 use Rattle.layout.proofs.ReadLaws.{enc-part}
 use Rattle.layout.proofs.ItemLaws.{Holds, Told, told, widthOf, number-back, item-again}
@@ -113,6 +113,25 @@ rest-zero at b v e = sym (rw (lent-rest b at) at e)
 pub length-masterBytes : (f : Fields) → length (masterBytes f) ≡ 512
 unfolding masterBytes
 length-masterBytes f = simp (length-append, length-field)
+
+bytes-field : (tag w n : ℕ) → tag < 256 → Bytes (itemBytes tag (enc w n))
+unfolding itemBytes
+bytes-field tag w n h =
+    let l = enc 2 (length (enc w n)) in
+    bytes-cons tag (l ++ enc w n) h (bytes-append l (enc w n) (bytes-enc 2 (length (enc w n))) (bytes-enc w n))
+
+pub bytes-masterBytes : (f : Fields) → Bytes (masterBytes f)
+unfolding masterBytes
+bytes-masterBytes f =
+    let t₄ = last₅ f ++ zeros 469 in
+    let t₃ = next₄ f ++ t₄ in
+    let t₂ = oldest₃ f ++ t₃ in
+    let t₁ = pages₂ f ++ t₂ in
+    bytes-append (blocks₁ f) t₁ (bytes-field 1 2 (f .blocks) (omega arith))
+    (bytes-append (pages₂ f) t₂ (bytes-field 2 2 (f .pages) (omega arith))
+    (bytes-append (oldest₃ f) t₃ (bytes-field 3 8 (f .oldest) (omega arith))
+    (bytes-append (next₄ f) t₄ (bytes-field 4 8 (f .next .0) (omega arith))
+    (bytes-append (last₅ f) (zeros 469) (bytes-field 5 8 (f .last .0) (omega arith)) (bytes-zeros 469)))))
 
 -- fields in the size of their bytes
 pub record FieldsSized (f : Fields) : Type 0 where

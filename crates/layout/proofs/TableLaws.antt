@@ -16,16 +16,20 @@ use Rattle.layout.specs.Journal.{commitBody}
 use Rattle.layout.specs.Table.{pairBytes, pairAt, tablePair, blockPair, putPair}
 use Rattle.layout.specs.declared.item.Pair.{Pair}
 use Rattle.layout.proofs.PartLaws.{length-splice, part-splice, part-before, part-after, part-part}
-use Rattle.layout.proofs.FieldLaws.{Bytes, length-enc}
+use Rattle.layout.proofs.FieldLaws.{Bytes, length-enc, bytes-enc}
 use Rattle.layout.proofs.WriteLaws.{splice-then}
 use Rattle.layout.proofs.RecordLaws.{PairSized, length-commitBody, pair-back, commit-again}
-use Rattle.layout.proofs.CellLaws.{Cells, each-of, length-flat, cell-at, cell-set}
+use Rattle.layout.proofs.CellLaws.{Cells, each-of, bytes-append, bytes-flat, length-flat, cell-at, cell-set}
 use Rattle.layout.proofs.BlockLaws.{blk-same, blk-other}
 
 -- the bytes of a pair are those of a commit's body
 pub length-pairBytes : (p : Pair) → length (pairBytes p) ≡ 16
 unfolding pairBytes commitBody
 length-pairBytes p = length-commitBody p
+
+pub bytes-pairBytes : (p : Pair) → Bytes (pairBytes p)
+unfolding pairBytes
+bytes-pairBytes p = bytes-append (enc 8 (p .number .0)) (enc 8 (p .time .0)) (bytes-enc 8 (p .number .0)) (bytes-enc 8 (p .time .0))
 
 -- two fields of 8 bytes, one written just behind the other
 pub pair-laid : (b : List ℕ) (at n t : ℕ) → splice (splice b at (enc 8 n)) (at + 8) (enc 8 t) ≡ splice b at (enc 8 n ++ enc 8 t)
@@ -67,6 +71,9 @@ sized = each-of (λ (p : Pair). length (pairBytes p) ≡ 16) length-pairBytes
 
 pub length-pairs : (ps : List Pair) → length (flat pairBytes ps) ≡ 16 * length ps
 length-pairs ps = length-flat pairBytes 16 ps (sized ps)
+
+pub bytes-pairs : (ps : List Pair) → Bytes (flat pairBytes ps)
+bytes-pairs ps = bytes-flat pairBytes ps (each-of (λ (p : Pair). Bytes (pairBytes p)) bytes-pairBytes ps)
 
 pub pairs-at : (ps : List Pair) (i : ℕ) (d : Pair) → i < length ps → PairSized (getD ps i d) → blockPair (flat pairBytes ps) i ≡ getD ps i d
 unfolding blockPair

@@ -1,8 +1,11 @@
 -- `master::read` meets its contract: the fields are asked for in the order of the definition, each in the bytes from its
 -- place on, which are the lent part.
 use mathlib.Core.Path.{_≡_, sym, _∙_}
+use Prim.Native.Nat.{ℕ}
+use mathlib.Core.List.{List}
 use lib.ListN.{drop}
 use borrow.Author.Tests.{not-true, not-false}
+use Rattle.layout.specs.Equal.{allZero}
 use Rattle.layout.specs.Master.{fieldOf, masterOf}
 use Rattle.layout.specs.declared.master.Value.the-variants.{Of}
 use Rattle.layout.proofs.MasterLaws.{rest-field, rest-zero}
@@ -14,36 +17,54 @@ use Rattle.layout.proofs.master.read.Lts as lts
 use Rattle.layout.proofs.block.all_zero.Reads as all-zero-reads
 use Rattle.layout.proofs.master.field.Reads as field-reads
 
--- what each field read is, and the number that it holds
-r1 : (c : tie.After-field) → fieldOf 1 (c .before .before .args .block .now) ≡ c .field .result
+-- the block at each field, what the field read is, and the number that it holds
+abbrev b1 : tie.After-field → List ℕ
+b1 c = c .before .before .args .block .now
+
+r1 : (c : tie.After-field) → fieldOf 1 (b1 c) ≡ c .field .result
 r1 c = sym (c .field .ensures)
 
-k1 : (c : tie.After-l) → fieldOf 1 (c .before .before .before .before .args .block .now) ≡ Of (c .l .given .0 .0)
+k1 : (c : tie.After-l) → fieldOf 1 (b1 (c .before .before)) ≡ Of (c .l .given .0 .0)
 k1 c = r1 (c .before .before) ∙ c .l .given .1
 
-r2 : (c : tie.After-field2) → fieldOf 2 (drop 5 (c .before .before .before .before .before .before .before .args .block .now)) ≡ c .field2 .result
-r2 c = rest-field 2 5 (c .before .before .before .before .before .before .before .args .block .now) _ (c .field2 .ensures)
+abbrev b2 : tie.After-field2 → List ℕ
+b2 c = b1 (c .before .before .before .before .before)
 
-k2 : (c : tie.After-d) → fieldOf 2 (drop 5 (c .before .before .before .before .before .before .before .before .before .args .block .now)) ≡ Of (c .d .given .0 .0)
+r2 : (c : tie.After-field2) → fieldOf 2 (drop 5 (b2 c)) ≡ c .field2 .result
+r2 c = rest-field 2 5 (b2 c) _ (c .field2 .ensures)
+
+k2 : (c : tie.After-d) → fieldOf 2 (drop 5 (b2 (c .before .before))) ≡ Of (c .d .given .0 .0)
 k2 c = r2 (c .before .before) ∙ c .d .given .1
 
-r3 : (c : tie.After-field3) → fieldOf 3 (drop 10 (c .before .before .before .before .before .before .before .before .before .before .before .before .args .block .now)) ≡ c .field3 .result
-r3 c = rest-field 3 10 (c .before .before .before .before .before .before .before .before .before .before .before .before .args .block .now) _ (c .field3 .ensures)
+abbrev b3 : tie.After-field3 → List ℕ
+b3 c = b2 (c .before .before .before .before .before)
 
-k3 : (c : tie.After-o) → fieldOf 3 (drop 10 (c .before .before .before .before .before .before .before .before .before .before .before .before .before .before .args .block .now)) ≡ Of (c .o .given .0 .0)
+r3 : (c : tie.After-field3) → fieldOf 3 (drop 10 (b3 c)) ≡ c .field3 .result
+r3 c = rest-field 3 10 (b3 c) _ (c .field3 .ensures)
+
+k3 : (c : tie.After-o) → fieldOf 3 (drop 10 (b3 (c .before .before))) ≡ Of (c .o .given .0 .0)
 k3 c = r3 (c .before .before) ∙ c .o .given .1
 
-r4 : (c : tie.After-field4) → fieldOf 4 (drop 21 (c .before .before .before .before .before .before .before .before .before .before .before .before .before .before .before .before .before .args .block .now)) ≡ c .field4 .result
-r4 c = rest-field 4 21 (c .before .before .before .before .before .before .before .before .before .before .before .before .before .before .before .before .before .args .block .now) _ (c .field4 .ensures)
+abbrev b4 : tie.After-field4 → List ℕ
+b4 c = b3 (c .before .before .before .before .before)
 
-k4 : (c : tie.After-n) → fieldOf 4 (drop 21 (c .before .before .before .before .before .before .before .before .before .before .before .before .before .before .before .before .before .before .before .args .block .now)) ≡ Of (c .n .given .0 .0)
+r4 : (c : tie.After-field4) → fieldOf 4 (drop 21 (b4 c)) ≡ c .field4 .result
+r4 c = rest-field 4 21 (b4 c) _ (c .field4 .ensures)
+
+k4 : (c : tie.After-n) → fieldOf 4 (drop 21 (b4 (c .before .before))) ≡ Of (c .n .given .0 .0)
 k4 c = r4 (c .before .before) ∙ c .n .given .1
 
-r5 : (c : tie.After-field5) → fieldOf 5 (drop 32 (c .before .before .before .before .before .before .before .before .before .before .before .before .before .before .before .before .before .before .before .before .before .before .args .block .now)) ≡ c .field5 .result
-r5 c = rest-field 5 32 (c .before .before .before .before .before .before .before .before .before .before .before .before .before .before .before .before .before .before .before .before .before .before .args .block .now) _ (c .field5 .ensures)
+abbrev b5 : tie.After-field5 → List ℕ
+b5 c = b4 (c .before .before .before .before .before)
 
-k5 : (c : tie.After-t) → fieldOf 5 (drop 32 (c .before .before .before .before .before .before .before .before .before .before .before .before .before .before .before .before .before .before .before .before .before .before .before .before .args .block .now)) ≡ Of (c .t .given .0 .0)
+r5 : (c : tie.After-field5) → fieldOf 5 (drop 32 (b5 c)) ≡ c .field5 .result
+r5 c = rest-field 5 32 (b5 c) _ (c .field5 .ensures)
+
+k5 : (c : tie.After-t) → fieldOf 5 (drop 32 (b5 (c .before .before))) ≡ Of (c .t .given .0 .0)
 k5 c = r5 (c .before .before) ∙ c .t .given .1
+
+z : (c : tie.After-all-zero) → allZero (drop 43 (b5 (c .before .before .before .before .before))) ≡ c .all-zero .result
+z c = rest-zero 43 (b5 (c .before .before .before .before .before)) _ (c .all-zero .ensures)
 
 field-requires : tie.Need-field-requires
 field-requires c κs = search needs
@@ -100,7 +121,10 @@ enum-told-3 c = search needs
 
 returns-3 : tie.Need-returns-3
 unfolding masterOf
-returns-3 c = simp (k1 (c .before .before .before .before .before .before .before .before .before .before), k2 (c .before .before .before .before .before), r3 (c .before .before), c .enum-told3 .given .1)
+returns-3 c =
+    let d = c .before .before .before .before .before in
+    let l = d .before .before .before .before .before in
+    simp (k1 l, k2 d, r3 (c .before .before), c .enum-told3 .given .1)
 
 sub-field-3 : tie.Need-sub-field-3
 sub-field-3 c = search needs
@@ -122,7 +146,11 @@ enum-told-4 c = search needs
 
 returns-4 : tie.Need-returns-4
 unfolding masterOf
-returns-4 c = simp (k1 (c .before .before .before .before .before .before .before .before .before .before .before .before .before .before .before), k2 (c .before .before .before .before .before .before .before .before .before .before), k3 (c .before .before .before .before .before), r4 (c .before .before), c .enum-told4 .given .1)
+returns-4 c =
+    let o = c .before .before .before .before .before in
+    let d = o .before .before .before .before .before in
+    let l = d .before .before .before .before .before in
+    simp (k1 l, k2 d, k3 o, r4 (c .before .before), c .enum-told4 .given .1)
 
 sub-field-4 : tie.Need-sub-field-4
 sub-field-4 c = search needs
@@ -144,7 +172,12 @@ enum-told-5 c = search needs
 
 returns-5 : tie.Need-returns-5
 unfolding masterOf
-returns-5 c = simp (k1 (c .before .before .before .before .before .before .before .before .before .before .before .before .before .before .before .before .before .before .before .before), k2 (c .before .before .before .before .before .before .before .before .before .before .before .before .before .before .before), k3 (c .before .before .before .before .before .before .before .before .before .before), k4 (c .before .before .before .before .before), r5 (c .before .before), c .enum-told5 .given .1)
+returns-5 c =
+    let n = c .before .before .before .before .before in
+    let o = n .before .before .before .before .before in
+    let d = o .before .before .before .before .before in
+    let l = d .before .before .before .before .before in
+    simp (k1 l, k2 d, k3 o, k4 n, r5 (c .before .before), c .enum-told5 .given .1)
 
 sub-all-zero : tie.Need-sub-all-zero
 sub-all-zero c = search needs
@@ -160,11 +193,23 @@ all-zero-requires c κs = search needs
 
 returns-6 : tie.Need-returns-6
 unfolding masterOf
-returns-6 c = simp (k1 (c .before .before .before .before .before .before .before .before .before .before .before .before .before .before .before .before .before .before .before .before .before .before .before .before), k2 (c .before .before .before .before .before .before .before .before .before .before .before .before .before .before .before .before .before .before .before), k3 (c .before .before .before .before .before .before .before .before .before .before .before .before .before .before), k4 (c .before .before .before .before .before .before .before .before .before), k5 (c .before .before .before .before), rest-zero 43 (c .before .before .before .before .before .before .before .before .before .before .before .before .before .before .before .before .before .before .before .before .before .before .before .before .before .before .before .before .args .block .now) _ (c .before .all-zero .ensures), not-true (c .before .all-zero .result) (c .if1 .taken))
+returns-6 c =
+    let t = c .before .before .before .before in
+    let n = t .before .before .before .before .before in
+    let o = n .before .before .before .before .before in
+    let d = o .before .before .before .before .before in
+    let l = d .before .before .before .before .before in
+    simp (k1 l, k2 d, k3 o, k4 n, k5 t, z (c .before), not-true (c .before .all-zero .result) (c .if1 .taken))
 
 returns-7 : tie.Need-returns-7
 unfolding masterOf
-returns-7 c = simp (k1 (c .before .before .before .before .before .before .before .before .before .before .before .before .before .before .before .before .before .before .before .before .before .before .before .before), k2 (c .before .before .before .before .before .before .before .before .before .before .before .before .before .before .before .before .before .before .before), k3 (c .before .before .before .before .before .before .before .before .before .before .before .before .before .before), k4 (c .before .before .before .before .before .before .before .before .before), k5 (c .before .before .before .before), rest-zero 43 (c .before .before .before .before .before .before .before .before .before .before .before .before .before .before .before .before .before .before .before .before .before .before .before .before .before .before .before .before .args .block .now) _ (c .before .all-zero .ensures), not-false (c .before .all-zero .result) (c .if1 .left))
+returns-7 c =
+    let t = c .before .before .before .before in
+    let n = t .before .before .before .before .before in
+    let o = n .before .before .before .before .before in
+    let d = o .before .before .before .before .before in
+    let l = d .before .before .before .before .before in
+    simp (k1 l, k2 d, k3 o, k4 n, k5 t, z (c .before), not-false (c .before .all-zero .result) (c .if1 .left))
 
 pub read-spec : {M : Type 1} → statement M
 read-spec =

@@ -32,7 +32,15 @@ same-length : tie.Need-same-length
 same-length c = search needs
 
 returns : tie.Need-returns
-returns c = c .before .before .put-long3 .ensures ∙ master-laid _ _ _ _ _ _ (rw (c .before .before .before .before .before .before .before .before .before .before .before .before .before .before .before .before .before .before .before .before .before .before .before .before .before .pre) at (c .before .before .before .before .before .before .before .before .before .before .before .before .before .before .before .before .before .before .before .before .before .before .clear .ensures)) (c .before .before .before .before .before .before .before .before .before .before .before .before .before .before .before .before .before .before .put-short .ensures) (c .before .before .before .before .before .before .before .before .before .before .before .before .before .before .put-short2 .ensures) (c .before .before .before .before .before .before .before .before .before .before .put-long .ensures) (c .before .before .before .before .before .before .put-long2 .ensures)
+returns c =
+    let e = c .before .before in
+    let d = e .before .before .before .before in
+    let k = d .before .before .before .before in
+    let b = k .before .before .before .before in
+    let a = b .before .before .before .before in
+    let z = a .before .before .before .before in
+    e .put-long3 .ensures
+    ∙ master-laid _ _ _ _ _ _ (rw (z .before .before .before .pre) at (z .clear .ensures)) (a .put-short .ensures) (b .put-short2 .ensures) (k .put-long .ensures) (d .put-long2 .ensures)
 
 pub write-spec : {M : Type 1} → statement M
 write-spec =
