@@ -14,6 +14,7 @@ use Rattle.store.specs.declared.State.{State}
 use Rattle.store.specs.declared.Timing.{Timing}
 use Rattle.store.specs.declared.Timing.the-variants.{Timed, Untimed}
 use Rattle.store.specs.Answer.{Outcome, refusalNumber, answerNumber, answerValue}
+use Rattle.store.specs.Places.{timeUnder}
 use Rattle.store.specs.Chain.{cellAt, versionTime}
 use Rattle.store.specs.Format.{freshMedium}
 use Rattle.store.specs.Open.{openOf}
@@ -64,7 +65,7 @@ sightAt c ps n = record {
   key = cellAt c n .key;
   kind = cellAt c n .kind;
   value = cellAt c n .value;
-  time = timeIn (versionTime ps (cellAt c n .state));
+  time = timeIn (versionTime (timeUnder ps) (cellAt c n .state));
 }
 
 unfoldable pub sightsFrom : List ℕ → List Place → ℕ → ℕ → List Sight

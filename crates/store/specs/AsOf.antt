@@ -13,6 +13,7 @@ use Rattle.store.specs.declared.Best.{Best}
 use Rattle.store.specs.declared.Best.the-variants.{Version, Neither}
 use Rattle.store.specs.declared.State.{State}
 use Rattle.store.specs.Answer.{Outcome, refuses, ask}
+use Rattle.store.specs.Places.{timeUnder}
 use Rattle.store.specs.State.{fits}
 use Rattle.store.specs.Chain.{newest, cellAt, bestOf}
 use Rattle.store.specs.CurrentRead.{reads, readCell}
@@ -27,7 +28,7 @@ asOfAt (Version n t) s m c = readCell (cellAt c n) s m c
 
 unfoldable pub asOfIf : Option Refusal → State → List ℕ → List ℕ → ℕ → ℕ → Outcome
 asOfIf (some r) s m c key t = refuses r s m c
-asOfIf none s m c key t = asOfAt (bestOf (newest c key (s .slots)) c (s .places) t) s m c
+asOfIf none s m c key t = asOfAt (bestOf (newest c key (s .slots)) c (timeUnder (s .places)) t) s m c
 
 unfoldable pub asOfOf : State → List ℕ → List ℕ → ℕ → ℕ → Outcome
 asOfOf s m c key t = asOfIf (ask (asOfAsks s m c t)) s m c key t

@@ -16,7 +16,7 @@ use Rattle.store.specs.declared.Timing.{Timing}
 use Rattle.store.specs.declared.Timing.the-variants.{Timed, Untimed}
 use Rattle.store.specs.declared.Best.{Best}
 use Rattle.store.specs.declared.Best.the-variants.{Version, Neither}
-use Rattle.store.specs.Places.{isAt, findActive, timeUnder}
+use Rattle.store.specs.Places.{isAt, findActive}
 
 -- what slot n of the cache holds
 unfoldable pub cellAt : List ℕ → ℕ → Cell
@@ -36,11 +36,11 @@ unfoldable pub newest : List ℕ → ℕ → ℕ → Found
 newest c key zero = Nothing
 newest c key (suc n) = cond (versionOf c key n) (At n) (newest c key n)
 
--- 01: "A version's time is its stamp or its pair's time"
-unfoldable pub versionTime : List Place → Slot → Timing
-versionTime ps Empty = Untimed
-versionTime ps (Waiting n) = timeUnder ps (n .0)
-versionTime ps (Stamped t) = Timed t
+-- 01: "A version's time is its stamp or its pair's time"; `pair` gives the time of a number, if it has one
+unfoldable pub versionTime : (ℕ → Timing) → Slot → Timing
+versionTime pair Empty = Untimed
+versionTime pair (Waiting n) = pair (n .0)
+versionTime pair (Stamped t) = Timed t
 
 -- 01: "The record is held while its newest version waits under another active number"
 abbrev pub heldAs : Slot → List Place → ℕ → Bool
@@ -64,10 +64,10 @@ isTimed (Timed t) = true
 isTimed Untimed = false
 
 -- 01: "A current read gives the record's newest version that is committed or its own"
-abbrev pub visible : Slot → List Place → ℕ → Bool
-visible Empty ps n = false
-visible (Waiting m) ps n = eqb (m .0) n || isTimed (timeUnder ps (m .0))
-visible (Stamped t) ps n = true
+abbrev pub visible : Slot → (ℕ → Timing) → ℕ → Bool
+visible Empty pair n = false
+visible (Waiting m) pair n = eqb (m .0) n || isTimed (pair (m .0))
+visible (Stamped t) pair n = true
 
 abbrev pub unlessEmpty : {A : Type 0} → Slot → A → A → A
 unlessEmpty Empty stop go = stop
@@ -75,16 +75,16 @@ unlessEmpty (Waiting n) stop go = go
 unlessEmpty (Stamped t) stop go = go
 
 -- k bounds the steps
-unfoldable pub visibleFrom : List ℕ → List Place → ℕ → ℕ → ℕ → Found
-visibleFrom c ps n zero s = Nothing
-visibleFrom c ps n (suc k) s =
+unfoldable pub visibleFrom : List ℕ → (ℕ → Timing) → ℕ → ℕ → ℕ → Found
+visibleFrom c pair n zero s = Nothing
+visibleFrom c pair n (suc k) s =
     unlessEmpty (cellAt c s .state) Nothing
-    (cond (visible (cellAt c s .state) ps n) (At s)
-    (downTo (cellAt c s .earlier) s Nothing (visibleFrom c ps n k)))
+    (cond (visible (cellAt c s .state) pair n) (At s)
+    (downTo (cellAt c s .earlier) s Nothing (visibleFrom c pair n k)))
 
-abbrev pub visibleOf : Found → List ℕ → List Place → ℕ → Found
-visibleOf (At s) c ps n = visibleFrom c ps n (suc s) s
-visibleOf Nothing c ps n = Nothing
+unfoldable pub visibleOf : Found → List ℕ → (ℕ → Timing) → ℕ → Found
+visibleOf (At s) c pair n = visibleFrom c pair n (suc s) s
+visibleOf Nothing c pair n = Nothing
 
 -- 01: "As of t: the committed version with greatest time not above t, the later slot among equals": slot s against the
 -- best of the lower ones
@@ -96,13 +96,13 @@ abbrev pub betterOf : Timing → ℕ → ℕ → Best → Best
 betterOf Untimed s t rest = rest
 betterOf (Timed u) s t rest = cond (leb (u .0) t) (laterOf s u rest) rest
 
-unfoldable pub bestFrom : List ℕ → List Place → ℕ → ℕ → ℕ → Best
-bestFrom c ps t zero s = Neither
-bestFrom c ps t (suc k) s =
+unfoldable pub bestFrom : List ℕ → (ℕ → Timing) → ℕ → ℕ → ℕ → Best
+bestFrom c pair t zero s = Neither
+bestFrom c pair t (suc k) s =
     unlessEmpty (cellAt c s .state) Neither
-    (betterOf (versionTime ps (cellAt c s .state)) s t
-    (downTo (cellAt c s .earlier) s Neither (bestFrom c ps t k)))
+    (betterOf (versionTime pair (cellAt c s .state)) s t
+    (downTo (cellAt c s .earlier) s Neither (bestFrom c pair t k)))
 
-unfoldable pub bestOf : Found → List ℕ → List Place → ℕ → Best
-bestOf (At s) c ps t = bestFrom c ps t (suc s) s
-bestOf Nothing c ps t = Neither
+unfoldable pub bestOf : Found → List ℕ → (ℕ → Timing) → ℕ → Best
+bestOf (At s) c pair t = bestFrom c pair t (suc s) s
+bestOf Nothing c pair t = Neither

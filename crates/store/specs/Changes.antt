@@ -11,15 +11,16 @@ use Rattle.layout.specs.Equal.{eqList}
 use Rattle.layout.specs.Block.{zeros}
 use Rattle.layout.specs.Cells.{flat}
 use Rattle.layout.specs.Slot.{Cell}
-use Rattle.store.specs.declared.Place.{Place}
 use Rattle.store.specs.declared.Refusal.{Refusal}
 use Rattle.store.specs.declared.Refusal.the-variants.{Unfit, NotYet, ShortBuffer}
 use Rattle.store.specs.declared.Answer.the-variants.{Refused, Listed}
 use Rattle.store.specs.declared.Found.{Found}
+use Rattle.store.specs.declared.Timing.{Timing}
 use Rattle.store.specs.declared.Best.{Best}
 use Rattle.store.specs.declared.Best.the-variants.{Version, Neither}
 use Rattle.store.specs.declared.State.{State}
 use Rattle.store.specs.Answer.{Outcome, ask}
+use Rattle.store.specs.Places.{timeUnder}
 use Rattle.store.specs.State.{fits}
 use Rattle.store.specs.Chain.{newest, cellAt, bestOf}
 
@@ -43,11 +44,11 @@ differsFrom c n (Version r u) = differs (cellAt c n) (cellAt c r)
 abbrev pub lineOf : List ℕ → ℕ → ℕ → List Line
 lineOf c n t = record { time = t; kind = cellAt c n .kind; value = cellAt c n .value } ∷ []
 
-module _ (c : List ℕ) (ps : List Place) (head : Found) where
+module _ (c : List ℕ) (pair : ℕ → Timing) (head : Found) where
   -- the last version under the greatest commit time below t
   unfoldable pub before : ℕ → Best
   before zero = Neither
-  before (suc t) = bestOf head c ps t
+  before (suc t) = bestOf head c pair t
 
   -- 01: "its last version under each commit time, in time order, listed .. if its time is in range and its kind or value
   -- differs from the one before, in range or not": the last version found, behind the lines below its time
@@ -63,7 +64,7 @@ module _ (c : List ℕ) (ps : List Place) (head : Found) where
 
 -- the lines of a record from t1 to t2
 unfoldable pub changeLines : State → List ℕ → ℕ → ℕ → ℕ → List Line
-changeLines s c key t1 t2 = linesBelow c (s .places) (newest c key (s .slots)) t1 (suc (suc t2)) (suc t2)
+changeLines s c key t1 t2 = linesBelow c (timeUnder (s .places)) (newest c key (s .slots)) t1 (suc (suc t2)) (suc t2)
 
 -- 01: "state and buffers fit? 16", "t2 not above the last commit time? 10", "answer buffer at least 32 bytes per line
 -- listed? 14"

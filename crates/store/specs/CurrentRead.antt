@@ -15,7 +15,7 @@ use Rattle.store.specs.declared.Found.{Found}
 use Rattle.store.specs.declared.Found.the-variants.{At, Nothing}
 use Rattle.store.specs.declared.State.{State}
 use Rattle.store.specs.Answer.{Outcome, leaves, refuses, ask}
-use Rattle.store.specs.Places.{isAt, findActive}
+use Rattle.store.specs.Places.{isAt, findActive, timeUnder}
 use Rattle.store.specs.State.{fits}
 use Rattle.store.specs.Chain.{newest, held, cellAt, visibleOf}
 
@@ -41,7 +41,7 @@ currentAt (At i) s m c = readCell (cellAt c i) s m c
 
 unfoldable pub currentIf : Option Refusal → State → List ℕ → List ℕ → ℕ → ℕ → Outcome
 currentIf (some r) s m c n key = refuses r s m c
-currentIf none s m c n key = currentAt (visibleOf (newest c key (s .slots)) c (s .places) n) s m c
+currentIf none s m c n key = currentAt (visibleOf (newest c key (s .slots)) c (timeUnder (s .places)) n) s m c
 
 unfoldable pub currentOf : State → List ℕ → List ℕ → ℕ → ℕ → Outcome
 currentOf s m c n key = currentIf (ask (currentAsks s m c n key)) s m c n key

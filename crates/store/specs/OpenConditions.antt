@@ -23,10 +23,10 @@ use Rattle.store.specs.declared.Timing.{Timing}
 use Rattle.store.specs.declared.Timing.the-variants.{Timed, Untimed}
 use Rattle.store.specs.Places.{first, isAt}
 use Rattle.store.specs.Write.{orNone}
-use Rattle.store.specs.Chain.{cellAt, isVersion, versionOf, newest}
+use Rattle.store.specs.Chain.{cellAt, isVersion, versionOf, versionTime, newest}
 use Rattle.store.specs.OpenLog.{Placed, placeFrom, numberIn, commitUnder, Commitment, nextOn, blockOf, readCount, readLog, logEnd, nextNumber, lastTime}
 use Rattle.store.specs.OpenRedo.{Redone, pagesOn, untouched, redo, redoChecks}
-use Rattle.store.specs.OpenPairs.{tableFind, openTime, isPaired, waitingNumbers}
+use Rattle.store.specs.OpenPairs.{tableFind, pairTime, isPaired, waitingNumbers}
 
 abbrev pub Checks : Type 0
 Checks = List (Bool × ℕ)
@@ -197,11 +197,11 @@ module _ (m : List ℕ) (l d : ℕ) where
     unfoldable pub timeBelow : ℕ → ℕ → Timing
     timeBelow key zero = Untimed
     timeBelow key (suc n) =
-        timeOr (versionOf c key n) (openTime m (readLog m l) (cellAt c n .state)) (timeBelow key n)
+        timeOr (versionOf c key n) (versionTime (pairTime m (readLog m l)) (cellAt c n .state)) (timeBelow key n)
 
     -- "a record's times never falling"
     unfoldable pub notFalling : ℕ → Bool
-    notFalling n = notAbove (timeBelow (cellAt c n .key) n) (openTime m (readLog m l) (cellAt c n .state))
+    notFalling n = notAbove (timeBelow (cellAt c n .key) n) (versionTime (pairTime m (readLog m l)) (cellAt c n .state))
 
     -- 6: "pages full before the last used, earlier slots true, a record's times never falling, waiting and paired numbers
     -- below the next, no stamp or pair above the last time" (the log's own pairs are by how the two are made)

@@ -38,12 +38,6 @@ tableOr Nothing m other = other
 unfoldable pub pairTime : List ℕ → List Placed → ℕ → Timing
 pairTime m log n = tableOr (tableFind m n) m (timeOfCommitment (commitUnder log n))
 
--- the time of a version while opening
-unfoldable pub openTime : List ℕ → List Placed → Slot → Timing
-openTime m log Empty = Untimed
-openTime m log (Waiting n) = pairTime m log (n .0)
-openTime m log (Stamped t) = Timed t
-
 abbrev pub waitsUnder : Slot → ℕ → Bool
 waitsUnder Empty n = false
 waitsUnder (Waiting k) n = eqb (k .0) n

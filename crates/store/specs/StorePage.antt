@@ -24,43 +24,47 @@ use Rattle.store.specs.Answer.{Outcome, leaves, refuses, ask}
 use Rattle.store.specs.Places.{placeAt, findCommitted, storedUnder, lowered}
 use Rattle.store.specs.State.{fits}
 
--- the time with which a slot is stamped, if it waits and its commit record is stored
-unfoldable pub stampTime : State → Slot → Timing
-stampTime s Empty = Untimed
-stampTime s (Waiting n) = storedUnder (s .places) (s .end .0) (n .0)
-stampTime s (Stamped t) = Untimed
+-- the time with which a slot is stamped, if it waits; `pair` gives the time of a number whose commit record is stored
+unfoldable pub stampTime : (ℕ → Timing) → Slot → Timing
+stampTime pair Empty = Untimed
+stampTime pair (Waiting n) = pair (n .0)
+stampTime pair (Stamped t) = Untimed
 
 -- 01: "Storing a page first stamps its waiting versions whose commit record is **stored**": the k slots from slot i on
 abbrev pub stampWith : Timing → List ℕ → ℕ → List ℕ
 stampWith (Timed t) page i = stampCell page i (t .0)
 stampWith Untimed page i = page
 
-unfoldable pub stampFrom : State → List ℕ → ℕ → ℕ → List ℕ
-stampFrom s page i zero = page
-stampFrom s page i (suc k) = stampFrom s (stampWith (stampTime s (slotState (pageSlot page i))) page i) (i + 1) k
+unfoldable pub stampFrom : (ℕ → Timing) → List ℕ → ℕ → ℕ → List ℕ
+stampFrom pair page i zero = page
+stampFrom pair page i (suc k) =
+    stampFrom pair (stampWith (stampTime pair (slotState (pageSlot page i))) page i) (i + 1) k
+
+unfoldable pub storedPair : State → ℕ → Timing
+storedPair s n = storedUnder (s .places) (s .end .0) n
 
 unfoldable pub stampedPage : State → List ℕ → List ℕ
-stampedPage s page = stampFrom s page 0 15
+stampedPage s page = stampFrom (storedPair s) page 0 15
 
 -- each version stamped counts its transaction's place down
 abbrev pub lowerAt : Found → List Place → List Place
 lowerAt (At i) ps = set ps i (lowered (placeAt ps i))
 lowerAt Nothing ps = ps
 
-abbrev pub settleWith : Timing → State → Slot → List Place → List Place
-settleWith Untimed s slot ps = ps
-settleWith (Timed t) s Empty ps = ps
-settleWith (Timed t) s (Waiting n) ps = lowerAt (findCommitted (s .places) (n .0)) ps
-settleWith (Timed t) s (Stamped u) ps = ps
+abbrev pub settleWith : Timing → Slot → List Place → List Place → List Place
+settleWith Untimed slot old ps = ps
+settleWith (Timed t) Empty old ps = ps
+settleWith (Timed t) (Waiting n) old ps = lowerAt (findCommitted old (n .0)) ps
+settleWith (Timed t) (Stamped u) old ps = ps
 
-unfoldable pub settleFrom : State → List ℕ → List Place → ℕ → ℕ → List Place
-settleFrom s page ps i zero = ps
-settleFrom s page ps i (suc k) =
+unfoldable pub settleFrom : (ℕ → Timing) → List Place → List ℕ → List Place → ℕ → ℕ → List Place
+settleFrom pair old page ps i zero = ps
+settleFrom pair old page ps i (suc k) =
     let slot = slotState (pageSlot page i) in
-    settleFrom s page (settleWith (stampTime s slot) s slot ps) (i + 1) k
+    settleFrom pair old page (settleWith (stampTime pair slot) slot old ps) (i + 1) k
 
 unfoldable pub settled : State → List ℕ → List Place
-settled s page = settleFrom s page (s .places) 0 15
+settled s page = settleFrom (storedPair s) (s .places) page (s .places) 0 15
 
 -- 01: "state and buffers fit? 16", "page below D? 11. Its end place stored? 12", "would a byte on the medium change? 13"
 abbrev pub storePageAsks : State → List ℕ → List ℕ → ℕ → List (Bool × Refusal)

@@ -1,0 +1,163 @@
+-- The starred examples of 01, and beside them the `stripbook` listing at the level of calls.
+use Prim.Native.Nat.{ℕ, zero, suc, _-_, _^_, _*_}
+use mathlib.Core.Path.{_≡_}
+use mathlib.Core.List.{List, [], _∷_, _++_}
+use lib.ListN.{replicate}
+use Rattle.runs.specs.Event.{Event, opening, cut, call, begin, write, erase, commit, as-of, Strip, missing, erased, present}
+use Rattle.examples.specs.Compute.{Shown, Tail, outcomeOf}
+
+-- sizes, a script on the formatted medium, what 01 answers, and the tail that is left
+pub record Row : Type 0 where
+  pub blocks : ℕ
+  pub pages : ℕ
+  pub script : List Event
+  pub answers : List Shown
+  pub tail : Tail
+
+unfoldable pub Right : Row → Type 0
+Right r = outcomeOf (r .blocks) (r .pages) (r .script) ≡ record { answers = r .answers; tail = r .tail }
+
+-- ---- words for the rows
+
+abbrev done : ℕ → Shown
+done n = record { refusal = 0; result = n; strip = missing }
+
+abbrev refused : ℕ → Shown
+refused n = record { refusal = n; result = 0; strip = missing }
+
+abbrev reads : Strip → Shown
+reads s = record { refusal = 0; result = 0; strip = s }
+
+abbrev tail : ℕ → ℕ → Tail
+tail s u = record { sequence = s; used = u }
+
+-- sixteen equal bytes
+abbrev bytes : ℕ → List ℕ
+bytes b = replicate 16 b
+
+-- an opening with a cache of right length, as it may lie there
+abbrev opened : ℕ → Event
+opened d = opening (replicate (512 * d) 255)
+
+-- n writes of record 7 under number 1, and their slots from k on
+abbrev writes : ℕ → List Event
+writes zero = []
+writes (suc n) = call (write 1 7 (bytes 65)) ∷ writes n
+
+abbrev slots : ℕ → ℕ → List Shown
+slots k zero = []
+slots k (suc n) = done k ∷ slots (suc k) n
+
+-- ---- the rows
+
+-- * "Fresh, as of 0: none. As of 1: refused 10."
+abbrev pub fresh : Row
+fresh = record {
+  blocks = 2;
+  pages = 1;
+  script = opened 1 ∷ call (as-of 7 0) ∷ call (as-of 7 1) ∷ [];
+  answers = done 0 ∷ reads missing ∷ refused 10 ∷ [];
+  tail = tail 1 10;
+}
+
+-- * "Begin at 10, commit at 5, first commit: time 10. The next, clocks 3 and 3: time 11."
+abbrev pub clocks : Row
+clocks = record {
+  blocks = 2;
+  pages = 1;
+  script = opened 1 ∷ call (begin 10) ∷ call (write 1 7 (bytes 65)) ∷ call (commit 1 5)
+      ∷ call (begin 3) ∷ call (write 2 7 (bytes 66)) ∷ call (commit 2 3) ∷ [];
+  answers = done 0 ∷ done 1 ∷ done 0 ∷ done 10 ∷ done 2 ∷ done 1 ∷ done 11 ∷ [];
+  tail = tail 1 114;
+}
+
+-- * "Commit at 2^64 - 1 is accepted; the following commit with versions: 9, still active."
+abbrev pub lastTime : Row
+lastTime = record {
+  blocks = 2;
+  pages = 1;
+  script = opened 1 ∷ call (begin 0) ∷ call (write 1 7 (bytes 65)) ∷ call (commit 1 (2 ^ 64 - 1))
+      ∷ call (begin 0) ∷ call (write 2 7 (bytes 66)) ∷ call (commit 2 0) ∷ call (write 2 7 (bytes 67)) ∷ [];
+  answers = done 0 ∷ done 1 ∷ done 0 ∷ done (2 ^ 64 - 1) ∷ done 2 ∷ done 1 ∷ refused 9 ∷ done 2 ∷ [];
+  tail = tail 1 128;
+}
+
+-- * "Two writes of one record in a transaction: as of its time, the second."
+abbrev pub twice : Row
+twice = record {
+  blocks = 2;
+  pages = 1;
+  script = opened 1 ∷ call (begin 4) ∷ call (write 1 7 (bytes 65)) ∷ call (write 1 7 (bytes 66)) ∷ call (commit 1 4)
+      ∷ call (as-of 7 4) ∷ [];
+  answers = done 0 ∷ done 1 ∷ done 0 ∷ done 1 ∷ done 4 ∷ reads (present (bytes 66)) ∷ [];
+  tail = tail 1 95;
+}
+
+-- * "D = 1: the 15th write done, the 16th 7."
+abbrev pub slotsUsed : Row
+slotsUsed = record {
+  blocks = 2;
+  pages = 1;
+  script = opened 1 ∷ call (begin 0) ∷ writes 16;
+  answers = done 0 ∷ done 1 ∷ (slots 0 15 ++ (refused 7 ∷ []));
+  tail = tail 1 505;
+}
+
+-- * "Fifteen versions use 505 bytes of a block": the tail of the row before; "a commit record (19) begins the next"
+abbrev pub nextBlock : Row
+nextBlock = record {
+  blocks = 2;
+  pages = 1;
+  script = opened 1 ∷ call (begin 0) ∷ (writes 15 ++ (call (commit 1 9) ∷ []));
+  answers = done 0 ∷ done 1 ∷ (slots 0 15 ++ (done 9 ∷ []));
+  tail = tail 2 29;
+}
+
+-- * "L = 2, D = 3, no checkpoint: 30 versions fit, the 31st 8."
+abbrev pub logFull : Row
+logFull = record {
+  blocks = 2;
+  pages = 3;
+  script = opened 3 ∷ call (begin 0) ∷ writes 31;
+  answers = done 0 ∷ done 1 ∷ (slots 0 30 ++ (refused 8 ∷ []));
+  tail = tail 2 505;
+}
+
+-- * "Erase of a never written record: as of its commit, erased."
+abbrev pub erasedFirst : Row
+erasedFirst = record {
+  blocks = 2;
+  pages = 1;
+  script = opened 1 ∷ call (begin 4) ∷ call (erase 1 7) ∷ call (commit 1 4) ∷ call (as-of 7 4) ∷ [];
+  answers = done 0 ∷ done 1 ∷ done 0 ∷ done 4 ∷ reads erased ∷ [];
+  tail = tail 1 62;
+}
+
+-- * "Begin, then a cut: number 1 is given again, for it left no trace."
+abbrev pub givenAgain : Row
+givenAgain = record {
+  blocks = 2;
+  pages = 1;
+  script = opened 1 ∷ call (begin 3) ∷ cut ∷ opened 1 ∷ call (begin 3) ∷ [];
+  answers = done 0 ∷ done 1 ∷ done 0 ∷ done 0 ∷ done 1 ∷ [];
+  tail = tail 1 10;
+}
+
+-- the listing of `stripbook`: L = 4, D = 2
+abbrev pub listing : Row
+listing = record {
+  blocks = 4;
+  pages = 2;
+  script = opened 2 ∷ call (begin 10) ∷ call (write 1 7 (bytes 65)) ∷ call (commit 1 5) ∷ call (as-of 7 10)
+      ∷ cut ∷ opened 2 ∷ call (as-of 7 10) ∷ [];
+  answers = done 0 ∷ done 1 ∷ done 0 ∷ done 10 ∷ reads (present (bytes 65)) ∷ done 0 ∷ done 0 ∷ refused 10 ∷ [];
+  tail = tail 1 10;
+}
+
+-- the starred ones, in 01's order
+abbrev pub starred : List Row
+starred =
+    fresh ∷ clocks ∷ lastTime ∷ twice ∷ slotsUsed ∷ nextBlock ∷ logFull ∷ erasedFirst ∷ givenAgain ∷ []
+
+abbrev pub table : List Row
+table = starred ++ (listing ∷ [])

@@ -1,0 +1,349 @@
+-- A call that is not refused 16 leaves a state that fits. A refusal leaves all as it was, which fits since question 16
+-- was answered yes; a step changes only slots, tail, places and first changes, within the bounds that its questions ask.
+use mathlib.Core.Path.{_≡_, refl, sym, ap, subst, _∙_}
+use mathlib.Core.Bool.{Bool, true, false, _&&_, _||_}
+use mathlib.Core.Option.{some}
+use mathlib.Core.List.{List, _∷_}
+use Prim.Native.Nat.{ℕ, zero, suc, _+_, _*_, _^_, _≤_, _<_}
+use native.Mathlib.Omega.{arith}
+use lib.ListN.{length, drop, length-set}
+use lib.Dec.{eqb, leb, ltb}
+use borrow.Author.Tests.{ltb-true, leb-true, eqb-true, lt-ltb, le-leb, eq-eqb}
+use Rattle.layout.specs.Block.{zeros, put, mediumLength, cacheLength}
+use Rattle.layout.specs.Journal.{Record, version, commit, recordSize, sequenceOf, usedOf, emptyBlock, addRecord}
+use Rattle.layout.specs.Master.{oldestOn}
+use Rattle.layout.specs.declared.item.VersionHead.{VersionHead}
+use Rattle.layout.specs.declared.slot.Slot.{Slot}
+use Rattle.layout.specs.declared.slot.Slot.the-variants.{Empty, Waiting, Stamped}
+use Rattle.layout.proofs.Choose.{and-0, and-1}
+use Rattle.layout.proofs.BlockLaws.{length-put}
+use Rattle.layout.proofs.CacheLaws.{length-putVersion}
+use Rattle.layout.proofs.JournalLaws.{length-emptyBlock, sequence-emptyBlock, used-emptyBlock, length-addRecord, sequence-addRecord, used-addRecord}
+use Rattle.store.specs.declared.Place.{Place}
+use Rattle.store.specs.declared.Phase.{Phase}
+use Rattle.store.specs.declared.Phase.the-variants.{Idle, FirstStored, SecondStored}
+use Rattle.store.specs.declared.Refusal.{Refusal}
+use Rattle.store.specs.declared.Refusal.the-variants.{Unfit}
+use Rattle.store.specs.declared.Answer.the-variants.{Refused}
+use Rattle.store.specs.declared.Found.{Found}
+use Rattle.store.specs.declared.Found.the-variants.{At, Nothing}
+use Rattle.store.specs.declared.Timing.{Timing}
+use Rattle.store.specs.declared.Timing.the-variants.{Timed, Untimed}
+use Rattle.store.specs.declared.State.{State}
+use Rattle.store.specs.Answer.{Outcome, ask}
+use Rattle.store.specs.Places.{freePlace, findCommitted}
+use Rattle.store.specs.State.{inRange, fits, withPlace, withPhase}
+use Rattle.store.specs.Tail.{tailFits, mayLog, storedTail, loggedIf, logged}
+use Rattle.store.specs.Begin.{begun}
+use Rattle.store.specs.Write.{touched, written, writeStep}
+use Rattle.store.specs.Commit.{committed, commitStep}
+use Rattle.store.specs.StoreLog.{logStored, storeLogIf}
+use Rattle.store.specs.StorePage.{stampTime, lowerAt, settleWith, settleFrom, settled, pageStored, storePageIf}
+use Rattle.store.specs.Checkpoint.{checkpointStep}
+use Rattle.runs.specs.Event.{Call, begin, write, erase, current-read, commit as commit-call, abort, as-of, changes, store-log, store-page, checkpoint}
+use Rattle.runs.specs.Machine.{called}
+use Rattle.runs.proofs.Asks.{Passed, asks, Way, refused, begins, writes, erases, looks, commits, ends, aborts, logs, pages, checks, way}
+
+-- ---- question 16 as facts
+
+pub record InRange (l d : ℕ) : Type 0 where
+  pub blocks-low : 2 ≤ l
+  pub blocks-high : l ≤ 32
+  pub pages-low : 1 ≤ d
+  pub pages-high : d ≤ 64
+
+pub record TailFit (b : List ℕ) : Type 0 where
+  pub used-low : 10 ≤ usedOf b
+  pub used-high : usedOf b ≤ 512
+  pub sequence-low : 1 ≤ sequenceOf b
+  pub sequence-high : sequenceOf b < 2 ^ 48
+  pub size : length b ≡ 512
+
+-- m and c are the lengths of medium and cache
+pub record Fit (s : State) (m c : ℕ) : Type 0 where
+  pub range : InRange (s .blocks) (s .pages)
+  pub medium : m ≡ mediumLength (s .blocks) (s .pages)
+  pub cache : c ≡ cacheLength (s .pages)
+  pub slots : s .slots ≤ 15 * s .pages
+  pub tail : TailFit (s .tail)
+  pub places : length (s .places) ≡ 64
+  pub first : length (s .first) ≡ 64
+
+pub range-of : (l d : ℕ) → inRange l d ≡ true → InRange l d
+unfolding inRange
+range-of l d e =
+    let f = and-1 (leb 2 l) _ e in
+    let g = and-1 (leb l 32) _ f in
+    record {
+      blocks-low = leb-true 2 l (and-0 (leb 2 l) _ e);
+      blocks-high = leb-true l 32 (and-0 (leb l 32) _ f);
+      pages-low = leb-true 1 d (and-0 (leb 1 d) _ g);
+      pages-high = leb-true d 64 (and-1 (leb 1 d) _ g);
+    }
+
+pub range-is : (l d : ℕ) → InRange l d → inRange l d ≡ true
+unfolding inRange
+range-is l d f =
+    simp (le-leb 2 l (f .blocks-low), le-leb l 32 (f .blocks-high), le-leb 1 d (f .pages-low), le-leb d 64 (f .pages-high))
+
+pub fit-of : (s : State) (m c : ℕ) → fits s m c ≡ true → Fit s m c
+unfolding fits
+fit-of s m c e1 =
+    let l = s .blocks in
+    let d = s .pages in
+    let u = usedOf (s .tail) in
+    let q = sequenceOf (s .tail) in
+    let e2 = and-1 (inRange l d) _ e1 in
+    let e3 = and-1 (eqb m (mediumLength l d)) _ e2 in
+    let e4 = and-1 (eqb c (cacheLength d)) _ e3 in
+    let e5 = and-1 (leb (s .slots) (15 * d)) _ e4 in
+    let e6 = and-1 (leb 10 u) _ e5 in
+    let e7 = and-1 (leb u 512) _ e6 in
+    let e8 = and-1 (leb 1 q) _ e7 in
+    let e9 = and-1 (ltb q (2 ^ 48)) _ e8 in
+    let e10 = and-1 (eqb (length (s .tail)) 512) _ e9 in
+    record {
+      range = range-of l d (and-0 (inRange l d) _ e1);
+      medium = eqb-true m (mediumLength l d) (and-0 (eqb m (mediumLength l d)) _ e2);
+      cache = eqb-true c (cacheLength d) (and-0 (eqb c (cacheLength d)) _ e3);
+      slots = leb-true (s .slots) (15 * d) (and-0 (leb (s .slots) (15 * d)) _ e4);
+      tail = record {
+        used-low = leb-true 10 u (and-0 (leb 10 u) _ e5);
+        used-high = leb-true u 512 (and-0 (leb u 512) _ e6);
+        sequence-low = leb-true 1 q (and-0 (leb 1 q) _ e7);
+        sequence-high = ltb-true q (2 ^ 48) (and-0 (ltb q (2 ^ 48)) _ e8);
+        size = eqb-true (length (s .tail)) 512 (and-0 (eqb (length (s .tail)) 512) _ e9);
+      };
+      places = eqb-true (length (s .places)) 64 (and-0 (eqb (length (s .places)) 64) _ e10);
+      first = eqb-true (length (s .first)) 64 (and-1 (eqb (length (s .places)) 64) _ e10);
+    }
+
+pub fit-is : (s : State) (m c : ℕ) → Fit s m c → fits s m c ≡ true
+unfolding fits
+fit-is s m c f =
+    simp (
+      range-is (s .blocks) (s .pages) (f .range),
+      eq-eqb m (mediumLength (s .blocks) (s .pages)) (f .medium),
+      eq-eqb c (cacheLength (s .pages)) (f .cache),
+      le-leb (s .slots) (15 * s .pages) (f .slots),
+      le-leb 10 (usedOf (s .tail)) (f .tail .used-low),
+      le-leb (usedOf (s .tail)) 512 (f .tail .used-high),
+      le-leb 1 (sequenceOf (s .tail)) (f .tail .sequence-low),
+      lt-ltb (sequenceOf (s .tail)) (2 ^ 48) (f .tail .sequence-high),
+      eq-eqb (length (s .tail)) 512 (f .tail .size),
+      eq-eqb (length (s .places)) 64 (f .places),
+      eq-eqb (length (s .first)) 64 (f .first),
+    )
+
+-- ---- the tail once a record is taken
+
+pub empty-fits : (q : ℕ) → 1 ≤ q → q < 2 ^ 48 → TailFit (emptyBlock q)
+empty-fits q lo hi =
+    let e : sequenceOf (emptyBlock q) ≡ q = sequence-emptyBlock q (omega arith) in
+    record {
+      used-low = omega (arith, used-emptyBlock q);
+      used-high = omega (arith, used-emptyBlock q);
+      sequence-low = omega arith;
+      sequence-high = omega arith;
+      size = length-emptyBlock q;
+    }
+
+pub added-fits : (b : List ℕ) (r : Record) → TailFit b → usedOf b + recordSize r ≤ 512 → TailFit (addRecord b r)
+added-fits b r f h =
+    let u : usedOf (addRecord b r) ≡ usedOf b + recordSize r = used-addRecord b r (f .size) h in
+    let q : sequenceOf (addRecord b r) ≡ sequenceOf b = sequence-addRecord b r (omega arith) in
+    record {
+      used-low = omega arith;
+      used-high = omega arith;
+      sequence-low = omega arith;
+      sequence-high = omega arith;
+      size = length-addRecord b r ∙ f .size;
+    }
+
+small : (r : Record) → recordSize r ≤ 33
+unfolding recordSize
+small (version h v) = omega arith
+small (commit p) = omega arith
+
+-- question 8 keeps the next block's sequence below 2^48
+pub logged-fits : (s : State) (m : List ℕ) (r : Record) → TailFit (s .tail) → mayLog s m (recordSize r) ≡ true → TailFit (logged s m r .tail)
+unfolding logged loggedIf mayLog tailFits
+logged-fits s m r f e = go (leb (usedOf (s .tail) + recordSize r) 512) refl e
+  where
+    go : (t : Bool) → leb (usedOf (s .tail) + recordSize r) 512 ≡ t
+        → t || (ltb (sequenceOf (s .tail) + 1) (oldestOn m + s .blocks) && ltb (sequenceOf (s .tail) + 1) (2 ^ 48)) ≡ true
+        → TailFit (loggedIf t s m r .tail)
+    go true t e = added-fits (s .tail) r f (leb-true _ 512 t)
+    go false t e =
+        let q = sequenceOf (s .tail) + 1 in
+        let hi : q < 2 ^ 48 = ltb-true q (2 ^ 48) (and-1 (ltb q (oldestOn m + s .blocks)) _ e) in
+        added-fits (emptyBlock q) r (empty-fits q (omega arith) hi) (omega (arith, used-emptyBlock q, small r))
+
+pub logged-length : (s : State) (m : List ℕ) (r : Record) → length (logged s m r .medium) ≡ length m
+unfolding logged loggedIf storedTail
+logged-length s m r = go (tailFits (s .tail) (recordSize r))
+  where
+    go : (t : Bool) → length (loggedIf t s m r .medium) ≡ length m
+    go true = refl
+    go false = length-put m _ (s .tail)
+
+-- ---- the places keep their number
+
+pub length-settleFrom : (pair : ℕ → Timing) (old : List Place) (page : List ℕ) (ps : List Place) (i k : ℕ)
+    → length (settleFrom pair old page ps i k) ≡ length ps
+unfolding settleFrom
+length-settleFrom pair old page ps i zero = refl
+length-settleFrom pair old page ps i (suc k) = length-settleFrom pair old page _ (i + 1) k ∙ one (stampTime pair _) _
+  where
+    lower : (f : Found) → length (lowerAt f ps) ≡ length ps
+    lower (At j) = length-set ps j _
+    lower Nothing = refl
+
+    one : (t : Timing) (x : Slot) → length (settleWith t x old ps) ≡ length ps
+    one Untimed x = refl
+    one (Timed t) Empty = refl
+    one (Timed t) (Waiting n) = lower (findCommitted old (n .0))
+    one (Timed t) (Stamped u) = refl
+
+-- ---- the first question
+
+-- every call asks first whether state and buffers fit
+first-asked : (m c : List ℕ) (s : State) (k : Call) → asks m c s k ≡ (fits s (length m) (length c), Unfit) ∷ drop 1 (asks m c s k)
+first-asked m c s (begin clock) = refl
+first-asked m c s (write n key v) = refl
+first-asked m c s (erase n key) = refl
+first-asked m c s (current-read n key) = refl
+first-asked m c s (commit-call n clock) = refl
+first-asked m c s (abort n) = refl
+first-asked m c s (as-of key t) = refl
+first-asked m c s (changes key t1 t2 b) = refl
+first-asked m c s store-log = refl
+first-asked m c s (store-page p) = refl
+first-asked m c s checkpoint = refl
+
+module _ (m c : List ℕ) (s : State) where
+  abbrev pub Fitting : Type 0
+  Fitting = Fit s (length m) (length c)
+
+  -- so they fit where all questions are passed, or another one refuses
+  pub passed-fit : (k : Call) → Passed (asks m c s k) → Fitting
+  passed-fit k p = fit-of s _ _ (subst Passed (first-asked m c s k) p .0)
+
+  pub refused-fit : (k : Call) (r : Refusal) → ask (asks m c s k) ≡ some r → (Refused r ≡ Refused Unfit → ⊥) → Fitting
+  refused-fit k r e h = fit-of s _ _ (go (fits s (length m) (length c)) (drop 1 (asks m c s k)) (ap ask (sym (first-asked m c s k)) ∙ e))
+    where
+      go : (b : Bool) (qs : List (Bool × Refusal)) → ask ((b, Unfit) ∷ qs) ≡ some r → b ≡ true
+      go true qs e = refl
+      go false qs e = absurd (h (cc))
+
+  -- ---- the steps
+
+  -- the place of a transaction changes
+  pub place-fits : (i : ℕ) (p : Place) → Fitting → Fit (withPlace s i p) (length m) (length c)
+  unfolding withPlace
+  place-fits i p k = record {
+    range = k .range;
+    medium = k .medium;
+    cache = k .cache;
+    slots = k .slots;
+    tail = k .tail;
+    places = length-set (s .places) i p ∙ k .places;
+    first = k .first;
+  }
+
+  -- the checkpoint goes on
+  pub phase-fits : (ph : Phase) (b : ℕ) (v : List ℕ) → Fitting → Fit (withPhase s ph) (length (put m b v)) (length c)
+  unfolding withPhase
+  phase-fits ph b v k = record {
+    range = k .range;
+    medium = length-put m b v ∙ k .medium;
+    cache = k .cache;
+    slots = k .slots;
+    tail = k .tail;
+    places = k .places;
+    first = k .first;
+  }
+
+abbrev pub Leaves : Outcome → Type 0
+Leaves o = Fit (o .state) (length (o .medium)) (length (o .cache))
+
+-- 7 leaves a slot, and 8 room in the log
+write-fits : (m c : List ℕ) (s : State) (i : ℕ) (h : VersionHead) (v : List ℕ) → Fitting m c s → s .slots < 15 * s .pages
+    → mayLog s m 33 ≡ true → Leaves (writeStep s m c i h v)
+unfolding writeStep written touched recordSize
+write-fits m c s i h v k a b = record {
+  range = k .range;
+  medium = logged-length s m (version h v) ∙ k .medium;
+  cache = length-putVersion c (s .slots) _ _ ∙ k .cache;
+  slots = omega arith;
+  tail = logged-fits s m (version h v) (k .tail) b;
+  places = length-set (s .places) i _ ∙ k .places;
+  first = length-set (s .first) _ _ ∙ k .first;
+}
+
+leaves-way : {m c : List ℕ} {s : State} {k : Call} {o : Outcome} → Way m c s k o → (o .answer ≡ Refused Unfit → ⊥) → Leaves o
+unfolding begun commitStep committed storeLogIf logStored storedTail storePageIf pageStored settled checkpointStep recordSize
+leaves-way {m} {c} {s} (refused k r w) h = refused-fit m c s k r w h
+leaves-way {m} {c} {s} (begins clock i p w) h =
+    let k : Fitting m c s = fit-of s _ _ (p .0) in
+    record {
+      range = k .range;
+      medium = k .medium;
+      cache = k .cache;
+      slots = k .slots;
+      tail = k .tail;
+      places = length-set (s .places) _ _ ∙ k .places;
+      first = k .first;
+    }
+leaves-way {m} {c} {s} (writes n key i v p w) h =
+    write-fits m c s i _ v (fit-of s _ _ (p .0)) (ltb-true _ _ (p .1 .1 .1 .0)) (p .1 .1 .1 .1 .0)
+leaves-way {m} {c} {s} (erases n key i p w) h =
+    write-fits m c s i _ (zeros 16) (fit-of s _ _ (p .0)) (ltb-true _ _ (p .1 .1 .1 .0)) (p .1 .1 .1 .1 .0)
+leaves-way {m} {c} {s} (looks k a v b q p n w) h = passed-fit m c s k p
+leaves-way {m} {c} {s} (commits n clock i p w z) h =
+    let k : Fitting m c s = fit-of s _ _ (p .0) in
+    record {
+      range = k .range;
+      medium = logged-length s m _ ∙ k .medium;
+      cache = k .cache;
+      slots = k .slots;
+      tail = logged-fits s m _ (k .tail) (rw (w, z) at (p .1 .1 .1 .0));
+      places = length-set (s .places) i _ ∙ k .places;
+      first = k .first;
+    }
+leaves-way {m} {c} {s} (ends n clock i p w z) h = place-fits m c s i freePlace (fit-of s _ _ (p .0))
+leaves-way {m} {c} {s} (aborts n i p w) h = place-fits m c s i freePlace (fit-of s _ _ (p .0))
+leaves-way {m} {c} {s} (logs p) h =
+    let k : Fitting m c s = fit-of s _ _ (p .0) in
+    record {
+      range = k .range;
+      medium = length-put m _ _ ∙ k .medium;
+      cache = k .cache;
+      slots = k .slots;
+      tail = k .tail;
+      places = k .places;
+      first = k .first;
+    }
+leaves-way {m} {c} {s} (pages n p) h =
+    let k : Fitting m c s = fit-of s _ _ (p .0) in
+    record {
+      range = k .range;
+      medium = length-put m _ _ ∙ k .medium;
+      cache = length-put c n _ ∙ k .cache;
+      slots = k .slots;
+      tail = k .tail;
+      places = length-settleFrom _ _ _ (s .places) 0 15 ∙ k .places;
+      first = length-set (s .first) n 0 ∙ k .first;
+    }
+leaves-way {m} {c} {s} (checks Idle p w) h = phase-fits m c s _ 1 _ (fit-of s _ _ (p .0))
+leaves-way {m} {c} {s} (checks (FirstStored o t) p w) h = phase-fits m c s _ 2 _ (fit-of s _ _ (p .0))
+leaves-way {m} {c} {s} (checks (SecondStored o t) p w) h = phase-fits m c s _ 0 _ (fit-of s _ _ (p .0))
+
+-- ---- each call
+
+pub call-leaves : (m c : List ℕ) (s : State) (k : Call) → (called m c s k .answer ≡ Refused Unfit → ⊥) → Leaves (called m c s k)
+call-leaves m c s k h = leaves-way (way m c s k) h
+
+pub call-fits : (m c : List ℕ) (s : State) (k : Call) → (called m c s k .answer ≡ Refused Unfit → ⊥)
+    → fits (called m c s k .state) (length (called m c s k .medium)) (length (called m c s k .cache)) ≡ true
+call-fits m c s k h = fit-is _ _ _ (call-leaves m c s k h)

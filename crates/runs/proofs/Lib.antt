@@ -1,0 +1,6 @@
+pub mod Fitting
+pub mod OpenFits
+pub mod Asks
+pub mod Refusals
+pub mod OneBlock
+pub mod Lengths
