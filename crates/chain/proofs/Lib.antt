@@ -1,0 +1,9 @@
+pub mod RoomLaws
+pub mod NewestLaws
+pub mod VersionLaws
+pub mod VisibleLaws
+pub mod BestLaws
+pub mod LineLaws
+pub mod CountLaws
+pub mod WriteLaws
+pub mod AsOf

@@ -1,0 +1,30 @@
+-- `newest::holds` meets its contract: it asks for the record and for a version.
+use Rattle.chain.proofs.NewestLaws.{holds-not, holds-as}
+use borrow.Author.Needs.{needs}
+use Rattle.chain.proofs.newest.holds.Statement.{statement}
+use Rattle.chain.proofs.newest.holds.Tie as tie
+use Rattle.chain.proofs.newest.holds.Reads as reads
+use Rattle.chain.proofs.newest.holds.Lts as lts
+use Rattle.chain.proofs.newest.is_version.Reads as is-version-reads
+use Rattle.chain.proofs.newest.key_at.Reads as key-at-reads
+use Rattle.chain.proofs.newest.state_at.Reads as state-at-reads
+
+key-at-requires : tie.Need-key-at-requires
+key-at-requires c κs = search needs
+
+returns : tie.Need-returns
+returns c = holds-not _ _ _ _ (c .before .key-at .ensures) (c .if1 .taken)
+
+state-at-requires : tie.Need-state-at-requires
+state-at-requires c κs = search needs
+
+is-version-requires : tie.Need-is-version-requires
+is-version-requires c κs = search needs
+
+returns-2 : tie.Need-returns-2
+returns-2 c =
+    holds-as _ _ _ _ _ _ (c .before .before .before .key-at .ensures) (c .before .before .if1 .left) (c .before .state-at .ensures) (c .is-version .ensures)
+
+pub holds-spec : {M : Type 1} → statement M
+holds-spec =
+    tie.close (tie.spec key-at-requires returns state-at-requires is-version-requires returns-2)

@@ -1,0 +1,31 @@
+-- `visible::find` meets its contract: it searches from the head, if there is one.
+use Rattle.store.specs.Chain.{visibleOf}
+use Rattle.chain.proofs.RoomLaws.{head-at}
+use borrow.Author.Needs.{needs}
+use Rattle.chain.proofs.visible.find.Statement.{statement}
+use Rattle.chain.proofs.visible.find.Tie as tie
+use Rattle.chain.proofs.visible.find.Reads as reads
+use Rattle.chain.proofs.visible.find.Lts as lts
+use Rattle.chain.proofs.visible.find_from.Reads as find-from-reads
+
+enum-known-head : tie.Need-enum-known-head
+enum-known-head c = search needs
+
+find-from-requires : tie.Need-find-from-requires
+find-from-requires c κs =
+    let p = c .before .before .before .before .before .pre in
+    (head-at _ _ _ (c .before .head .given .1) (p .0), p .1)
+
+enum-told : tie.Need-enum-told
+enum-told c = search needs
+
+returns : tie.Need-returns
+unfolding visibleOf
+returns c = simp (c .before .before .head .given .1, c .find-from .ensures)
+
+returns-2 : tie.Need-returns-2
+unfolding visibleOf
+returns-2 c = simp (c .enum-told .given .1)
+
+pub find-spec : {M : Type 1} → statement M
+find-spec = tie.close (tie.spec enum-known-head find-from-requires enum-told returns returns-2)

@@ -1,0 +1,79 @@
+-- `find_committed` meets its contract: the search from place i on finds what the search from place 0 on finds.
+use mathlib.Core.Path.{refl, _≡_, sym, _∙_}
+use mathlib.Core.Bool.{Bool}
+use mathlib.Core.List.{List}
+use Prim.Native.Nat.{ℕ, _-_}
+use native.Mathlib.Omega.{arith}
+use borrow.Author.Needs.{needs}
+use Rattle.store.specs.declared.Place.{Place}
+use Rattle.store.specs.Places.{first, placeAt, committedAs, findCommitted}
+use Rattle.live.proofs.FirstLaws.{first-hit, first-miss, first-none}
+use Rattle.live.proofs.find_committed.Statement.{statement}
+use Rattle.live.proofs.find_committed.Tie as tie
+use Rattle.live.proofs.find_committed.Reads as reads
+use Rattle.live.proofs.find_committed.Lts as lts
+use Rattle.live.proofs.is_committed.Reads as is-committed-reads
+
+-- the test at place i
+abbrev passes : List Place → ℕ → ℕ → Bool
+passes places n i = committedAs (placeAt places i .life) n
+
+abbrev Inv-loop : tie.InvT-loop
+Inv-loop n places i₀ i = first (passes places n) (64 - i) i ≡ first (passes places n) 64 0
+
+abbrev μ-loop : tie.MeasureT-loop
+μ-loop n places i₀ i = 64 - i
+
+loop-holds : tie.Need-loop-holds Inv-loop μ-loop
+loop-holds c = refl
+
+mul-is-committed : tie.Need-mul-is-committed Inv-loop μ-loop
+mul-is-committed c = omega arith
+
+array-copy-out-is-committed : tie.Need-array-copy-out-is-committed Inv-loop μ-loop
+array-copy-out-is-committed c = search needs
+
+is-committed-requires : tie.Need-is-committed-requires Inv-loop μ-loop
+is-committed-requires c κs = search needs
+
+returns : tie.Need-returns Inv-loop μ-loop
+unfolding findCommitted placeAt
+returns c =
+    let k = c .before .before .before .before in
+    sym (first-hit (passes (k .before .args .t1) (k .before .args .n)) 64 (k .loop .i) _ (c .before .before .before .loop-test .taken) (c .before .is-committed .ensures) (c .if1 .taken))
+    ∙ k .loop .inv
+
+add-i : tie.Need-add-i Inv-loop μ-loop
+add-i c = omega arith
+
+loop-less : tie.Need-loop-less Inv-loop μ-loop
+loop-less c = omega arith
+
+loop-again : tie.Need-loop-again Inv-loop μ-loop
+unfolding placeAt
+loop-again c =
+    let k = c .before .before .before .before in
+    first-miss (passes (k .before .args .t1) (k .before .args .n)) 64 (k .loop .i) _ (c .before .before .before .loop-test .taken) (c .before .is-committed .ensures) (c .if1 .left)
+    ∙ k .loop .inv
+
+returns-2 : tie.Need-returns-2 Inv-loop μ-loop
+unfolding findCommitted
+returns-2 c =
+    let k = c .before in
+    sym (first-none (passes (k .before .args .t1) (k .before .args .n)) 64 (k .loop .i) (c .loop-test .left)) ∙ k .loop .inv
+
+pub find-committed-spec : {M : Type 1} → statement M
+find-committed-spec =
+    tie.close
+    (tie.spec
+    Inv-loop
+    μ-loop
+    loop-holds
+    mul-is-committed
+    array-copy-out-is-committed
+    is-committed-requires
+    returns
+    add-i
+    loop-less
+    loop-again
+    returns-2)
