@@ -18,3 +18,4 @@ pub mod JournalLaws
 pub mod TableLaws
 pub mod MasterLaws
 pub mod CacheLaws
+pub mod HalfLaws

@@ -25,13 +25,6 @@ pub fn get(s: &[u8]) -> u64
     v
 }
 
-pub fn get8(s: &[u8], at: usize) -> u64
-    requires { ⌜ at + 8 ≤ length (now s) ⌝ }
-    ensures { λ r. ⌜ r ≡ dec (part (now (s .entry)) at 8) ⌝ }
-{
-    get(&s[at..at + 8])
-}
-
 // Writes n into the whole slice.
 pub fn put(s: &mut [u8], n: u64)
     ensures { λ _. ⌜ now (s .exit) ≡ enc (length (now (s .entry))) n ⌝ }
@@ -45,23 +38,48 @@ pub fn put(s: &mut [u8], n: u64)
     }
 }
 
+// The fields of 2, 4 and 8 bytes, each of two halves, so that the compiler makes a single load of it.
 pub fn get2(s: &[u8], at: usize) -> u64
     requires { ⌜ at + 2 ≤ length (now s) ⌝ }
     ensures { λ r. ⌜ r ≡ dec (part (now (s .entry)) at 2) ⌝ }
 {
-    get(&s[at..at + 2])
+    wide(s[at]) + 256 * wide(s[at + 1])
 }
 
-pub fn put8(s: &mut [u8], at: usize, n: u64)
-    requires { ⌜ at + 8 ≤ length (now s) ⌝ }
-    ensures { λ _. ⌜ now (s .exit) ≡ splice (now (s .entry)) at (enc 8 n) ⌝ }
+fn get4(s: &[u8], at: usize) -> u64
+    requires { ⌜ at + 4 ≤ length (now s) ⌝ }
+    ensures { λ r. ⌜ r ≡ dec (part (now (s .entry)) at 4) ⌝ }
 {
-    put(&mut s[at..at + 8], n);
+    get2(s, at) + 65536 * get2(s, at + 2)
+}
+
+pub fn get8(s: &[u8], at: usize) -> u64
+    requires { ⌜ at + 8 ≤ length (now s) ⌝ }
+    ensures { λ r. ⌜ r ≡ dec (part (now (s .entry)) at 8) ⌝ }
+{
+    get4(s, at) + 4294967296 * get4(s, at + 4)
 }
 
 pub fn put2(s: &mut [u8], at: usize, n: u64)
     requires { ⌜ at + 2 ≤ length (now s) ⌝ }
     ensures { λ _. ⌜ now (s .exit) ≡ splice (now (s .entry)) at (enc 2 n) ⌝ }
 {
-    put(&mut s[at..at + 2], n);
+    s[at] = (n % 256) as u8;
+    s[at + 1] = (n / 256 % 256) as u8;
+}
+
+fn put4(s: &mut [u8], at: usize, n: u64)
+    requires { ⌜ at + 4 ≤ length (now s) ⌝ }
+    ensures { λ _. ⌜ now (s .exit) ≡ splice (now (s .entry)) at (enc 4 n) ⌝ }
+{
+    put2(s, at, n);
+    put2(s, at + 2, n / 65536);
+}
+
+pub fn put8(s: &mut [u8], at: usize, n: u64)
+    requires { ⌜ at + 8 ≤ length (now s) ⌝ }
+    ensures { λ _. ⌜ now (s .exit) ≡ splice (now (s .entry)) at (enc 8 n) ⌝ }
+{
+    put4(s, at, n);
+    put4(s, at + 4, n / 4294967296);
 }

@@ -24,6 +24,7 @@ use Rattle.store.specs.declared.Phase.{Phase}
 use Rattle.store.specs.declared.Refusal.{Refusal}
 use Rattle.store.specs.declared.State.{State}
 use Rattle.store.specs.Answer.{Outcome, leaves, ask}
+use Rattle.store.proofs.AskLaws.{Passed, passed}
 use Rattle.store.specs.Places.{isAt, findActive, findFree, freePlace, placeAt, ringPlace, timeUnder}
 use Rattle.store.specs.State.{withPlace}
 use Rattle.store.specs.Chain.{newest, cellAt, visibleOf, bestOf}
@@ -39,21 +40,6 @@ use Rattle.store.specs.StorePage.{storePageAsks, storePageIf, storePageOf}
 use Rattle.store.specs.Checkpoint.{checkpointAsks, checkpointStep, checkpointIf, checkpointOf}
 use Rattle.runs.specs.Event.{Call, begin, write, erase, current-read, commit, abort, as-of, changes, store-log, store-page, checkpoint}
 use Rattle.runs.specs.Machine.{called}
-
--- ---- all "yes"
-
-abbrev pub Passed : List (Bool × Refusal) → Type 0
-Passed [] = Unit {0}
-Passed (q ∷ qs) = (q .0 ≡ true) × Passed qs
-
-pub passed : (qs : List (Bool × Refusal)) → ask qs ≡ none → Passed qs
-passed [] e = tt
-passed ((true, r) ∷ qs) e = (refl, passed qs e)
-passed ((false, r) ∷ qs) e = let z : _≡_ {A = ℕ} 0 1 = cc in absurd (omega arith)
-
-pub passes : (qs : List (Bool × Refusal)) → Passed qs → ask qs ≡ none
-passes [] p = refl
-passes (q ∷ qs) p = rw (p .0) (passes qs (p .1))
 
 -- ---- the first "no": those before it are "yes"
 

@@ -42,7 +42,8 @@ use Rattle.store.specs.StorePage.{stampTime, lowerAt, settleWith, settleFrom, s
 use Rattle.store.specs.Checkpoint.{checkpointStep}
 use Rattle.runs.specs.Event.{Call, begin, write, erase, current-read, commit as commit-call, abort, as-of, changes, store-log, store-page, checkpoint}
 use Rattle.runs.specs.Machine.{called}
-use Rattle.runs.proofs.Asks.{Passed, asks, Way, refused, begins, writes, erases, looks, commits, ends, aborts, logs, pages, checks, way}
+use Rattle.store.proofs.AskLaws.{Passed}
+use Rattle.runs.proofs.Asks.{asks, Way, refused, begins, writes, erases, looks, commits, ends, aborts, logs, pages, checks, way}
 
 -- ---- question 16 as facts
 

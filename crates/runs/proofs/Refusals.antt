@@ -28,7 +28,8 @@ use Rattle.store.specs.OpenConditions.{wellFormed, redone}
 use Rattle.store.specs.Format.{formatAsks, formatIf, formatOf}
 use Rattle.runs.specs.Event.{Call, begin, write, erase, current-read, commit, abort, as-of, changes, store-log, store-page, checkpoint}
 use Rattle.runs.specs.Machine.{called}
-use Rattle.runs.proofs.Asks.{Passed, passes, asked, isRefused, not-refused, asks, given, isReading, Way, refused, begins, writes, erases, looks, commits, ends, aborts, logs, pages, checks, way}
+use Rattle.store.proofs.AskLaws.{Passed, passes}
+use Rattle.runs.proofs.Asks.{asked, isRefused, not-refused, asks, given, isReading, Way, refused, begins, writes, erases, looks, commits, ends, aborts, logs, pages, checks, way}
 
 -- ---- a refused call
 

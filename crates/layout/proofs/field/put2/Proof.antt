@@ -1,35 +1,34 @@
-use Rattle.layout.proofs.FieldLaws.{put-back}
+-- `field::put2` meets its contract: the low byte and then the high one.
+use native.Mathlib.Omega.{arith}
+use lib.ListN.{length-set}
+use Rattle.layout.proofs.HalfLaws.{put-pair}
 use borrow.Author.Needs.{needs}
 use Rattle.layout.proofs.field.put2.Statement.{statement}
 use Rattle.layout.proofs.field.put2.Tie as tie
 use Rattle.layout.proofs.field.put2.Reads as reads
 use Rattle.layout.proofs.field.put2.Lts as lts
-use Rattle.layout.proofs.field.put.Reads as put-reads
 
-add-put : tie.Need-add-put
-add-put c = search needs
+cast-s : tie.Need-cast-s
+cast-s c = search needs
 
-sub-put : tie.Need-sub-put
-sub-put c = search needs
+slice-write-s : tie.Need-slice-write-s
+slice-write-s c = search needs
 
-part-put-start : tie.Need-part-put-start
-part-put-start c = search needs
+cast-s-2 : tie.Need-cast-s-2
+cast-s-2 c = search needs
 
-part-put-end : tie.Need-part-put-end
-part-put-end c = search needs
+add-s : tie.Need-add-s
+add-s c = search needs
 
-put-requires : tie.Need-put-requires
-put-requires c κs = search needs
+slice-write-s-2 : tie.Need-slice-write-s-2
+slice-write-s-2 c = simp length-set (omega arith)
 
 same-length : tie.Need-same-length
-same-length c = search needs
+same-length c = simp (length-set, length-set)
 
 returns : tie.Need-returns
-returns c =
-    let k = c .before .before in
-    put-back _ _ _ 2 _ (k .before .before .before .pre) (k .put .kept .0) (k .put .ensures)
+returns c = put-pair _ (c .args .at) (c .args .n)
 
 pub put2-spec : {M : Type 1} → statement M
 put2-spec =
-    tie.close
-    (tie.spec add-put sub-put part-put-start part-put-end put-requires same-length returns)
+    tie.close (tie.spec cast-s slice-write-s cast-s-2 add-s slice-write-s-2 same-length returns)

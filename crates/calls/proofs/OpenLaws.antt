@@ -1,0 +1,64 @@
+-- What open leaves, by the question that refuses it or by what the survey found. By the definition of the call; assumes nothing.
+use mathlib.Core.Path.{_≡_, sym, _∙_}
+use mathlib.Core.Bool.{Bool, true, false, _&&_}
+use Prim.Native.Nat.{ℕ, _*_}
+use mathlib.Core.List.{List}
+use lib.ListN.{length}
+use lib.Dec.{eqb}
+use borrow.Author.Tests.{eqb-true, eq-eqb, ne-eqb}
+use Rattle.layout.specs.Block.{zeros, mediumLength, cacheLength}
+use Rattle.layout.proofs.Choose.{and-0, and-1}
+use Rattle.store.specs.declared.Answer.the-variants.{Refused, Opened}
+use Rattle.store.specs.declared.Ended.{Ended}
+use Rattle.store.specs.declared.Refusal.{Refusal}
+use Rattle.store.specs.declared.Refusal.the-variants.{BadSizes, BadCache, Malformed}
+use Rattle.store.specs.declared.State.{State}
+use Rattle.store.specs.Answer.{refusalNumber, leaves, refuses}
+use Rattle.store.specs.State.{inRange, noState}
+use Rattle.store.specs.OpenLog.{lastTime}
+use Rattle.store.specs.OpenConditions.{wellFormed, redone}
+use Rattle.store.specs.Open.{openedState, refusedCache, openIf, openOf}
+use Rattle.live.proofs.FitLaws.{Range, range-facts}
+use Rattle.opening.specs.Cursor.{Ready}
+
+-- a refusal with the state of zeros
+pub ended-is : (m c : List ℕ) (r : Ended) (s : State) (why : Refusal) → r ≡ record { answer = Refused why; state = s } → s ≡ noState
+    → leaves (r .answer) (r .state) m c ≡ refuses why noState m c
+ended-is m c r s why e f = rw (e, f)
+
+-- t is what was found of the sizes
+module _ (m c : List ℕ) (l d : ℕ) (t : Bool) (sizes : t ≡ inRange l d && eqb (length m) (mediumLength l d)) where
+  pub bad-sizes : t ≡ false → refuses BadSizes noState m c ≡ openOf m c l d
+  unfolding openOf openIf refusedCache refusalNumber
+  bad-sizes e = sym (rw (← sizes, e))
+
+  module _ (right : t ≡ true) where
+    sized : inRange l d && eqb (length m) (mediumLength l d) ≡ true
+    sized = sym sizes ∙ right
+
+    pub range : Range l d
+    range = range-facts l d (and-0 (inRange l d) (eqb (length m) (mediumLength l d)) sized)
+
+    pub medium-is : length m ≡ mediumLength l d
+    medium-is = eqb-true (length m) (mediumLength l d) (and-1 (inRange l d) (eqb (length m) (mediumLength l d)) sized)
+
+    pub ready : Ready l (length m)
+    ready = record { low = range .low; high = range .high; pages = d; few = range .pages; medium = medium-is }
+
+    pub bad-cache : (length c ≡ cacheLength d → ⊥) → refuses BadCache noState m c ≡ openOf m c l d
+    unfolding openOf openIf refusedCache refusalNumber
+    bad-cache n = sym (rw (sized, ne-eqb (length c) (cacheLength d) n))
+
+    module _ (fits : length c ≡ cacheLength d) where
+      pub cache-is : length c ≡ 512 * d
+      unfolding cacheLength
+      cache-is = fits
+
+      pub bad-medium : wellFormed m l d ≡ false → (z : List ℕ) → z ≡ zeros (length c) → refuses Malformed noState m z ≡ openOf m c l d
+      unfolding openOf openIf refusedCache refusalNumber
+      bad-medium w z e = sym (rw (sized, eq-eqb (length c) (cacheLength d) fits, w, e))
+
+      pub opens : wellFormed m l d ≡ true → (s : State) (last : ℕ) (k : List ℕ) → s ≡ openedState m l d → last ≡ lastTime m l → k ≡ redone m l d .cache
+          → leaves (Opened (record { 0 = last })) s m k ≡ openOf m c l d
+      unfolding openOf openIf
+      opens w s last k e f g = sym (rw (sized, eq-eqb (length c) (cacheLength d) fits, w, e, f, g))

@@ -1,0 +1,196 @@
+-- What a survey finds: each finding is one part of "well formed", and a survey that finds all of them in order has what the
+-- state is made of. By the definitions; assumes nothing.
+use mathlib.Core.Path.{_≡_, refl, sym, ap, _∙_}
+use mathlib.Core.Bool.{Bool, true, false, _&&_}
+use Prim.Native.Nat.{ℕ, _*_, _≤_, _<_, _^_, max}
+use native.Mathlib.Omega.{arith}
+use mathlib.Core.List.{List, []}
+use Rattle.layout.specs.Field.{dec}
+use Rattle.layout.specs.Part.{part}
+use Rattle.layout.specs.Master.{oldestOn}
+use Rattle.layout.proofs.Choose.{and-0, and-1}
+use Rattle.store.specs.OpenLog.{nextOn, timeOn, aboveAll, latest, readCount, readLog, readTail, nextNumber, lastTime}
+use Rattle.store.specs.OpenRedo.{Redone, pagesOn, untouched, redo, usedIn}
+use Rattle.store.specs.OpenPairs.{waitingNumbers, isPaired, openPlaces}
+use Rattle.store.specs.Open.{openedState}
+use Rattle.store.specs.declared.Place.{Place}
+use Rattle.store.specs.declared.Phase.the-variants.{Idle}
+use Rattle.store.specs.OpenConditions.{fullBefore, copied, redone, wellFormed}
+use Rattle.opening.specs.declared.cursor.Cursor.{Cursor}
+use Rattle.opening.specs.declared.waiting.Numbers.{Numbers}
+use Rattle.opening.specs.declared.survey.Survey.{Survey}
+use Rattle.opening.specs.declared.survey.LogFound.{LogFound}
+use Rattle.opening.specs.declared.survey.LogFound.the-variants.{Good, Bad}
+use Rattle.opening.specs.Cursor.{Valid, restOf}
+use Rattle.opening.specs.Lookup.{slotsBelow, Collected, Surveyed, ReadGood, ReadAs}
+use Rattle.opening.specs.Passes.{allOf, pageOk, redoOk, logOk, placeOk, masterOk, blocksOk, slotOk, tableAndSlots, cacheOk, mediumOk, passes}
+use Rattle.opening.proofs.BlockPasses.{never, blocks-slots}
+use Rattle.opening.proofs.CursorLaws.{rest-block, matching-low}
+use Rattle.opening.proofs.FormedLaws.{formed}
+use Rattle.opening.proofs.SurveyLaws.{oldest-low}
+
+-- ---- the table, the pages and the slots of the cache: t, f and s are what was found of them
+
+full-same : (m : List ℕ) (l d : ℕ) (c : List ℕ) → allOf (fullBefore [] 0 d c) 0 d ≡ allOf (fullBefore m l d c) 0 d
+unfolding fullBefore
+full-same m l d c = refl
+
+module _ (m : List ℕ) (l d : ℕ) (c : List ℕ) (next last : ℕ) (next-is : next ≡ nextNumber m l) (last-is : last ≡ lastTime m l) (t : Bool) (table : t ≡ allOf (placeOk m next last) 0 64) where
+  table-is : allOf (placeOk m (nextNumber m l) (lastTime m l)) 0 64 ≡ t
+  table-is = sym (rw (next-is, last-is) at table)
+
+  pub no-table : t ≡ false → false ≡ tableAndSlots m l d c
+  unfolding tableAndSlots
+  no-table e = sym (rw (table-is, e))
+
+  module _ (in-table : t ≡ true) (f : Bool) (full : f ≡ allOf (fullBefore [] 0 d c) 0 d) where
+    full-is : allOf (fullBefore m l d c) 0 d ≡ f
+    full-is = sym (full ∙ full-same m l d c)
+
+    pub not-full : f ≡ false → false ≡ tableAndSlots m l d c
+    unfolding tableAndSlots
+    not-full e = sym (rw (table-is, in-table, full-is, e))
+
+    pub slots-left : f ≡ true → (s : Bool) → s ≡ allOf (slotOk m l d c) 0 (15 * d) → s ≡ tableAndSlots m l d c
+    unfolding tableAndSlots
+    slots-left e s g = sym (rw (table-is, in-table, full-is, e, ← g))
+
+-- ---- a medium that is not well formed: `ok` is the survey's answer
+
+pub refused : {A : Type 0} (ok w : Bool) → ok ≡ false → w ≡ false → (ok ≡ w) × (ok ≡ true → A)
+refused ok w e f = (e ∙ sym f, λ t. never (sym e ∙ t))
+
+pub found-good : (m : List ℕ) (l d : ℕ) (r : LogFound) (log : Cursor) (e : ℕ) → ReadAs m l d r → r ≡ Good log e → ReadGood m l d log e
+found-good m l d r log e h f = rw f at h
+
+pub found-bad : (m : List ℕ) (l d : ℕ) (r : LogFound) → ReadAs m l d r → r ≡ Bad → wellFormed m l d ≡ false
+unfolding passes
+found-bad m l d r h f = let e : mediumOk m l d ≡ false = rw f at h in formed m l d ∙ rw e
+
+-- ---- the log that was read
+
+module _ (m : List ℕ) (l d : ℕ) (log : Cursor) (end : ℕ) (good : ReadGood m l d log end) where
+  master-good : masterOk m l d ≡ true
+  unfolding mediumOk
+  master-good = and-0 (masterOk m l d) (blocksOk m l d 0 (oldestOn m) (readCount m l) && allOf (pageOk m l d) 0 d) (good .ok)
+
+  blocks-good : blocksOk m l d 0 (oldestOn m) (readCount m l) ≡ true
+  unfolding mediumOk
+  blocks-good =
+      let a = blocksOk m l d 0 (oldestOn m) (readCount m l) in
+      let b = allOf (pageOk m l d) 0 d in
+      and-0 a b (and-1 (masterOk m l d) (a && b) (good .ok))
+
+  pub read-rest : restOf m l log ≡ readLog m l
+  unfolding restOf readLog
+  read-rest = rw (good .sequence, good .at, good .left) (rest-block m l (oldestOn m) (readCount m l))
+
+  pub read-valid : l ≤ 32 → Valid log
+  unfolding readCount
+  read-valid h =
+      let s : log .sequence < 2 ^ 48 = rw (good .sequence) (oldest-low m l d master-good) in
+      let k : log .left ≤ l = rw (good .left) (matching-low m l (oldestOn m) l) in
+      let a : log .at ≡ 10 = good .at in
+      record { from = omega arith; upTo = omega arith; blocks = omega arith; below = omega arith }
+
+  pub read-slots : slotsBelow d (restOf m l log) ≡ true
+  unfolding readLog
+  read-slots = rw read-rest (blocks-slots m l d 0 (oldestOn m) (readCount m l) blocks-good)
+
+  pub next-found : (a above n : ℕ) → a ≡ dec (part m 24 8) → above ≡ aboveAll (restOf m l log) → n ≡ max a above → n ≡ nextNumber m l
+  unfolding nextNumber nextOn
+  next-found a above n e f g = g ∙ rw (e, f, read-rest)
+
+  pub last-found : (a late n : ℕ) → a ≡ dec (part m 35 8) → late ≡ latest (restOf m l log) → n ≡ max a late → n ≡ lastTime m l
+  unfolding lastTime timeOn
+  last-found a late n e f g = g ∙ rw (e, f, read-rest)
+
+  -- redo, from the cache `before` to the cache `c`
+  module _ (before c : List ℕ) (pages : before ≡ pagesOn m l d) (ok : Bool) (first : List ℕ)
+      (run : (ok ≡ redoOk (record { cache = before; first = untouched }) (restOf m l log))
+      × (ok ≡ true → record { cache = c; first = first } ≡ redo (record { cache = before; first = untouched }) (restOf m l log))) where
+    redo-is : redoOk (copied m l d) (readLog m l) ≡ ok
+    unfolding copied
+    redo-is = sym (rw (pages, read-rest) at (run .0))
+
+    pub not-redone : ok ≡ false → wellFormed m l d ≡ false
+    unfolding passes
+    not-redone e = formed m l d ∙ rw (good .ok, redo-is, e)
+
+    module _ (did : ok ≡ true) where
+      redone-is : record { cache = c; first = first } ≡ redone m l d
+      unfolding redone copied
+      redone-is = rw (pages, read-rest) at (run .1 did)
+
+      cache-is : c ≡ redone m l d .cache
+      cache-is = ap (λ (r : Redone). r .cache) redone-is
+
+      passes-is : wellFormed m l d ≡ cacheOk m l d c
+      unfolding passes
+      passes-is = formed m l d ∙ rw (good .ok, redo-is, did, ← cache-is)
+
+      -- the records
+      module _ (logged : Bool) (above late : ℕ)
+          (tally : (logged ≡ logOk m [] (restOf m l log)) × (logged ≡ true → (above ≡ aboveAll (restOf m l log)) × (late ≡ latest (restOf m l log)))) where
+        log-is : logOk m [] (readLog m l) ≡ logged
+        log-is = sym (rw read-rest at (tally .0))
+
+        pub not-logged : logged ≡ false → wellFormed m l d ≡ false
+        unfolding cacheOk
+        not-logged e = passes-is ∙ rw (log-is, e)
+
+        module _ (fine : logged ≡ true) where
+          -- table, pages and slots
+          module _ (kept : Bool) (judged : kept ≡ tableAndSlots m l d c) where
+            pub not-kept : kept ≡ false → wellFormed m l d ≡ false
+            unfolding cacheOk
+            not-kept e = passes-is ∙ rw (log-is, fine, ← judged, e)
+
+            -- the numbers that wait
+            module _ (keeps : kept ≡ true) (numbers : Numbers) (waiting : Collected (waitingNumbers c (isPaired m (restOf m l log)) (15 * d)) numbers) where
+              waits : Collected (waitingNumbers c (isPaired m (readLog m l)) (15 * d)) numbers
+              waits = rw read-rest at waiting
+
+              pub few-is : wellFormed m l d ≡ numbers .ok
+              unfolding cacheOk
+              few-is = passes-is ∙ rw (log-is, fine, ← judged, keeps, ← (waits .few))
+
+              pub surveyed : (next last : ℕ) → l ≤ 32 → next ≡ nextNumber m l → last ≡ lastTime m l → numbers .ok ≡ true
+                  → Surveyed m l d c (record { ok = true; log = log; next = next; last = last; end = end; first = first; numbers = numbers })
+              surveyed next last h e f g = record {
+                cache = cache-is;
+                log = read-rest;
+                valid = read-valid h;
+                oldest = good .sequence;
+                blocks = good .left;
+                next = e;
+                last = f;
+                end = good .end;
+                first = ap (λ (r : Redone). r .first) redone-is;
+                numbers = waits;
+                few = g;
+              }
+
+-- ---- the state of what was found
+
+module _ (m : List ℕ) (l d : ℕ) (c : List ℕ) (r : Survey) (found : Surveyed m l d c r) where
+  pub numbers-rest : Collected (waitingNumbers c (isPaired m (restOf m l (r .log))) (15 * d)) (r .numbers)
+  numbers-rest = rw (found .log) (found .numbers)
+
+  pub opened-is : (slots : ℕ) (tail : List ℕ) (places : List Place) → slots ≡ usedIn c d → tail ≡ readTail m l → places ≡ openPlaces m (restOf m l (r .log)) c (15 * d)
+      → record {
+        blocks = l;
+        pages = d;
+        slots = slots;
+        next = record { 0 = r .next };
+        last = record { 0 = r .last };
+        saved = record { 0 = r .last };
+        end = record { 0 = r .end };
+        tail = tail;
+        places = places;
+        ring = 0;
+        first = r .first;
+        phase = Idle;
+      } ≡ openedState m l d
+  unfolding openedState
+  opened-is slots tail places e f g = rw (e, f, g, found .log, found .next, found .last, found .end, found .first, found .cache)

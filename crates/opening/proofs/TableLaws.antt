@@ -1,0 +1,118 @@
+-- The pair table: the search for a number's place, and what is asked of a place. Assumes nothing.
+use mathlib.Core.Path.{_≡_, refl, sym, ap, _∙_}
+use mathlib.Core.Bool.{Bool, true, false, cond, not}
+use mathlib.Core.Option.{Option, none, some}
+use mathlib.Core.List.{List}
+use Prim.Native.Nat.{ℕ, _+_, _-_, _≤_, _<_}
+use native.Mathlib.Omega.{arith}
+use lib.Dec.{eqb}
+use borrow.Author.Tests.{eq-eqb, ne-eqb, lt-ltb, le-ltb, le-leb, lt-leb}
+use Rattle.layout.specs.Block.{mediumLength}
+use Rattle.layout.specs.Table.{tablePair}
+use Rattle.layout.specs.declared.item.Pair.{Pair}
+use Rattle.layout.specs.declared.CommitTime.{CommitTime}
+use Rattle.layout.specs.declared.EndPlace.{EndPlace}
+use Rattle.store.specs.declared.Found.{Found as Finding}
+use Rattle.store.specs.declared.Found.the-variants.{At, Nothing}
+use Rattle.store.specs.declared.Timing.the-variants.{Timed, Untimed}
+use Rattle.store.specs.Places.{first, isAt}
+use Rattle.store.specs.OpenLog.{Placed, Commitment, commitUnder}
+use Rattle.store.specs.OpenPairs.{tableFind, pairTime}
+use Rattle.live.proofs.FirstLaws.{first-hit, first-miss, first-below}
+use Rattle.opening.specs.declared.log.Match.{Match}
+use Rattle.opening.specs.declared.log.Match.the-variants.{Found, Absent}
+use Rattle.opening.specs.Cursor.{Ready}
+use Rattle.opening.specs.Lookup.{matchOf}
+use Rattle.opening.specs.Passes.{placeOk}
+
+-- does place i hold the number?
+abbrev pub numbered : List ℕ → ℕ → ℕ → Bool
+numbered m n i = eqb (tablePair m i .number .0) n
+
+-- a medium of right length has the table
+pub ready-table : (l n : ℕ) → Ready l n → 1536 ≤ n
+unfolding mediumLength
+ready-table l n r = rw (r .medium) (omega (arith, r .low))
+
+-- the search up to k, p the pair that was read at i
+module _ (m : List ℕ) (n k i : ℕ) (p : Pair) (below : i < k) (read : p ≡ tablePair m i) where
+  number-is : eqb (p .number .0) n ≡ numbered m n i
+  number-is = ap (λ (q : Pair). eqb (q .number .0) n) read
+
+  pub pair-hit : p .number .0 ≡ n → first (numbered m n) (k - i) i ≡ At i
+  pair-hit e = first-hit (numbered m n) k i _ below number-is (eq-eqb _ _ e)
+
+  pub pair-miss : (p .number .0 ≡ n → ⊥) → first (numbered m n) (k - (i + 1)) (i + 1) ≡ first (numbered m n) (k - i) i
+  pair-miss e = first-miss (numbered m n) k i _ below number-is (ne-eqb _ _ e)
+
+-- the place of a number
+pub find-none : (m : List ℕ) (n : ℕ) → n ≡ 0 → tableFind m n ≡ Nothing
+unfolding tableFind
+find-none m n e = simp e
+
+pub find-some : (m : List ℕ) (n : ℕ) → (n ≡ 0 → ⊥) → tableFind m n ≡ first (numbered m n) 64 0
+unfolding tableFind
+find-some m n e = simp (ne-eqb _ _ e)
+
+-- by which case a choice came to a value
+chosen : {A : Type 0} {B : Type 0} (b : Bool) {x y z : A} → cond b x y ≡ z → (x ≡ z → B) → (y ≡ z → B) → B
+chosen true e f g = f e
+chosen false e f g = g e
+
+pub found-below : (m : List ℕ) (n i : ℕ) → tableFind m n ≡ At i → i < 64
+unfolding tableFind
+found-below m n i e =
+    chosen (eqb n 0) e (λ (r : _≡_ {A = Finding} Nothing (At i)). let z : _≡_ {A = ℕ} 0 1 = cc in absurd (omega arith))
+    (λ r. first-below (numbered m n) 64 0 i r .1)
+
+-- what was looked for in the log
+pub match-some : (o : Option Commitment) (t : CommitTime) (e : EndPlace) → Found t e ≡ matchOf o → o ≡ some (record { time = t .0; end = e .0 })
+unfolding matchOf
+match-some none t e q = let z : _≡_ {A = ℕ} 0 1 = cc in absurd (omega arith)
+match-some (some y) t e q =
+    let a : t ≡ record { 0 = y .time } = cc in
+    let b : e ≡ record { 0 = y .end } = cc in
+    rw (a, b)
+
+pub match-none : (o : Option Commitment) → Absent ≡ matchOf o → o ≡ none
+unfolding matchOf
+match-none none q = refl
+match-none (some y) q = let z : _≡_ {A = ℕ} 0 1 = cc in absurd (omega arith)
+
+-- a number's time: the table's, else that of a commitment of the log
+module _ (m : List ℕ) (log : List Placed) (n : ℕ) (f : Finding) (found : f ≡ tableFind m n) where
+  pub time-found : (i : ℕ) (p : Pair) → f ≡ At i → p ≡ tablePair m i → Timed (p .time) ≡ pairTime m log n
+  unfolding pairTime
+  time-found i p e r = simp (← found, e, r)
+
+  pub time-logged : (t : CommitTime) (e : EndPlace) (x : Match) → f ≡ Nothing → x ≡ matchOf (commitUnder log n) → x ≡ Found t e → Timed t ≡ pairTime m log n
+  unfolding pairTime
+  time-logged t e x g h k = simp (← found, g, match-some (commitUnder log n) t e (sym k ∙ h))
+
+  pub time-none : (x : Match) → f ≡ Nothing → x ≡ matchOf (commitUnder log n) → x ≡ Absent → Untimed ≡ pairTime m log n
+  unfolding pairTime
+  time-none x g h k = simp (← found, g, match-none (commitUnder log n) (sym k ∙ h))
+
+-- what is asked of place i, p the pair that was read there
+module _ (m : List ℕ) (next last i : ℕ) (p : Pair) (read : p ≡ tablePair m i) where
+  pub place-empty : p .number .0 ≡ 0 → placeOk m next last i ≡ eqb (p .time .0) 0
+  unfolding placeOk
+  place-empty e = simp (← read, e)
+
+  module _ (held : p .number .0 ≡ 0 → ⊥) where
+    pub place-number : next ≤ p .number .0 → placeOk m next last i ≡ false
+    unfolding placeOk
+    place-number h = simp (← read, ne-eqb _ _ held, le-ltb _ _ h)
+
+    pub place-time : p .number .0 < next → last < p .time .0 → placeOk m next last i ≡ false
+    unfolding placeOk
+    place-time h k = simp (← read, ne-eqb _ _ held, lt-ltb _ _ h, lt-leb _ _ k)
+
+    pub place-zero : p .number .0 < next → p .time .0 ≤ last → p .time .0 ≡ 0 → placeOk m next last i ≡ false
+    unfolding placeOk
+    place-zero h k z = simp (← read, ne-eqb _ _ held, lt-ltb _ _ h, le-leb _ _ k, eq-eqb _ _ z)
+
+    pub place-new : p .number .0 < next → p .time .0 ≤ last → (p .time .0 ≡ 0 → ⊥)
+        → placeOk m next last i ≡ not (isAt (first (numbered m (p .number .0)) i 0))
+    unfolding placeOk
+    place-new h k z = simp (← read, ne-eqb _ _ held, lt-ltb _ _ h, le-leb _ _ k, ne-eqb _ _ z)

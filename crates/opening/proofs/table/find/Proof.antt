@@ -1,0 +1,21 @@
+-- Number 0 has no place; any other is searched for in all of the table.
+use mathlib.Core.Path.{sym, _∙_}
+use Rattle.opening.proofs.TableLaws.{find-none, find-some}
+use borrow.Author.Needs.{needs}
+use Rattle.opening.proofs.table.find.Statement.{statement}
+use Rattle.opening.proofs.table.find.Tie as tie
+use Rattle.opening.proofs.table.find.Reads as reads
+use Rattle.opening.proofs.table.find.Lts as lts
+use Rattle.opening.proofs.table.find_below.Reads as find-below-reads
+
+returns : tie.Need-returns
+returns c = sym (find-none _ _ (c .if1 .taken))
+
+find-below-requires : tie.Need-find-below-requires
+find-below-requires c κs = search needs
+
+returns-2 : tie.Need-returns-2
+returns-2 c = c .find-below .ensures ∙ sym (find-some _ _ (c .before .if1 .left))
+
+pub find-spec : {M : Type 1} → statement M
+find-spec = tie.close (tie.spec returns find-below-requires returns-2)

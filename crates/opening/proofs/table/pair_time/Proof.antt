@@ -1,0 +1,56 @@
+-- The table's place says the time; without one, the log's first commit record under the number.
+use mathlib.Core.Path.{sym, _∙_}
+use Rattle.opening.proofs.TableLaws.{found-below, time-found, time-logged, time-none, ready-table}
+use borrow.Author.Needs.{needs}
+use Rattle.opening.proofs.table.pair_time.Statement.{statement}
+use Rattle.opening.proofs.table.pair_time.Tie as tie
+use Rattle.opening.proofs.table.pair_time.Reads as reads
+use Rattle.opening.proofs.table.pair_time.Lts as lts
+use Rattle.layout.proofs.table.read.Reads as read-reads
+use Rattle.opening.proofs.log.commit_under.Reads as commit-under-reads
+use Rattle.opening.proofs.table.find.Reads as find-reads
+
+find-requires : tie.Need-find-requires
+find-requires c κs = ready-table _ _ (c .before .pre .0)
+
+enum-known-f : tie.Need-enum-known-f
+enum-known-f c = search needs
+
+read-requires : tie.Need-read-requires
+read-requires c κs = (found-below _ _ _ (sym (c .before .before .before .find .ensures) ∙ c .before .f .given .1), ready-table _ _ (c .before .before .before .before .before .pre .0))
+
+enum-told : tie.Need-enum-told
+enum-told c = search needs
+
+commit-under-requires : tie.Need-commit-under-requires
+commit-under-requires c κs = search needs
+
+enum-known-c : tie.Need-enum-known-c
+enum-known-c c = search needs
+
+enum-told-2 : tie.Need-enum-told-2
+enum-told-2 c = search needs
+
+returns : tie.Need-returns
+returns c = time-found (c .before .before .before .before .before .before .before .args .medium .now) _ (c .before .before .before .before .before .before .before .args .n) (c .before .before .before .before .before .find .result) (c .before .before .before .before .before .find .ensures) _ (c .before .read .result) (c .before .before .before .f .given .1) (c .before .read .ensures)
+
+returns-2 : tie.Need-returns-2
+returns-2 c = time-logged (c .before .before .before .before .before .before .before .before .args .medium .now) _ (c .before .before .before .before .before .before .before .before .args .n) (c .before .before .before .before .before .before .find .result) (c .before .before .before .before .before .before .find .ensures) _ _ (c .before .before .before .commit-under .result) (c .before .before .before .before .enum-told .given .1) (c .before .before .before .commit-under .ensures) (c .before .c .given .1)
+
+returns-3 : tie.Need-returns-3
+returns-3 c = time-none (c .before .before .before .before .before .before .before .args .medium .now) _ (c .before .before .before .before .before .before .before .args .n) (c .before .before .before .before .before .find .result) (c .before .before .before .before .before .find .ensures) (c .before .before .commit-under .result) (c .before .before .before .enum-told .given .1) (c .before .before .commit-under .ensures) (c .enum-told2 .given .1)
+
+pub pair-time-spec : {M : Type 1} → statement M
+pair-time-spec =
+    tie.close
+    (tie.spec
+    find-requires
+    enum-known-f
+    read-requires
+    enum-told
+    commit-under-requires
+    enum-known-c
+    enum-told-2
+    returns
+    returns-2
+    returns-3)
