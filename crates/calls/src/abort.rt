@@ -14,7 +14,7 @@ ghost use Rattle.store.specs.Places.{freePlace};
 ghost use Rattle.store.specs.State.{withPlace};
 
 // The state with place i free.
-pub fn free_place(s: State, i: u64) -> State
+pub(crate) fn free_place(s: State, i: u64) -> State
     requires { ⌜ i < 64 ⌝ }
     ensures { λ r. ⌜ r ≡ withPlace s i freePlace ⌝ }
 {

@@ -15,7 +15,7 @@ ghost use Rattle.store.specs.declared.Answer.the-variants.{Missing};
 ghost use Rattle.calls.specs.Asked.{readingOf};
 
 // What the version in a slot says.
-pub fn read_slot(cache: &[u8], n: u64) -> Reading
+pub(crate) fn read_slot(cache: &[u8], n: u64) -> Reading
     requires { ⌜ Room (length (now cache)) (suc n) ⌝ }
     ensures { λ r. ⌜ r ≡ readingOf (cellAt (now (cache .entry)) n) ⌝ }
 {
@@ -36,7 +36,7 @@ pub fn read_slot(cache: &[u8], n: u64) -> Reading
 }
 
 // There is no version.
-pub fn missing() -> Reading
+pub(crate) fn missing() -> Reading
     ensures { λ r. ⌜ r ≡ record { answer = Missing; value = zeros 16 } ⌝ }
 {
     Reading {

@@ -14,7 +14,7 @@ ghost use Rattle.layout.specs.Block.{mediumLength};
 ghost use Rattle.store.specs.Format.{freshMedium, formatOf};
 
 // Are L and D in range, and is the medium's length right?
-pub fn sizes_fit(medium: usize, blocks: u64, pages: u64) -> bool
+pub(crate) fn sizes_fit(medium: usize, blocks: u64, pages: u64) -> bool
     ensures { λ r. ⌜ r ≡ (inRange blocks pages && eqb medium (mediumLength blocks pages)) ⌝ }
 {
     if !live::in_range(blocks, pages) {

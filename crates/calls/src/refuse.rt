@@ -8,7 +8,7 @@ ghost use mathlib.Core.Path.{_≡_};
 ghost use Rattle.layout.specs.Block.{zeros};
 ghost use Rattle.store.specs.declared.Answer.the-variants.{Refused};
 
-pub fn ended(s: State, why: Refusal) -> Ended
+pub(crate) fn ended(s: State, why: Refusal) -> Ended
     ensures { λ r. ⌜ r ≡ record { answer = Refused why; state = s } ⌝ }
 {
     Ended {
@@ -18,7 +18,7 @@ pub fn ended(s: State, why: Refusal) -> Ended
 }
 
 // Of a read, with zeros for its value.
-pub fn reading(why: Refusal) -> Reading
+pub(crate) fn reading(why: Refusal) -> Reading
     ensures { λ r. ⌜ r ≡ record { answer = Refused why; value = zeros 16 } ⌝ }
 {
     Reading {

@@ -136,7 +136,7 @@ fn step(
 }
 
 // Adds a version of either kind.
-pub fn add(
+pub(crate) fn add(
     s: State,
     medium: &mut [u8],
     cache: &mut [u8],
