@@ -20,7 +20,8 @@ use Rattle.store.specs.Tail.{tailFits, mayLog, tailEnd, storedTail, loggedIf, l
 use Rattle.store.specs.Chain.{cellAt, versionOf, newest, versionTime, held, visibleFrom, visibleOf, bestFrom, bestOf}
 use Rattle.store.specs.Format.{freshMedium, formatIf, formatOf}
 use Rattle.store.specs.Begin.{begun, beginIf, beginOf}
-use Rattle.store.specs.Write.{newHead, cellFor, touched, written, writeStep, writeIf, addOf, writeOf, eraseOf}
+use Rattle.store.specs.Write.{newHead, cellFor, touched, written, writeStep, writeIf, addOf, writeOf}
+use Rattle.store.specs.Erase.{eraseOf}
 use Rattle.store.specs.CurrentRead.{readCell, currentIf, currentOf}
 use Rattle.store.specs.Commit.{commitTime, committed, commitStep, commitIf, commitOf}
 use Rattle.store.specs.Abort.{abortIf, abortOf}

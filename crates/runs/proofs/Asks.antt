@@ -29,7 +29,8 @@ use Rattle.store.specs.Places.{isAt, findActive, findFree, freePlace, placeAt, 
 use Rattle.store.specs.State.{withPlace}
 use Rattle.store.specs.Chain.{newest, cellAt, visibleOf, bestOf}
 use Rattle.store.specs.Begin.{beginAsks, begun, beginAt, beginIf, beginOf}
-use Rattle.store.specs.Write.{writeAsks, newHead, writeStep, writeAt, writeIf, addOf, writeOf, eraseOf}
+use Rattle.store.specs.Write.{writeAsks, newHead, writeStep, writeAt, writeIf, addOf, writeOf}
+use Rattle.store.specs.Erase.{eraseOf}
 use Rattle.store.specs.CurrentRead.{currentAsks, readCell, currentAt, currentIf, currentOf}
 use Rattle.store.specs.Commit.{commitAsks, commitTime, commitStep, commitAt, commitIf, commitOf}
 use Rattle.store.specs.Abort.{abortAsks, abortAt, abortIf, abortOf}

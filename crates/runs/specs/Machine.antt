@@ -19,7 +19,8 @@ use Rattle.store.specs.Chain.{cellAt, versionTime}
 use Rattle.store.specs.Format.{freshMedium}
 use Rattle.store.specs.Open.{openOf}
 use Rattle.store.specs.Begin.{beginOf}
-use Rattle.store.specs.Write.{writeOf, eraseOf}
+use Rattle.store.specs.Write.{writeOf}
+use Rattle.store.specs.Erase.{eraseOf}
 use Rattle.store.specs.CurrentRead.{currentOf}
 use Rattle.store.specs.Commit.{commitOf}
 use Rattle.store.specs.Abort.{abortOf}

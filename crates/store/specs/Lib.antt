@@ -6,6 +6,7 @@ pub mod Chain
 pub mod Format
 pub mod Begin
 pub mod Write
+pub mod Erase
 pub mod CurrentRead
 pub mod Commit
 pub mod Abort

@@ -1,11 +1,11 @@
--- Write and erase.
+-- Write, and what it shares with erase.
 use Prim.Native.Nat.{ℕ, _+_, _*_}
 use mathlib.Core.Bool.{Bool, cond, not}
 use mathlib.Core.Option.{Option, none, some}
 use mathlib.Core.List.{List, [], _∷_}
 use lib.ListN.{length, getD, set}
 use lib.Dec.{eqb, ltb}
-use Rattle.layout.specs.Block.{zeros, pageOf}
+use Rattle.layout.specs.Block.{pageOf}
 use Rattle.layout.specs.Slot.{Cell}
 use Rattle.layout.specs.Page.{putVersion}
 use Rattle.layout.specs.Journal.{Record, version, sequenceOf}
@@ -90,9 +90,6 @@ writeIf none s m c n key kind value = writeAt (findActive (s .places) n) s m c (
 unfoldable pub addOf : State → List ℕ → List ℕ → ℕ → ℕ → ℕ → List ℕ → Outcome
 addOf s m c n key kind value = writeIf (ask (writeAsks s m c n key)) s m c n key kind value
 
--- 01: "kind (0 present, 1 erased)", "an erased value are zeros"
+-- 01: "kind (0 present, 1 erased)"
 unfoldable pub writeOf : State → List ℕ → List ℕ → ℕ → ℕ → List ℕ → Outcome
 writeOf s m c n key value = addOf s m c n key 0 value
-
-unfoldable pub eraseOf : State → List ℕ → List ℕ → ℕ → ℕ → Outcome
-eraseOf s m c n key = addOf s m c n key 1 (zeros 16)

@@ -1,5 +1,5 @@
 -- An erase adds a version of kind 1 with zeros for its value.
-use Rattle.store.specs.Write.{eraseOf}
+use Rattle.store.specs.Erase.{eraseOf}
 use borrow.Author.Needs.{needs}
 use Rattle.calls.proofs.erase.erase.Statement.{statement}
 use Rattle.calls.proofs.erase.erase.Tie as tie
