@@ -49,7 +49,9 @@ fn take(run: Run, bytes: &[u8], medium: &mut [u8], cache: &mut [u8]) -> Run {
                 } else {
                     let ended = room::change(call, state, medium, cache);
                     let answer = ended.answer;
-                    state = ended.state;
+                    if !room::is_refused(answer) {
+                        state = ended.state;
+                    }
                     n = room::put(&mut out, n, call.letter, answer, 0);
                 }
             }
