@@ -1,12 +1,12 @@
 -- What happens in a run, and what is seen of it.
 use Prim.Native.Nat.{ℕ, _^_}
-use mathlib.Core.Bool.{Bool, true, false, _&&_}
+use mathlib.Core.Bool.{Bool, true, _&&_}
 use mathlib.Core.Option.{Option}
 use mathlib.Core.List.{List, [], _∷_}
 use lib.ListN.{length}
 use lib.Dec.{eqb, ltb}
 
--- a call on an open store, with its arguments. A key is 01's record number.
+-- 01: "fed the calls and cuts, the arguments": a call on an open store. A key is 01's record number.
 pub data Call : Type 0 where
   begin : ℕ → Call  -- clock
   write : ℕ → ℕ → List ℕ → Call  -- number, key, value
@@ -26,20 +26,20 @@ pub data Event : Type 0 where
   cut : Event
   call : Call → Event
 
--- what a read gives: 01's "none or erased are results"
+-- 01: "none or erased are results": what a read gives
 pub data Strip : Type 0 where
   missing : Strip
   erased : Strip
   present : List ℕ → Strip
 
--- a used slot that an opening finds: key, kind, value, and its commit time or none
+-- 01: "each with its row's record, kind and value, and its time or none": a used slot that an opening finds
 pub record Sight : Type 0 where
   pub key : ℕ
   pub kind : ℕ
   pub value : List ℕ
   pub time : Option ℕ
 
--- 01: "the answers, and whether a write, erase or commit changed a log block on the medium"; a read's strip, a list's
+-- 01: "answers, and whether a write, erase or commit changed a log block on the medium"; a read's strip, a list's
 -- answer buffer, and what an opening finds
 pub record Observation : Type 0 where
   pub refusal : ℕ  -- 0: not refused
@@ -49,14 +49,16 @@ pub record Observation : Type 0 where
   pub buffer : List ℕ
   pub found : List Sight
 
--- the numbers and bytes that a call can be given: numbers below 2^64, keys and bytes below 256, values of 16 bytes
+-- 01: "a record or byte at most 255": are all of them bytes?
 unfoldable pub areBytes : List ℕ → Bool
 areBytes [] = true
 areBytes (b ∷ bs) = ltb b 256 && areBytes bs
 
+-- 01: "others below 2^64": a number, clock, time or page that a call can be given
 abbrev pub isWord : ℕ → Bool
 isWord n = ltb n (2 ^ 64)
 
+-- 01: "record number (1)", "transaction number (8), value (16)": are a call's arguments of these sizes?
 unfoldable pub callTyped : Call → Bool
 callTyped (begin k) = isWord k
 callTyped (write n key v) = isWord n && (ltb key 256 && (eqb (length v) 16 && areBytes v))
@@ -70,6 +72,7 @@ callTyped store-log = true
 callTyped (store-page p) = isWord p
 callTyped checkpoint = true
 
+-- 01: "the calls and cuts, the arguments": can an event be given these? The cache of an opening is any bytes
 unfoldable pub typed : Event → Bool
 typed (opening c) = areBytes c
 typed cut = true

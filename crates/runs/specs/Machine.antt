@@ -4,7 +4,6 @@ use Prim.Native.Nat.{ℕ, zero, suc, _+_, _*_}
 use mathlib.Core.Bool.{Bool, true, false, not, _&&_}
 use mathlib.Core.Option.{Option, none, some}
 use mathlib.Core.List.{List, [], _∷_}
-use lib.ListN.{length}
 use Rattle.layout.specs.Part.{part}
 use Rattle.layout.specs.Equal.{eqList}
 use Rattle.store.specs.declared.Answer.{Answer}
@@ -13,7 +12,7 @@ use Rattle.store.specs.declared.Place.{Place}
 use Rattle.store.specs.declared.State.{State}
 use Rattle.store.specs.declared.Timing.{Timing}
 use Rattle.store.specs.declared.Timing.the-variants.{Timed, Untimed}
-use Rattle.store.specs.Answer.{Outcome, refusalNumber, answerNumber, answerValue}
+use Rattle.store.specs.Answer.{Outcome, answerNumber, answerValue}
 use Rattle.store.specs.Places.{timeUnder}
 use Rattle.store.specs.Chain.{cellAt, versionTime}
 use Rattle.store.specs.Format.{freshMedium}
@@ -31,19 +30,22 @@ use Rattle.store.specs.StorePage.{storePageOf}
 use Rattle.store.specs.Checkpoint.{checkpointOf}
 use Rattle.runs.specs.Event.{Call, Event, opening, cut, call, begin, write, erase, current-read, commit, abort, as-of, changes, store-log, store-page, checkpoint, Strip, missing, erased, present, Sight, Observation, typed}
 
+-- 01: "leaves the medium only": after formatting or a cut the medium; from an accepted opening on, cache and state too
 pub data World : Type 0 where
   down : List ℕ → World  -- medium
   up : List ℕ → List ℕ → State → World  -- medium, cache, state
 
+-- 01: "Each call gets the state, medium and cache that the call before it left": what an event leaves, and what is seen
 pub record Step : Type 0 where
   pub world : World
   pub seen : Observation
 
+-- 01: "leaves the medium only": the medium, whether the store is open or not
 abbrev pub mediumOf : World → List ℕ
 mediumOf (down m) = m
 mediumOf (up m c s) = m
 
--- what a read's answer says
+-- 01: "none or erased are results": what a read's answer says
 abbrev pub stripOf : Answer → List ℕ → Strip
 stripOf (Refused r) v = missing
 stripOf Done v = missing
@@ -56,11 +58,12 @@ stripOf Erased v = erased
 stripOf Present v = present v
 stripOf (Listed k) v = missing
 
+-- 01: "its time or none": a version's time, if it has one
 abbrev pub timeIn : Timing → Option ℕ
 timeIn (Timed t) = some (t .0)
 timeIn Untimed = none
 
--- what stands in the used slots, the k from slot n on: key, kind, value, and the time or none
+-- 01: "each with its row's record, kind and value, and its time or none": what stands in slot n
 unfoldable pub sightAt : List ℕ → List Place → ℕ → Sight
 sightAt c ps n = record {
   key = cellAt c n .key;
@@ -69,14 +72,16 @@ sightAt c ps n = record {
   time = timeIn (versionTime (timeUnder ps) (cellAt c n .state));
 }
 
+-- 01: "as many used slots as version rows": what stands in the k slots from slot n on
 unfoldable pub sightsFrom : List ℕ → List Place → ℕ → ℕ → List Sight
 sightsFrom c ps n zero = []
 sightsFrom c ps n (suc k) = sightAt c ps n ∷ sightsFrom c ps (n + 1) k
 
--- did a log block change on the medium?
+-- 01: "changed a log block on the medium": do the log blocks of m and n differ?
 unfoldable pub logChanged : ℕ → List ℕ → List ℕ → Bool
 logChanged l m n = not (eqList (part m (512 * 3) (512 * l)) (part n (512 * 3) (512 * l)))
 
+-- 01: "answers, and whether a write, erase or commit changed a log block": what is seen of an outcome
 unfoldable pub seenOf : ℕ → List ℕ → Outcome → List Sight → Observation
 seenOf l m o found = record {
   refusal = answerNumber (o .answer);
@@ -87,7 +92,7 @@ seenOf l m o found = record {
   found = found;
 }
 
--- the outcome of a call on an open store
+-- 01: "Each call gets the state, medium and cache": the outcome of a call on an open store
 unfoldable pub called : List ℕ → List ℕ → State → Call → Outcome
 called m c s (begin k) = beginOf s m c k
 called m c s (write n key v) = writeOf s m c n key v
@@ -118,7 +123,7 @@ openedTo Erased w o = after o
 openedTo Present w o = after o
 openedTo (Listed k) w o = after o
 
--- what is seen of an event that is no call
+-- 01: "it falls between calls": what is seen of a cut, and of a call while the store is shut: the number r alone
 unfoldable pub quiet : ℕ → Observation
 quiet r = record { refusal = r; result = 0; strip = missing; changed = false; buffer = []; found = [] }
 
@@ -147,12 +152,12 @@ module _ (l d : ℕ) where
   allowed (up m c s) cut = true
   allowed (up m c s) (call k) = true
 
-  -- is the list of events a run from here on?
+  -- 01: "A run starts", "only openings and cuts come": is the list of events a run from here on?
   unfoldable pub isRun : World → List Event → Bool
   isRun w [] = true
   isRun w (e ∷ es) = typed e && (allowed w e && isRun (step w e .world) es)
 
-  -- what is seen of the events, one after the other
+  -- 01: "Each call gets .. that the call before it left": what is seen of the events, one after the other
   unfoldable pub trace : World → List Event → List Observation
   trace w [] = []
   trace w (e ∷ es) = step w e .seen ∷ trace (step w e .world) es

@@ -1,6 +1,6 @@
 -- Answers and refusals in 01's numbers, what a call leaves, and how its questions are put.
 use Prim.Native.Nat.{ℕ}
-use mathlib.Core.Bool.{Bool, true, false, cond}
+use mathlib.Core.Bool.{Bool, cond}
 use mathlib.Core.Option.{Option, none, some}
 use mathlib.Core.List.{List, [], _∷_}
 use Rattle.layout.specs.Block.{zeros}
@@ -29,7 +29,7 @@ refusalNumber ShortBuffer = 14
 refusalNumber NoNumber = 15
 refusalNumber Unfit = 16
 
--- 0, or the refusal's number
+-- 01: "a definition gives this paper's number and values for every case": 0, or the refusal's number
 unfoldable pub answerNumber : Answer → ℕ
 answerNumber (Refused r) = refusalNumber r
 answerNumber Done = 0
@@ -42,7 +42,7 @@ answerNumber Erased = 0
 answerNumber Present = 0
 answerNumber (Listed k) = 0
 
--- the number, slot, time or count beside it; zeros beside a refusal
+-- 01: "this paper's number and values for every case": the number, slot, time or count, 0 where there is none
 unfoldable pub answerValue : Answer → ℕ
 answerValue (Refused r) = 0
 answerValue Done = 0
@@ -55,8 +55,8 @@ answerValue Erased = 0
 answerValue Present = 0
 answerValue (Listed k) = k
 
--- all that a call leaves: its answer, the 16 bytes beside a read's answer (zeros for any other), state, medium, cache
--- and answer buffer
+-- 01: "the statement about a call fixes result, state, medium and cache": all that a call leaves, with the 16 bytes
+-- beside a read's answer (zeros for any other) and the answer buffer
 pub record Outcome : Type 0 where
   pub answer : Answer
   pub value : List ℕ
@@ -65,7 +65,7 @@ pub record Outcome : Type 0 where
   pub cache : List ℕ
   pub buffer : List ℕ
 
--- a call that leaves value and buffer alone
+-- 01: "fixes result, state, medium and cache": these four, for a call with neither a value nor an answer buffer
 abbrev pub leaves : Answer → State → List ℕ → List ℕ → Outcome
 leaves a s m c = record { answer = a; value = zeros 16; state = s; medium = m; cache = c; buffer = [] }
 

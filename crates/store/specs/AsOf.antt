@@ -18,17 +18,20 @@ use Rattle.store.specs.State.{fits}
 use Rattle.store.specs.Chain.{newest, cellAt, bestOf}
 use Rattle.store.specs.CurrentRead.{reads, readCell}
 
--- 01: "state and buffers fit? 16", "t not above the last commit time? 10"
+-- 01: "state and buffers fit .. ? 16", "t (t2) not above the last commit time? 10"
 abbrev pub asOfAsks : State → List ℕ → List ℕ → ℕ → List (Bool × Refusal)
 asOfAsks s m c t = (fits s (length m) (length c), Unfit) ∷ (leb t (s .last .0), NotYet) ∷ []
 
+-- 01: "As of t: the committed version .. none or erased are results": what the version found says, or missing
 abbrev pub asOfAt : Best → State → List ℕ → List ℕ → Outcome
 asOfAt Neither s m c = reads Missing (zeros 16) s m c
 asOfAt (Version n t) s m c = readCell (cellAt c n) s m c
 
+-- 01: "on "no", this number with zeros": refused, or the search from the record's newest version
 unfoldable pub asOfIf : Option Refusal → State → List ℕ → List ℕ → ℕ → ℕ → Outcome
 asOfIf (some r) s m c key t = refuses r s m c
 asOfIf none s m c key t = asOfAt (bestOf (newest c key (s .slots)) c (timeUnder (s .places)) t) s m c
 
+-- 01: "In this order, those that fit the call": the outcome of a read as of t, its first "no" or its step
 unfoldable pub asOfOf : State → List ℕ → List ℕ → ℕ → ℕ → Outcome
 asOfOf s m c key t = asOfIf (ask (asOfAsks s m c t)) s m c key t

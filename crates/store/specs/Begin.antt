@@ -16,7 +16,7 @@ use Rattle.store.specs.Answer.{Outcome, leaves, refuses, ask}
 use Rattle.store.specs.Places.{isAt, findFree, ringPlace}
 use Rattle.store.specs.State.{fits}
 
--- 01: "do state and buffers fit? 16", "next number below 2^64 - 1? 15. Free place? 4"
+-- 01: "do state and buffers fit .. ? 16", "next number below 2^64 - 1? 15. Free place? 4"
 abbrev pub beginAsks : State → List ℕ → List ℕ → List (Bool × Refusal)
 beginAsks s m c =
     (fits s (length m) (length c), Unfit)
@@ -41,13 +41,16 @@ begun s i clock = record {
   phase = s .phase;
 }
 
+-- 01: "takes the first free place": the outcome once the place is known
 abbrev pub beginAt : Found → State → List ℕ → List ℕ → ℕ → Outcome
 beginAt Nothing s m c clock = refuses NoPlace s m c
 beginAt (At k) s m c clock = leaves (Begun (s .next)) (begun s (ringPlace (s .ring) k) clock) m c
 
+-- 01: "on "no", this number with zeros": begin refused, or done at the place found
 unfoldable pub beginIf : Option Refusal → State → List ℕ → List ℕ → ℕ → Outcome
 beginIf (some r) s m c clock = refuses r s m c
 beginIf none s m c clock = beginAt (findFree (s .places) (s .ring)) s m c clock
 
+-- 01: "In this order, those that fit the call": begin's outcome, its first "no" or its step
 unfoldable pub beginOf : State → List ℕ → List ℕ → ℕ → Outcome
 beginOf s m c clock = beginIf (ask (beginAsks s m c)) s m c clock

@@ -1,6 +1,6 @@
 -- Commit.
 use Prim.Native.Nat.{ℕ, _+_, _-_, _^_, max}
-use mathlib.Core.Bool.{Bool, true, false, cond, _||_}
+use mathlib.Core.Bool.{Bool, true, cond, _||_}
 use mathlib.Core.Option.{Option, none, some}
 use mathlib.Core.List.{List, [], _∷_}
 use lib.ListN.{length, set}
@@ -19,13 +19,13 @@ use Rattle.store.specs.Places.{isAt, findActive, placeAt, freePlace, clo
 use Rattle.store.specs.State.{fits, withPlace}
 use Rattle.store.specs.Tail.{mayLog, logged, Logged, tailEnd}
 
--- an active transaction's versions all wait, so it has none just if its count is 0
+-- 01: "A transaction without versions": an active one's versions all wait, so it has none just if its count is 0
 abbrev pub noVersions : Found → State → Bool
 noVersions (At i) s = eqb (placeAt (s .places) i .waiting) 0
 noVersions Nothing s = true
 
--- 01: "state and buffers fit? 16", "number active? 5"; with versions "last time below 2^64 - 1? 9", "may the log take
--- it? 8" (a commit record takes 19 bytes)
+-- 01: "state and buffers fit .. ? 16", "number active? 5"; with versions "last time below 2^64 - 1? 9", "may the log
+-- take it? 8" (a commit record takes 19 bytes)
 abbrev pub commitAsks : State → List ℕ → List ℕ → ℕ → List (Bool × Refusal)
 commitAsks s m c n =
     let f = findActive (s .places) n in
@@ -39,6 +39,7 @@ commitAsks s m c n =
 unfoldable pub commitTime : State → ℕ → ℕ → CommitTime
 commitTime s i clock = record { 0 = max (clockOf (placeAt (s .places) i .life)) (max clock (s .last .0 + 1)) }
 
+-- 01: "committed with waiting versions": the state with the record taken and place i committed at t
 unfoldable pub committed : State → ℕ → ℕ → CommitTime → Logged → State
 committed s i n t g = record {
   blocks = s .blocks;
@@ -58,6 +59,7 @@ committed s i n t g = record {
   phase = s .phase;
 }
 
+-- 01: "Tag 2, commit, body 16: number, time": the outcome with this record taken by the log
 unfoldable pub commitStep : State → List ℕ → List ℕ → ℕ → ℕ → CommitTime → Outcome
 commitStep s m c i n t =
     let g = logged s m (commit (record { number = record { 0 = n }; time = t })) in
@@ -70,9 +72,11 @@ commitAt (At i) s m c n clock =
     cond (eqb (placeAt (s .places) i .waiting) 0) (leaves Done (withPlace s i freePlace) m c)
     (commitStep s m c i n (commitTime s i clock))
 
+-- 01: "on "no", this number with zeros": commit refused, or done at the number's place
 unfoldable pub commitIf : Option Refusal → State → List ℕ → List ℕ → ℕ → ℕ → Outcome
 commitIf (some r) s m c n clock = refuses r s m c
 commitIf none s m c n clock = commitAt (findActive (s .places) n) s m c n clock
 
+-- 01: "In this order, those that fit the call": commit's outcome, its first "no" or its step
 unfoldable pub commitOf : State → List ℕ → List ℕ → ℕ → ℕ → Outcome
 commitOf s m c n clock = commitIf (ask (commitAsks s m c n)) s m c n clock

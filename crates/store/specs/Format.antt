@@ -14,7 +14,7 @@ use Rattle.store.specs.declared.Answer.the-variants.{Refused, Done}
 use Rattle.store.specs.Answer.{ask}
 use Rattle.store.specs.State.{inRange}
 
--- formatting has neither state nor cache
+-- 01: "Formatting .. starts a new history": what it leaves; it has neither state nor cache
 pub record Formatted : Type 0 where
   pub answer : Answer
   pub medium : List ℕ
@@ -29,9 +29,11 @@ freshMedium l d =
     masterBytes (record { blocks = l; pages = d; oldest = 1; next = record { 0 = 1 }; last = record { 0 = 0 } })
     ++ zeros (512 * (2 + l + d))
 
+-- 01: "on "no", this number with zeros, all buffers unchanged": refused, or the fresh medium
 unfoldable pub formatIf : Option Refusal → List ℕ → ℕ → ℕ → Formatted
 formatIf (some r) m l d = record { answer = Refused r; medium = m }
 formatIf none m l d = record { answer = Done; medium = freshMedium l d }
 
+-- 01: "In this order, those that fit the call": formatting's outcome, its first "no" or the fresh medium
 unfoldable pub formatOf : List ℕ → ℕ → ℕ → Formatted
 formatOf m l d = formatIf (ask (formatAsks m l d)) m l d

@@ -1,6 +1,6 @@
 -- Open.
-use Prim.Native.Nat.{ℕ, _+_, _*_}
-use mathlib.Core.Bool.{Bool, true, false, cond, _&&_}
+use Prim.Native.Nat.{ℕ, _*_}
+use mathlib.Core.Bool.{Bool, cond, _&&_}
 use mathlib.Core.Option.{Option, none, some}
 use mathlib.Core.List.{List, [], _∷_}
 use lib.ListN.{length}
@@ -26,7 +26,7 @@ openAsks m c l d =
     ∷ (wellFormed m l d, Malformed)
     ∷ []
 
--- the state of an opened medium: next slot, next number, times, stored end, tail, places, first changes
+-- 01: "It copies the pages, reads the log", "after opening, the search begins at 0": the state of an opened medium
 unfoldable pub openedState : List ℕ → ℕ → ℕ → State
 openedState m l d = record {
   blocks = l;
@@ -53,5 +53,6 @@ openIf (some r) m c l d = refuses r noState m (refusedCache r c)
 openIf none m c l d =
     leaves (Opened (record { 0 = lastTime m l })) (openedState m l d) m (redone m l d .cache)
 
+-- 01: "In this order, those that fit the call": opening's outcome, its first "no" or the opened store
 unfoldable pub openOf : List ℕ → List ℕ → ℕ → ℕ → Outcome
 openOf m c l d = openIf (ask (openAsks m c l d)) m c l d

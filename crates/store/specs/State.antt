@@ -1,14 +1,10 @@
 -- The state: when it fits, and how calls change it.
-use Prim.Native.Nat.{ℕ, _+_, _-_, _*_, _%_, _^_}
-use mathlib.Core.Bool.{Bool, true, false, cond, _&&_}
-use mathlib.Core.List.{List}
-use lib.ListN.{length, getD, set, replicate}
+use Prim.Native.Nat.{ℕ, _*_, _^_}
+use mathlib.Core.Bool.{Bool, _&&_}
+use lib.ListN.{length, set, replicate}
 use lib.Dec.{eqb, leb, ltb}
 use Rattle.layout.specs.Block.{zeros, mediumLength, cacheLength}
 use Rattle.layout.specs.Journal.{sequenceOf, usedOf}
-use Rattle.layout.specs.declared.TxNumber.{TxNumber}
-use Rattle.layout.specs.declared.CommitTime.{CommitTime}
-use Rattle.store.specs.declared.Life.the-variants.{Free, Active}
 use Rattle.store.specs.declared.Place.{Place}
 use Rattle.store.specs.declared.Phase.{Phase}
 use Rattle.store.specs.declared.Phase.the-variants.{Idle}
@@ -35,7 +31,7 @@ fits s m c =
     && (eqb (length (s .places)) 64
     && eqb (length (s .first)) 64)))))))))
 
--- the state that a refused opening returns
+-- 01: "on "no", this number with zeros": the state that a refused opening returns
 unfoldable pub noState : State
 noState = record {
   blocks = 0;
@@ -52,7 +48,7 @@ noState = record {
   phase = Idle;
 }
 
--- the state with another place i
+-- 01: "kept in places 0 to 63": the state with another place i
 unfoldable pub withPlace : State → ℕ → Place → State
 withPlace s i p = record {
   blocks = s .blocks;
@@ -69,7 +65,7 @@ withPlace s i p = record {
   phase = s .phase;
 }
 
--- the state in another phase of a checkpoint
+-- 01: "A checkpoint is three calls": the state in another phase of a checkpoint
 unfoldable pub withPhase : State → Phase → State
 withPhase s ph = record {
   blocks = s .blocks;

@@ -1,6 +1,6 @@
 -- The tail of the log: whether it may take a record, and what taking it leaves.
 use Prim.Native.Nat.{ℕ, _+_, _^_}
-use mathlib.Core.Bool.{Bool, true, false, cond, _&&_, _||_}
+use mathlib.Core.Bool.{Bool, true, false, _&&_, _||_}
 use mathlib.Core.List.{List}
 use lib.Dec.{leb, ltb}
 use Rattle.layout.specs.Block.{put, logBlockAt, endPlace}
@@ -20,15 +20,15 @@ mayLog s m size =
     tailFits (s .tail) size
     || (ltb (sequenceOf (s .tail) + 1) (oldestOn m + s .blocks) && ltb (sequenceOf (s .tail) + 1) (2 ^ 48))
 
--- the end place of what stands in a tail block
+-- 01: "512 × sequence plus the offset after it": the end place of what stands in a tail block
 unfoldable pub tailEnd : List ℕ → EndPlace
 tailEnd tail = record { 0 = endPlace (sequenceOf tail) (usedOf tail) }
 
--- the medium with the tail stored in its block; where the block holds it already, no byte changes
+-- 01: "the tail is stored if it isn't yet": the medium with the tail in its block; no byte changes if it is there
 unfoldable pub storedTail : ℕ → List ℕ → List ℕ → List ℕ
 storedTail l m tail = put m (logBlockAt l (sequenceOf tail)) tail
 
--- the medium, the tail, the stored end place and the stored time once a record is taken
+-- 01: "may the log take it? 8": the medium, the tail, the stored end place and the stored time once a record is taken
 pub record Logged : Type 0 where
   pub medium : List ℕ
   pub tail : List ℕ
@@ -46,5 +46,6 @@ loggedIf false s m r = record {
   saved = s .last;
 }
 
+-- 01: "When a record does not fit the tail block": what taking the record leaves, by whether it fits
 unfoldable pub logged : State → List ℕ → Record → Logged
 logged s m r = loggedIf (tailFits (s .tail) (recordSize r)) s m r

@@ -8,7 +8,7 @@ use lib.Dec.{eqb, ltb}
 use Rattle.layout.specs.Block.{pageOf}
 use Rattle.layout.specs.Slot.{Cell}
 use Rattle.layout.specs.Page.{putVersion}
-use Rattle.layout.specs.Journal.{Record, version, sequenceOf}
+use Rattle.layout.specs.Journal.{version, sequenceOf}
 use Rattle.layout.specs.declared.slot.Slot.the-variants.{Waiting}
 use Rattle.layout.specs.declared.item.VersionHead.{VersionHead}
 use Rattle.store.specs.declared.Refusal.{Refusal}
@@ -23,8 +23,8 @@ use Rattle.store.specs.State.{fits}
 use Rattle.store.specs.Tail.{mayLog, logged, Logged, tailEnd}
 use Rattle.store.specs.Chain.{newest, held}
 
--- 01: "state and buffers fit? 16", "number active? 5", "not held by another? 6", "next slot below 15 × D? 7", "may the
--- log take it? 8" (a version record takes 33 bytes)
+-- 01: "state and buffers fit .. ? 16", "number active? 5", "not held by another? 6", "next slot below 15 × D? 7", "may
+-- the log take it? 8" (a version record takes 33 bytes)
 abbrev pub writeAsks : State → List ℕ → List ℕ → ℕ → ℕ → List (Bool × Refusal)
 writeAsks s m c n key =
     (fits s (length m) (length c), Unfit)
@@ -49,13 +49,15 @@ newHead s c n key kind = record {
   number = record { 0 = n };
 }
 
+-- 01: "waiting under a number": the slot that a version record gives
 unfoldable pub cellFor : VersionHead → List ℕ → Cell
 cellFor h value = record { state = Waiting (h .number); key = h .key; kind = h .kind; earlier = h .earlier; value = value }
 
--- the first block that changed page p since it was stored: it stays where there is one
+-- 01: "block that first changed a page not stored since": page p's, which stays where there is one
 unfoldable pub touched : List ℕ → ℕ → ℕ → List ℕ
 touched first p seq = set first p (cond (eqb (getD first p 0) 0) seq (getD first p 0))
 
+-- 01: "takes the next slot and a version record": the state with both taken and one more version waiting in place i
 unfoldable pub written : State → ℕ → Logged → State
 written s i g = record {
   blocks = s .blocks;
@@ -72,21 +74,24 @@ written s i g = record {
   phase = s .phase;
 }
 
+-- 01: "takes the next slot and a version record": the outcome, with the version put in the cache
 unfoldable pub writeStep : State → List ℕ → List ℕ → ℕ → VersionHead → List ℕ → Outcome
 writeStep s m c i h value =
     let g = logged s m (version h value) in
     leaves (Written (s .slots)) (written s i g) (g .medium)
     (putVersion c (s .slots) (tailEnd (g .tail) .0) (cellFor h value))
 
+-- 01: "A write or erase takes the next slot": the outcome once the number's place is known
 abbrev pub writeAt : Found → State → List ℕ → List ℕ → VersionHead → List ℕ → Outcome
 writeAt Nothing s m c h value = refuses NotActive s m c
 writeAt (At i) s m c h value = writeStep s m c i h value
 
+-- 01: "on "no", this number with zeros": a write or erase refused, or done at the number's place
 unfoldable pub writeIf : Option Refusal → State → List ℕ → List ℕ → ℕ → ℕ → ℕ → List ℕ → Outcome
 writeIf (some r) s m c n key kind value = refuses r s m c
 writeIf none s m c n key kind value = writeAt (findActive (s .places) n) s m c (newHead s c n key kind) value
 
--- a version of either kind
+-- 01: "In this order, those that fit the call": the outcome for a version of either kind, its first "no" or its step
 unfoldable pub addOf : State → List ℕ → List ℕ → ℕ → ℕ → ℕ → List ℕ → Outcome
 addOf s m c n key kind value = writeIf (ask (writeAsks s m c n key)) s m c n key kind value
 
