@@ -143,7 +143,7 @@ abbrev Leads : List ℕ → Cursor → Step → Type 0
 Leads m c Done = Unit {0}
 Leads m c (Skip d) = Valid d × (measure d < measure c)
 Leads m c (Written h v e d) = Valid d × (measure d < measure c) × (v + 16 ≤ length m)
-Leads m c (Committed p e d) = Valid d × (measure d < measure c)
+Leads m c (Committed p e d) = Valid d × (measure d + 19 ≤ measure c)
 
 module _ (m : List ℕ) (l : ℕ) (ready : Ready l (length m)) where
   pub block-in : (s : ℕ) → 512 * logBlockAt l s + 512 ≤ length m
@@ -167,7 +167,7 @@ module _ (m : List ℕ) (l : ℕ) (ready : Ready l (length m)) where
           let g : s + suc k ≤ 2 ^ 48 + 32 = v .below in
           (record { from = omega arith; upTo = omega arith; blocks = omega arith; below = omega arith }, omega arith)
 
-      within : (n : ℕ) → 0 < n → at + n ≤ 512 → Valid (onward m l s (at + n) (suc k)) × (measure (onward m l s (at + n) (suc k)) < measure (onward m l s at (suc k)))
+      within : (n : ℕ) → 0 < n → at + n ≤ 512 → Valid (onward m l s (at + n) (suc k)) × (measure (onward m l s (at + n) (suc k)) + n ≤ measure (onward m l s at (suc k)))
       within n z h =
           let a : 10 ≤ at = v .from in
           (record { from = omega arith; upTo = h; blocks = v .blocks; below = v .below }, omega arith)
@@ -177,7 +177,7 @@ module _ (m : List ℕ) (l : ℕ) (ready : Ready l (length m)) where
       go (Version h) t =
           let r : at + 33 ≤ 512 = room 33 (t .0 .room) (omega arith) in
           let w = within 33 (omega arith) r in
-          (w .0, w .1, omega (arith, block-in s))
+          (w .0, omega (arith, w .1), omega (arith, block-in s))
       go (Commit p) t = within 19 (omega arith) (room 19 (t .0 .room) (omega arith))
       go (Number n x) t = skip
       go Damaged t = skip
@@ -212,7 +212,14 @@ module _ (m : List ℕ) (l : ℕ) (ready : Ready l (length m)) where
   step-committed c r p e d v q f =
       let g : stepOf m l c ≡ Committed p e d = sym q ∙ f in
       let w : Leads m c (Committed p e d) = rw g at (step-leads c v) in
-      record { valid = w .0; less = w .1; rest = rest-step m l c (v .from) ∙ rw g }
+      record { valid = w .0; less = omega (arith, w .1); rest = rest-step m l c (v .from) ∙ rw g }
+
+  -- a commit record takes 19 bytes
+  pub committed-far : (c : Cursor) (r : Step) (p : Pair) (e : EndPlace) (d : Cursor) → Valid c → r ≡ stepOf m l c → r ≡ Committed p e d → measure d + 19 ≤ measure c
+  committed-far c r p e d v q f =
+      let g : stepOf m l c ≡ Committed p e d = sym q ∙ f in
+      let w : Leads m c (Committed p e d) = rw g at (step-leads c v) in
+      w .1
 
 -- ---- the whole log, from its start
 

@@ -1,4 +1,5 @@
 pub mod CursorLaws
+pub mod GatherLaws
 pub mod BlockPasses
 pub mod AllOfLaws
 pub mod TableLaws

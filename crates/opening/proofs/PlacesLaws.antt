@@ -2,6 +2,7 @@
 -- the log's: leaving a number out when its turn comes is leaving it out of the list. Assumes nothing.
 use mathlib.Core.Path.{_≡_, refl, sym, ap, _∙_}
 use mathlib.Core.Bool.{Bool, true, false, cond, not, _&&_}
+use mathlib.Core.Option.{Option}
 use mathlib.Core.List.{List, [], _∷_, _++_, append-nil}
 use Prim.Native.Nat.{ℕ, zero, suc, _+_, _-_, _%_, _≤_, _<_}
 use native.Mathlib.Numerals.{add-one}
@@ -25,13 +26,15 @@ use Rattle.store.specs.declared.Found.{Found as Finding}
 use Rattle.store.specs.declared.Found.the-variants.{At, Nothing}
 use Rattle.store.specs.Places.{first, isAt, isFree, placeAt, freePlace, ringPlace, findFree}
 use Rattle.store.specs.Chain.{cellAt, isTimed}
-use Rattle.store.specs.OpenLog.{Placed, commitUnder}
+use Rattle.store.specs.OpenLog.{Placed, Commitment, commitUnder}
 use Rattle.store.specs.OpenPairs.{tableFind, tableOr, timeOfCommitment, pairTime, waitsUnder, countWaiting, insert, insertIf, withWaiting, waitingNumbers, livePlace, tablePlaces, timeOrZero, takeFree, isPaired, inLogAlone, openPlaces}
 use Rattle.opening.specs.declared.log.Match.{Match}
 use Rattle.opening.specs.declared.log.Match.the-variants.{Found, Absent}
 use Rattle.opening.specs.declared.waiting.Numbers.{Numbers}
-use Rattle.opening.specs.Lookup.{Above, Rising, Collected, matchOf, placeOf, tablePlace, takeOne, takeAll}
+use Rattle.opening.specs.Lookup.{Above, Rising, Collected, commitsOf, commitAmong, matchOf, placeOf, tablePlace, freeUnless, takeOne, takeAll}
 use Rattle.opening.proofs.TableLaws.{match-some, match-none}
+use Rattle.live.proofs.FirstLaws.{first-below}
+use Rattle.opening.proofs.GatherLaws.{among-commits}
 use Rattle.opening.proofs.InsertLaws.{insert-front, rising-waiting}
 
 -- ---- how many of the first slots wait under a number: b is what the code found of slot i
@@ -48,26 +51,26 @@ count-miss c n i k s b es eb t w = let e : k + 0 ≡ k = omega arith in rw (add-
 
 -- ---- a place by the log's commit record: x is what the code found
 
-pub place-found : (log : List Placed) (n : TxNumber) (t u : CommitTime) (e : EndPlace) (waiting : ℕ) (x : Match) → x ≡ matchOf (commitUnder log (n .0)) → x ≡ Found u e
-    → record { life = Committed n t e; waiting = waiting } ≡ placeOf log n t waiting
-unfolding placeOf
-place-found log n t u e waiting x h g = simp (match-some (commitUnder log (n .0)) u e (sym g ∙ h))
+module _ (o : Option Commitment) (x : Match) (found : x ≡ matchOf o) where
+  pub place-found : (n : TxNumber) (t u : CommitTime) (e : EndPlace) (waiting : ℕ) → x ≡ Found u e
+      → record { life = Committed n t e; waiting = waiting } ≡ placeOf o n t waiting
+  unfolding placeOf
+  place-found n t u e waiting g = simp (match-some o u e (sym g ∙ found))
 
-pub place-absent : (log : List Placed) (n : TxNumber) (t : CommitTime) (waiting : ℕ) (x : Match) → x ≡ matchOf (commitUnder log (n .0)) → x ≡ Absent
-    → record { life = Committed n t (record { 0 = 0 }); waiting = waiting } ≡ placeOf log n t waiting
-unfolding placeOf
-place-absent log n t waiting x h g = simp (match-none (commitUnder log (n .0)) (sym g ∙ h))
+  pub place-absent : (n : TxNumber) (t : CommitTime) (waiting : ℕ) → x ≡ Absent
+      → record { life = Committed n t (record { 0 = 0 }); waiting = waiting } ≡ placeOf o n t waiting
+  unfolding placeOf
+  place-absent n t waiting g = simp (match-none o (sym g ∙ found))
 
-pub logged-found : (log : List Placed) (n waiting : ℕ) (t : CommitTime) (e : EndPlace) (x : Match) → x ≡ matchOf (commitUnder log n) → x ≡ Found t e
-    → record { life = Committed (record { 0 = n }) t e; waiting = waiting } ≡ placeOf log (record { 0 = n }) (record { 0 = timeOrZero (commitUnder log n) }) waiting
-unfolding placeOf
-logged-found log n waiting t e x h g = simp (match-some (commitUnder log n) t e (sym g ∙ h))
+  pub logged-found : (n waiting : ℕ) (t : CommitTime) (e : EndPlace) → x ≡ Found t e
+      → record { life = Committed (record { 0 = n }) t e; waiting = waiting } ≡ placeOf o (record { 0 = n }) (record { 0 = timeOrZero o }) waiting
+  unfolding placeOf
+  logged-found n waiting t e g = simp (match-some o t e (sym g ∙ found))
 
-pub logged-absent : (log : List Placed) (n waiting : ℕ) (x : Match) → x ≡ matchOf (commitUnder log n) → x ≡ Absent
-    → record { life = Committed (record { 0 = n }) (record { 0 = 0 }) (record { 0 = 0 }); waiting = waiting }
-    ≡ placeOf log (record { 0 = n }) (record { 0 = timeOrZero (commitUnder log n) }) waiting
-unfolding placeOf
-logged-absent log n waiting x h g = simp (match-none (commitUnder log n) (sym g ∙ h))
+  pub logged-absent : (n waiting : ℕ) → x ≡ Absent
+      → record { life = Committed (record { 0 = n }) (record { 0 = 0 }) (record { 0 = 0 }); waiting = waiting } ≡ placeOf o (record { 0 = n }) (record { 0 = timeOrZero o }) waiting
+  unfolding placeOf
+  logged-absent n waiting g = simp (match-none o (sym g ∙ found))
 
 -- ---- the place of table place i: p is what the code read there, k how many slots wait under its number
 
@@ -81,10 +84,10 @@ module _ (m : List ℕ) (log : List Placed) (c : List ℕ) (slots i : ℕ) where
   unfolding tablePlace
   place-dead p k e z w h = simp (← e, ne-eqb (p .number .0) 0 z, ← w, le-ltb 0 k (omega arith))
 
-  pub place-live : (p : Pair) (k : ℕ) (r : Place) → p ≡ tablePair m i → (p .number .0 ≡ 0 → ⊥) → k ≡ countWaiting c (p .number .0) slots → (k ≡ 0 → ⊥)
-      → r ≡ placeOf log (p .number) (p .time) k → r ≡ tablePlace m log c slots i
+  pub place-live : (p : Pair) (k : ℕ) (r : Place) (cs : List ℕ) → p ≡ tablePair m i → (p .number .0 ≡ 0 → ⊥) → k ≡ countWaiting c (p .number .0) slots → (k ≡ 0 → ⊥)
+      → cs ≡ commitsOf log → r ≡ placeOf (commitAmong cs (p .number .0)) (p .number) (p .time) k → r ≡ tablePlace m log c slots i
   unfolding tablePlace livePlace placeOf
-  place-live p k r e z w h f = f ∙ sym (simp (← e, ne-eqb (p .number .0) 0 z, ← w, lt-ltb 0 k (omega arith)))
+  place-live p k r cs e z w h g f = (rw (g, among-commits log (p .number .0)) at f) ∙ sym (simp (← e, ne-eqb (p .number .0) 0 z, ← w, lt-ltb 0 k (omega arith)))
 
 -- ---- all places of the table: the first i are laid
 
@@ -117,21 +120,32 @@ free-first ps =
     first-same (λ k. isFree (placeAt ps ((0 + k) % 64) .life)) (λ i. isFree (placeAt ps i .life)) 64 0
     (λ k h. let e : (0 + k) % 64 ≡ k = omega arith in ap (λ (j : ℕ). isFree (placeAt ps j .life)) e)
 
--- ---- a place for number n: f and g are what the code found in the table and among the places
+-- where a number's place is: f is what the code found in the table, g what it found among the places
 
-module _ (m : List ℕ) (log : List Placed) (c : List ℕ) (slots : ℕ) (ps : List Place) (n : ℕ) where
-  pub take-has : (f : Finding) (i : ℕ) → f ≡ tableFind m n → f ≡ At i → ps ≡ takeOne m log c slots ps n
+pub free-tabled : (ps : List Place) (f g : Finding) (i : ℕ) → g ≡ f → g ≡ At i → Nothing ≡ freeUnless f ps
+unfolding freeUnless
+free-tabled ps f g i e h = rw (sym e ∙ h)
+
+pub free-untabled : (ps : List Place) (f g r : Finding) → g ≡ f → g ≡ Nothing → r ≡ findFree ps 0 → r ≡ freeUnless f ps
+unfolding freeUnless
+free-untabled ps f g r e h d = d ∙ free-first ps ∙ rw (sym e ∙ h)
+
+pub free-found : (ps : List Place) (f : Finding) (i : ℕ) → freeUnless f ps ≡ At i → i < 64
+unfolding freeUnless
+free-found ps (At j) i e = let z : _≡_ {A = ℕ} 0 1 = cc in absurd (omega arith)
+free-found ps Nothing i e = first-below _ 64 0 i e .1
+
+-- ---- a place for number n: f is where the code found that it is
+
+module _ (m : List ℕ) (log : List Placed) (c : List ℕ) (slots : ℕ) (ps : List Place) (n : ℕ) (f : Finding) (free : f ≡ freeUnless (tableFind m n) ps) where
+  pub take-none : f ≡ Nothing → ps ≡ takeOne m log c slots ps n
   unfolding takeOne
-  take-has f i e h = simp (← e, h)
+  take-none h = simp (← free, h)
 
-  pub take-none : (f g : Finding) → f ≡ tableFind m n → f ≡ Nothing → g ≡ findFree ps 0 → g ≡ Nothing → ps ≡ takeOne m log c slots ps n
-  unfolding takeOne
-  take-none f g e h d k = simp (← e, h, ← free-first ps, ← d, k)
-
-  pub take-free : (f g : Finding) (i waiting : ℕ) (v : Place) → f ≡ tableFind m n → f ≡ Nothing → g ≡ findFree ps 0 → g ≡ At i → waiting ≡ countWaiting c n slots
-      → v ≡ placeOf log (record { 0 = n }) (record { 0 = timeOrZero (commitUnder log n) }) waiting → set ps i v ≡ takeOne m log c slots ps n
+  pub take-free : (i waiting : ℕ) (v : Place) (cs : List ℕ) → f ≡ At i → waiting ≡ countWaiting c n slots → cs ≡ commitsOf log
+      → v ≡ placeOf (commitAmong cs n) (record { 0 = n }) (record { 0 = timeOrZero (commitAmong cs n) }) waiting → set ps i v ≡ takeOne m log c slots ps n
   unfolding takeOne livePlace placeOf
-  take-free f g i waiting v e h d k w l = simp (← e, h, ← free-first ps, ← d, k, l, w)
+  take-free i waiting v cs h w g l = simp (← free, h, l, w, g, among-commits log n)
 
 and-true : (b : Bool) → b && true ≡ b
 and-true true = refl
@@ -204,7 +218,7 @@ module _ (m : List ℕ) (log : List Placed) (c : List ℕ) (slots : ℕ) where
   untabled n = not (isAt (tableFind m n))
 
   take-kept : (ps : List Place) (xs : List ℕ) → takeAll m log c slots ps xs ≡ takeFree m log c slots ps (keep untabled xs)
-  unfolding takeAll takeFree takeOne keep untabled
+  unfolding takeAll takeFree takeOne freeUnless keep untabled
   take-kept ps [] = refl
   take-kept ps (n ∷ ns) = go (tableFind m n) refl (λ qs. take-kept qs ns)
     where

@@ -15,9 +15,11 @@ use Rattle.layout.proofs.Choose.{and-0, and-1}
 use Rattle.store.specs.OpenLog.{Placed, Commitment, commitUnder, numberIn, timeIn, aboveAll, latest}
 use Rattle.store.specs.OpenPairs.{tableFind, endOfCommitment}
 use Rattle.store.specs.OpenConditions.{sameTime, onceIn}
+use Rattle.opening.specs.Lookup.{commitsOf, commitAmong}
 use Rattle.opening.specs.Passes.{recordOk, commitOk, logOk}
 use Rattle.opening.proofs.ChecksLaws.{one-up, and-cross}
 use Rattle.opening.proofs.CursorLaws.{Rising, commit-below, commit-append}
+use Rattle.opening.proofs.GatherLaws.{among-commits}
 
 pub eqb-zero : (a : ℕ) → eqb a 0 ≡ eqb 0 a
 eqb-zero zero = refl
@@ -49,12 +51,17 @@ module _ (m : List ℕ) (low s e : ℕ) (p : Pair) (seen xs log : List Placed) (
       ≡ sameTime (tableFind m (p .number .0)) m (p .time .0) && eqb (endOfCommitment (commitUnder log (p .number .0))) e
   once-by-end = once-from (commitUnder seen (p .number .0)) refl
 
-  pub commit-judged : (ok : Bool) → ok ≡ commitOk m log p e → recordOk m seen (commit p) ≡ ok
+  pub commit-judged : (ok : Bool) → ok ≡ commitOk m (commitUnder log (p .number .0)) p e → recordOk m seen (commit p) ≡ ok
   unfolding recordOk commitOk
   commit-judged ok h =
       rw h (simp (once-by-end, one-up (p .time .0))
       (and-cross (leb 1 (p .number .0)) (not (eqb (p .time .0) 0)) (ltb (p .number .0) (2 ^ 64 - 1))
       (sameTime (tableFind m (p .number .0)) m (p .time .0) && eqb (endOfCommitment (commitUnder log (p .number .0))) e)))
+
+-- the first under its number, as it was found among the commits
+pub commit-found : (m : List ℕ) (log : List Placed) (cs : List ℕ) (p : Pair) (e : ℕ) (ok : Bool) → cs ≡ commitsOf log
+    → ok ≡ commitOk m (commitAmong cs (p .number .0)) p e → ok ≡ commitOk m (commitUnder log (p .number .0)) p e
+commit-found m log cs p e ok g h = rw (g, among-commits log (p .number .0)) at h
 
 pub version-judged : (m : List ℕ) (seen : List Placed) (h : VersionHead) (v : List ℕ) (ok : Bool)
     → ok ≡ leb 1 (h .number .0) && ltb (h .number .0) (2 ^ 64 - 1) → recordOk m seen (version h v) ≡ ok
@@ -104,7 +111,7 @@ module _ {m : List ℕ} {log : List Placed} {a t : ℕ} {x : Placed} {xs : List 
 pub number-low : (n : ℕ) (ok : Bool) → ok ≡ leb 1 n && ltb n (2 ^ 64 - 1) → ok ≡ true → n + 1 < 2 ^ 64
 number-low n ok e t = let h : n < 2 ^ 64 - 1 = ltb-true n (2 ^ 64 - 1) (and-1 (leb 1 n) _ (sym e ∙ t)) in omega arith
 
-pub commit-low : (m : List ℕ) (log : List Placed) (p : Pair) (e : ℕ) (ok : Bool) → ok ≡ commitOk m log p e → ok ≡ true → p .number .0 + 1 < 2 ^ 64
+pub commit-low : (m : List ℕ) (o : Option Commitment) (p : Pair) (e : ℕ) (ok : Bool) → ok ≡ commitOk m o p e → ok ≡ true → p .number .0 + 1 < 2 ^ 64
 unfolding commitOk
-commit-low m log p e ok h t =
+commit-low m o p e ok h t =
     number-low (p .number .0) (leb 1 (p .number .0) && ltb (p .number .0) (2 ^ 64 - 1)) refl (and-0 (leb 1 (p .number .0) && ltb (p .number .0) (2 ^ 64 - 1)) _ (sym h ∙ t))

@@ -19,7 +19,7 @@ use Rattle.store.specs.declared.Timing.{Timing}
 use Rattle.store.specs.declared.Timing.the-variants.{Timed, Untimed}
 use Rattle.store.specs.Write.{orNone}
 use Rattle.store.specs.Chain.{cellAt, isVersion, versionOf, versionTime, newest}
-use Rattle.store.specs.OpenLog.{Placed, readLog, nextNumber, lastTime}
+use Rattle.store.specs.OpenLog.{readLog, nextNumber, lastTime}
 use Rattle.store.specs.OpenPairs.{pairTime}
 use Rattle.store.specs.OpenConditions.{slotInBounds, slotAtLeastOne, fullBefore, earlierTrue, timeOr, timeBelow, notAbove, notFalling, slotTrue}
 use Rattle.opening.specs.Lookup.{Tracks, timeOrZero, timeFits, timesAfter}
@@ -114,11 +114,6 @@ module _ (m : List ℕ) (l d : ℕ) (c : List ℕ) where
       time k h (yes e) =
           simp (v, ← ek, ← eu, e, eq-eqb key key refl) (timed-same u (timeBelow m l d c key n) t key (omega arith) (w .newestTime key hk))
       time k h (no e) = simp (v, ← ek, ne-eqb key k (λ q. e (sym q)), timed-other u t key k e) (w .newestTime k h)
-
-  -- the time that the code looked up in the log from its cursor on
-  pub time-as : (n : ℕ) (log : List Placed) (x : Slot) (u : Timing) → log ≡ readLog m l → x ≡ cellAt c n .state → u ≡ versionTime (pairTime m log) x
-      → u ≡ versionTime (pairTime m (readLog m l)) (cellAt c n .state)
-  time-as n log x u el ex eu = rw (el, ex) at eu
 
   pub ok-empty : (n : ℕ) → isVersion (cellAt c n .state) ≡ false → true ≡ slotOk m l d c n
   unfolding slotOk slotTrue

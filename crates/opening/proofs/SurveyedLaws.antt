@@ -22,7 +22,7 @@ use Rattle.opening.specs.declared.survey.Survey.{Survey}
 use Rattle.opening.specs.declared.survey.LogFound.{LogFound}
 use Rattle.opening.specs.declared.survey.LogFound.the-variants.{Good, Bad}
 use Rattle.opening.specs.Cursor.{Valid, restOf}
-use Rattle.opening.specs.Lookup.{slotsBelow, Collected, Surveyed, ReadGood, ReadAs}
+use Rattle.opening.specs.Lookup.{commitsOf, Extent, Known, slotsBelow, Collected, Surveyed, ReadGood, Applied, ReadAs}
 use Rattle.opening.specs.Passes.{allOf, pageOk, redoOk, logOk, placeOk, masterOk, blocksOk, slotOk, tableAndSlots, cacheOk, mediumOk, passes}
 use Rattle.opening.proofs.BlockPasses.{never, blocks-slots}
 use Rattle.opening.proofs.CursorLaws.{rest-block, matching-low}
@@ -97,14 +97,6 @@ module _ (m : List ℕ) (l d : ℕ) (log : Cursor) (end : ℕ) (good : ReadGood 
   unfolding readLog
   read-slots = rw read-rest (blocks-slots m l d 0 (oldestOn m) (readCount m l) blocks-good)
 
-  pub next-found : (a above n : ℕ) → a ≡ dec (part m 24 8) → above ≡ aboveAll (restOf m l log) → n ≡ max a above → n ≡ nextNumber m l
-  unfolding nextNumber nextOn
-  next-found a above n e f g = g ∙ rw (e, f, read-rest)
-
-  pub last-found : (a late n : ℕ) → a ≡ dec (part m 35 8) → late ≡ latest (restOf m l log) → n ≡ max a late → n ≡ lastTime m l
-  unfolding lastTime timeOn
-  last-found a late n e f g = g ∙ rw (e, f, read-rest)
-
   -- redo, from the cache `before` to the cache `c`
   module _ (before c : List ℕ) (pages : before ≡ pagesOn m l d) (ok : Bool) (first : List ℕ)
       (run : (ok ≡ redoOk (record { cache = before; first = untouched }) (restOf m l log))
@@ -117,67 +109,80 @@ module _ (m : List ℕ) (l d : ℕ) (log : Cursor) (end : ℕ) (good : ReadGood 
     unfolding passes
     not-redone e = formed m l d ∙ rw (good .ok, redo-is, e)
 
-    module _ (did : ok ≡ true) where
-      redone-is : record { cache = c; first = first } ≡ redone m l d
-      unfolding redone copied
-      redone-is = rw (pages, read-rest) at (run .1 did)
+    redone-is : ok ≡ true → record { cache = c; first = first } ≡ redone m l d
+    unfolding redone copied
+    redone-is e = rw (pages, read-rest) at (run .1 e)
 
-      cache-is : c ≡ redone m l d .cache
-      cache-is = ap (λ (r : Redone). r .cache) redone-is
+    pub applied : ok ≡ true → Applied m l d log end c first
+    applied e = record {
+      read = good;
+      next = redo-is ∙ e;
+      cache = ap (λ (r : Redone). r .cache) (redone-is e);
+      first = ap (λ (r : Redone). r .first) (redone-is e);
+    }
 
-      passes-is : wellFormed m l d ≡ cacheOk m l d c
-      unfolding passes
-      passes-is = formed m l d ∙ rw (good .ok, redo-is, did, ← cache-is)
+-- ---- the log that was applied: c is the cache that redo leaves
 
-      -- the records
-      module _ (logged : Bool) (above late : ℕ)
-          (tally : (logged ≡ logOk m [] (restOf m l log)) × (logged ≡ true → (above ≡ aboveAll (restOf m l log)) × (late ≡ latest (restOf m l log)))) where
-        log-is : logOk m [] (readLog m l) ≡ logged
-        log-is = sym (rw read-rest at (tally .0))
+module _ (m : List ℕ) (l d : ℕ) (log : Cursor) (end : ℕ) (c first : List ℕ) (done : Applied m l d log end c first) where
+  applied-rest : restOf m l log ≡ readLog m l
+  applied-rest = read-rest m l d log end (done .read)
 
-        pub not-logged : logged ≡ false → wellFormed m l d ≡ false
+  passes-is : wellFormed m l d ≡ cacheOk m l d c
+  unfolding passes
+  passes-is = formed m l d ∙ rw (done .read .ok, done .next, ← (done .cache))
+
+  pub applied-known : (used : ℕ) (commits : List ℕ) → Extent m used → commits ≡ commitsOf (restOf m l log) → Known m l used commits
+  applied-known used commits e f = record { table = e; log = f ∙ ap commitsOf applied-rest }
+
+  -- the records
+  module _ (logged : Bool) (above late : ℕ)
+      (tally : (logged ≡ logOk m [] (restOf m l log)) × (logged ≡ true → (above ≡ aboveAll (restOf m l log)) × (late ≡ latest (restOf m l log)))) where
+    log-is : logOk m [] (readLog m l) ≡ logged
+    log-is = sym (rw applied-rest at (tally .0))
+
+    pub not-logged : logged ≡ false → wellFormed m l d ≡ false
+    unfolding cacheOk
+    not-logged e = passes-is ∙ rw (log-is, e)
+
+    module _ (fine : logged ≡ true) where
+      pub next-found : (a n : ℕ) → a ≡ dec (part m 24 8) → n ≡ max a above → n ≡ nextNumber m l
+      unfolding nextNumber nextOn
+      next-found a n e g = g ∙ rw (e, tally .1 fine .0, applied-rest)
+
+      pub last-found : (a n : ℕ) → a ≡ dec (part m 35 8) → n ≡ max a late → n ≡ lastTime m l
+      unfolding lastTime timeOn
+      last-found a n e g = g ∙ rw (e, tally .1 fine .1, applied-rest)
+
+      -- table, pages and slots
+      module _ (kept : Bool) (judged : kept ≡ tableAndSlots m l d c) where
+        pub not-kept : kept ≡ false → wellFormed m l d ≡ false
         unfolding cacheOk
-        not-logged e = passes-is ∙ rw (log-is, e)
+        not-kept e = passes-is ∙ rw (log-is, fine, ← judged, e)
 
-        module _ (fine : logged ≡ true) where
-          -- table, pages and slots
-          module _ (kept : Bool) (judged : kept ≡ tableAndSlots m l d c) where
-            pub not-kept : kept ≡ false → wellFormed m l d ≡ false
-            unfolding cacheOk
-            not-kept e = passes-is ∙ rw (log-is, fine, ← judged, e)
+        -- the numbers that wait
+        pub few-is : kept ≡ true → (numbers : Numbers) → Collected (waitingNumbers c (isPaired m (readLog m l)) (15 * d)) numbers → wellFormed m l d ≡ numbers .ok
+        unfolding cacheOk
+        few-is e numbers waits = passes-is ∙ rw (log-is, fine, ← judged, e, ← (waits .few))
 
-            -- the numbers that wait
-            module _ (keeps : kept ≡ true) (numbers : Numbers) (waiting : Collected (waitingNumbers c (isPaired m (restOf m l log)) (15 * d)) numbers) where
-              waits : Collected (waitingNumbers c (isPaired m (readLog m l)) (15 * d)) numbers
-              waits = rw read-rest at waiting
-
-              pub few-is : wellFormed m l d ≡ numbers .ok
-              unfolding cacheOk
-              few-is = passes-is ∙ rw (log-is, fine, ← judged, keeps, ← (waits .few))
-
-              pub surveyed : (next last : ℕ) → l ≤ 32 → next ≡ nextNumber m l → last ≡ lastTime m l → numbers .ok ≡ true
-                  → Surveyed m l d c (record { ok = true; log = log; next = next; last = last; end = end; first = first; numbers = numbers })
-              surveyed next last h e f g = record {
-                cache = cache-is;
-                log = read-rest;
-                valid = read-valid h;
-                oldest = good .sequence;
-                blocks = good .left;
-                next = e;
-                last = f;
-                end = good .end;
-                first = ap (λ (r : Redone). r .first) redone-is;
-                numbers = waits;
-                few = g;
-              }
+  pub surveyed : (next last : ℕ) (places : List Place) → l ≤ 32 → next ≡ nextNumber m l → last ≡ lastTime m l → places ≡ openPlaces m (readLog m l) c (15 * d)
+      → Surveyed m l d c (record { ok = true; log = log; next = next; last = last; end = end; first = first; places = places })
+  surveyed next last places h e f g = record {
+    cache = done .cache;
+    log = applied-rest;
+    valid = read-valid m l d log end (done .read) h;
+    oldest = done .read .sequence;
+    blocks = done .read .left;
+    next = e;
+    last = f;
+    end = done .read .end;
+    first = done .first;
+    places = g;
+  }
 
 -- ---- the state of what was found
 
 module _ (m : List ℕ) (l d : ℕ) (c : List ℕ) (r : Survey) (found : Surveyed m l d c r) where
-  pub numbers-rest : Collected (waitingNumbers c (isPaired m (restOf m l (r .log))) (15 * d)) (r .numbers)
-  numbers-rest = rw (found .log) (found .numbers)
-
-  pub opened-is : (slots : ℕ) (tail : List ℕ) (places : List Place) → slots ≡ usedIn c d → tail ≡ readTail m l → places ≡ openPlaces m (restOf m l (r .log)) c (15 * d)
+  pub opened-is : (slots : ℕ) (tail : List ℕ) → slots ≡ usedIn c d → tail ≡ readTail m l
       → record {
         blocks = l;
         pages = d;
@@ -187,10 +192,10 @@ module _ (m : List ℕ) (l d : ℕ) (c : List ℕ) (r : Survey) (found : Surveye
         saved = record { 0 = r .last };
         end = record { 0 = r .end };
         tail = tail;
-        places = places;
+        places = r .places;
         ring = 0;
         first = r .first;
         phase = Idle;
       } ≡ openedState m l d
   unfolding openedState
-  opened-is slots tail places e f g = rw (e, f, g, found .log, found .next, found .last, found .end, found .first, found .cache)
+  opened-is slots tail e f = rw (e, f, found .places, found .next, found .last, found .end, found .first, found .cache)

@@ -3,7 +3,9 @@ use mathlib.Core.Path.{_≡_, refl, sym, ap, _∙_}
 use mathlib.Core.Bool.{Bool, true, false, cond, not}
 use mathlib.Core.Option.{Option, none, some}
 use mathlib.Core.List.{List}
-use Prim.Native.Nat.{ℕ, _+_, _-_, _≤_, _<_}
+use Prim.Native.Nat.{ℕ, zero, suc, _+_, _-_, _≤_, _<_}
+use native.Mathlib.Nat.{zero-add}
+use native.Mathlib.Decide.{decLt}
 use native.Mathlib.Omega.{arith}
 use lib.Dec.{eqb}
 use borrow.Author.Tests.{eq-eqb, ne-eqb, lt-ltb, le-ltb, le-leb, lt-leb}
@@ -22,7 +24,8 @@ use Rattle.live.proofs.FirstLaws.{first-hit, first-miss, first-below}
 use Rattle.opening.specs.declared.log.Match.{Match}
 use Rattle.opening.specs.declared.log.Match.the-variants.{Found, Absent}
 use Rattle.opening.specs.Cursor.{Ready}
-use Rattle.opening.specs.Lookup.{matchOf}
+use Rattle.opening.specs.Lookup.{Extent, matchOf, commitAmong, Known}
+use Rattle.opening.proofs.GatherLaws.{known-commit}
 use Rattle.opening.specs.Passes.{placeOk}
 
 -- does place i hold the number?
@@ -50,9 +53,44 @@ pub find-none : (m : List ℕ) (n : ℕ) → n ≡ 0 → tableFind m n ≡ Nothi
 unfolding tableFind
 find-none m n e = simp e
 
-pub find-some : (m : List ℕ) (n : ℕ) → (n ≡ 0 → ⊥) → tableFind m n ≡ first (numbered m n) 64 0
+find-some : (m : List ℕ) (n : ℕ) → (n ≡ 0 → ⊥) → tableFind m n ≡ first (numbered m n) 64 0
 unfolding tableFind
 find-some m n e = simp (ne-eqb _ _ e)
+
+-- empty places at the end add nothing to the search for a number
+first-none-of : (p : ℕ → Bool) (k i : ℕ) → ((j : ℕ) → i ≤ j → j < i + k → p j ≡ false) → first p k i ≡ Nothing
+unfolding first
+first-none-of p zero i h = refl
+first-none-of p (suc k) i h = rw (h i (omega arith) (omega arith)) (first-none-of p k (i + 1) (λ j a b. h j (omega arith) (omega arith)))
+
+first-shorter : (p : ℕ → Bool) (k r i : ℕ) → ((j : ℕ) → i + k ≤ j → j < i + k + r → p j ≡ false) → first p k i ≡ first p (k + r) i
+unfolding first
+first-shorter p zero r i h = sym (rw (zero-add r) (first-none-of p r i (λ j a b. h j (omega arith) (omega arith))))
+first-shorter p (suc k) r i h =
+    let e : suc k + r ≡ suc (k + r) = omega arith in
+    rw (e, first-shorter p k r (i + 1) (λ j a b. h j (omega arith) (omega arith)))
+
+pub find-used : (m : List ℕ) (used n : ℕ) → Extent m used → (n ≡ 0 → ⊥) → tableFind m n ≡ first (numbered m n) used 0
+find-used m used n x e =
+    let h : used ≤ 64 = x .few in
+    let k : used + (64 - used) ≡ 64 = omega arith in
+    find-some m n e
+    ∙ sym (first-shorter (numbered m n) used (64 - used) 0 (λ j a b. rw (x .empty j (omega arith) (omega arith)) (ne-eqb 0 n (λ q. e (sym q))))
+    ∙ ap (λ (j : ℕ). first (numbered m n) j 0) k)
+
+-- the loop that finds the table's extent: the places from k on are empty, p is the pair that was read below
+pub extent-start : (m : List ℕ) → Extent m 64
+extent-start m = record { few = omega arith; empty = λ i a b. absurd (omega arith) }
+
+pub extent-turn : (m : List ℕ) (k : ℕ) (p : Pair) → 0 < k → Extent m k → p ≡ tablePair m (k - 1) → p .number .0 ≡ 0 → Extent m (k - 1)
+extent-turn m k p h x e z = record {
+  few = omega (arith, x .few);
+  empty = λ i a b. go i a b (decLt i k);
+}
+  where
+    go : (i : ℕ) → k - 1 ≤ i → i < 64 → Dec (i < k) → tablePair m i .number .0 ≡ 0
+    go i a b (yes l) = let q : i ≡ k - 1 = omega arith in rw (q, ← e) z
+    go i a b (no l) = x .empty i (omega (arith, l)) b
 
 -- by which case a choice came to a value
 chosen : {A : Type 0} {B : Type 0} (b : Bool) {x y z : A} → cond b x y ≡ z → (x ≡ z → B) → (y ≡ z → B) → B

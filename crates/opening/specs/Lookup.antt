@@ -21,8 +21,8 @@ use Rattle.store.specs.Places.{first, isFree, placeAt, freePlace}
 use Rattle.store.specs.Write.{orNone}
 use Rattle.store.specs.Chain.{newest}
 use Rattle.store.specs.OpenLog.{Placed, Commitment, commitUnder, readCount, readLog, nextNumber, lastTime, logEnd}
-use Rattle.store.specs.OpenPairs.{endOfCommitment, tableFind, countWaiting, livePlace, takeAt, timeOrZero as OpenPairs·timeOrZero, waitingNumbers, isPaired}
-use Rattle.store.specs.OpenConditions.{timeBelow, redone}
+use Rattle.store.specs.OpenPairs.{endOfCommitment, tableFind, countWaiting, livePlace, takeAt, timeOrZero as OpenPairs·timeOrZero, openPlaces}
+use Rattle.store.specs.OpenConditions.{timeBelow, redone, copied}
 use Rattle.opening.specs.declared.log.Match.{Match}
 use Rattle.opening.specs.declared.log.Match.the-variants.{Found, Absent}
 use Rattle.opening.specs.declared.waiting.Inserted.{Inserted}
@@ -33,11 +33,37 @@ use Rattle.opening.specs.declared.survey.LogFound.{LogFound}
 use Rattle.opening.specs.declared.survey.LogFound.the-variants.{Good, Bad}
 use Rattle.opening.specs.declared.cursor.Cursor.{Cursor}
 use Rattle.opening.specs.Cursor.{Valid, restOf}
-use Rattle.opening.specs.Passes.{mediumOk}
+use Rattle.opening.specs.Passes.{mediumOk, redoOk}
 
 unfoldable pub matchOf : Option Commitment → Match
 matchOf none = Absent
 matchOf (some x) = Found (record { 0 = x .time }) (record { 0 = x .end })
+
+-- the commit records of a log as numbers: number, time and end place of one behind the other
+abbrev pub commitWords : Record → ℕ → List ℕ → List ℕ
+commitWords (version h v) e rest = rest
+commitWords (commit p) e rest = p .number .0 ∷ p .time .0 ∷ e ∷ rest
+
+unfoldable pub commitsOf : List Placed → List ℕ
+commitsOf [] = []
+commitsOf (x ∷ xs) = commitWords (x .rec) (x .end) (commitsOf xs)
+
+-- the first of them under a number
+unfoldable pub commitAmong : List ℕ → ℕ → Option Commitment
+commitAmong [] n = none
+commitAmong (a ∷ []) n = none
+commitAmong (a ∷ b ∷ []) n = none
+commitAmong (a ∷ b ∷ c ∷ rest) n = cond (eqb a n) (some (record { time = b; end = c })) (commitAmong rest n)
+
+-- the table's places from `used` on are empty
+pub record Extent (m : List ℕ) (used : ℕ) : Type 0 where
+  pub few : used ≤ 64
+  pub empty : (i : ℕ) → used ≤ i → i < 64 → tablePair m i .number .0 ≡ 0
+
+-- what is known of the pairs once table and log were gone through: the table's extent, and the log's commits
+pub record Known (m : List ℕ) (l used : ℕ) (commits : List ℕ) : Type 0 where
+  pub table : Extent m used
+  pub log : commits ≡ commitsOf (readLog m l)
 
 -- one more than a commit time, 0 for none: the least that may follow it
 abbrev pub lowOf : Timing → ℕ
@@ -91,10 +117,10 @@ pub record Collected (goal : List ℕ) (r : Numbers) : Type 0 where
   pub list : r .ok ≡ true → take (r .count) (r .list) ≡ goal
   pub count : r .ok ≡ true → r .count ≡ length goal
 
--- a live committed transaction's place, its waiting versions counted
-unfoldable pub placeOf : List Placed → TxNumber → CommitTime → ℕ → Place
-placeOf log n t waiting = record {
-  life = Committed n t (record { 0 = endOfCommitment (commitUnder log (n .0)) });
+-- a live committed transaction's place, with its commit in the log, if there is one, and its waiting versions counted
+unfoldable pub placeOf : Option Commitment → TxNumber → CommitTime → ℕ → Place
+placeOf found n t waiting = record {
+  life = Committed n t (record { 0 = endOfCommitment found });
   waiting = waiting;
 }
 
@@ -104,15 +130,15 @@ tablePlace m log c slots i =
     cond (not (eqb (tablePair m i .number .0) 0) && ltb 0 (countWaiting c (tablePair m i .number .0) slots))
     (livePlace m log c slots (tablePair m i .number .0) (tablePair m i .time .0)) freePlace
 
--- a number's place, if the table has none for it; and those of a list
-abbrev pub takeUnless : Finding → List Place → List Place → List Place
-takeUnless (At i) ps taken = ps
-takeUnless Nothing ps taken = taken
+-- the first free place, if the table has none for a number
+unfoldable pub freeUnless : Finding → List Place → Finding
+freeUnless (At i) ps = Nothing
+freeUnless Nothing ps = first (λ i. isFree (placeAt ps i .life)) 64 0
 
+-- the places with a number's, and with those of a list
 unfoldable pub takeOne : List ℕ → List Placed → List ℕ → ℕ → List Place → ℕ → List Place
 takeOne m log c slots ps n =
-    takeUnless (tableFind m n) ps
-    (takeAt (first (λ i. isFree (placeAt ps i .life)) 64 0) ps (livePlace m log c slots n (OpenPairs·timeOrZero (commitUnder log n))))
+    takeAt (freeUnless (tableFind m n) ps) ps (livePlace m log c slots n (OpenPairs·timeOrZero (commitUnder log n)))
 
 unfoldable pub takeAll : List ℕ → List Placed → List ℕ → ℕ → List Place → List ℕ → List Place
 takeAll m log c slots ps [] = ps
@@ -129,8 +155,7 @@ pub record Surveyed (m : List ℕ) (l d : ℕ) (c : List ℕ) (r : Survey) : Typ
   pub last : r .last ≡ lastTime m l
   pub end : r .end ≡ logEnd m l
   pub first : r .first ≡ redone m l d .first
-  pub numbers : Collected (waitingNumbers c (isPaired m (readLog m l)) (15 * d)) (r .numbers)
-  pub few : r .numbers .ok ≡ true
+  pub places : r .places ≡ openPlaces m (readLog m l) c (15 * d)
 
 -- what reading master, log blocks and pages finds
 pub record ReadGood (m : List ℕ) (l d : ℕ) (log : Cursor) (e : ℕ) : Type 0 where
@@ -139,6 +164,13 @@ pub record ReadGood (m : List ℕ) (l d : ℕ) (log : Cursor) (e : ℕ) : Type 0
   pub at : log .at ≡ 10
   pub left : log .left ≡ readCount m l
   pub end : e ≡ logEnd m l
+
+-- a medium whose log was read and applied: the cache c and the first changes are those that redo leaves
+pub record Applied (m : List ℕ) (l d : ℕ) (log : Cursor) (e : ℕ) (c fs : List ℕ) : Type 0 where
+  pub read : ReadGood m l d log e
+  pub next : redoOk (copied m l d) (readLog m l) ≡ true
+  pub cache : c ≡ redone m l d .cache
+  pub first : fs ≡ redone m l d .first
 
 abbrev pub ReadAs : List ℕ → ℕ → ℕ → LogFound → Type 0
 ReadAs m l d (Good log e) = ReadGood m l d log e

@@ -2,6 +2,7 @@
 -- Every item is judged once for all the conditions that concern it.
 use Prim.Native.Nat.{ℕ, zero, suc, _+_, _-_, _*_, _^_}
 use mathlib.Core.Bool.{Bool, true, false, cond, not, _&&_, _||_}
+use mathlib.Core.Option.{Option}
 use mathlib.Core.List.{List, [], _∷_, _++_}
 use lib.ListN.{length}
 use lib.Dec.{eqb, leb, ltb}
@@ -13,7 +14,7 @@ use Rattle.layout.specs.Master.{masterOf, oldestOn}
 use Rattle.layout.specs.declared.item.Pair.{Pair}
 use Rattle.store.specs.Places.{first, isAt}
 use Rattle.store.specs.Chain.{cellAt}
-use Rattle.store.specs.OpenLog.{Placed, numberIn, commitUnder, nextOn, blockOf, readCount, readLog, logEnd, nextNumber, lastTime}
+use Rattle.store.specs.OpenLog.{Placed, Commitment, numberIn, commitUnder, nextOn, blockOf, readCount, readLog, logEnd, nextNumber, lastTime}
 use Rattle.store.specs.OpenRedo.{Redone, redoOne, nextInPage}
 use Rattle.store.specs.OpenPairs.{tableFind, endOfCommitment, waitingNumbers, isPaired}
 use Rattle.store.specs.OpenConditions.{sizesAre, recordFits, lowAfter, lowAfterAll, atLeastOne, slotAtLeastOne, onceIn, sameTime, fullBefore, slotTrue, redone, copied}
@@ -38,12 +39,12 @@ unfoldable pub recordOk : List ℕ → List Placed → Record → Bool
 recordOk m seen r =
     atLeastOne r && (ltb (numberIn r) (2 ^ 64 - 1) && onceIn r m (commitUnder seen (numberIn r)))
 
--- the same of a commit record, by the whole log: the first under its number is itself
-unfoldable pub commitOk : List ℕ → List Placed → Pair → ℕ → Bool
-commitOk m log p e =
+-- the same of a commit record, by the first one of the whole log under its number: it is that one
+unfoldable pub commitOk : List ℕ → Option Commitment → Pair → ℕ → Bool
+commitOk m found p e =
     (leb 1 (p .number .0) && ltb (p .number .0) (2 ^ 64 - 1))
     && (not (eqb (p .time .0) 0)
-    && (sameTime (tableFind m (p .number .0)) m (p .time .0) && eqb (endOfCommitment (commitUnder log (p .number .0))) e))
+    && (sameTime (tableFind m (p .number .0)) m (p .time .0) && eqb (endOfCommitment found) e))
 
 unfoldable pub logOk : List ℕ → List Placed → List Placed → Bool
 logOk m seen [] = true

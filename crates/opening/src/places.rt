@@ -1,5 +1,4 @@
 // The places of live transactions that table and log give.
-use crate::cursor::Cursor;
 use crate::log::Match;
 use crate::waiting::Numbers;
 use layout::CommitTime;
@@ -13,11 +12,11 @@ ghost use mathlib.Core.Path.{_≡_};
 ghost use mathlib.Core.Bool.{true};
 ghost use Prim.Native.Nat.{suc, _+_, _*_, _<_, _≤_};
 ghost use lib.ListN.{length, take};
-ghost use Rattle.store.specs.OpenLog.{commitUnder};
-ghost use Rattle.store.specs.OpenPairs.{timeOrZero, waitsUnder, countWaiting, tablePlaces, isPaired, waitingNumbers, openPlaces};
+ghost use Rattle.store.specs.OpenLog.{readLog};
+ghost use Rattle.store.specs.OpenPairs.{tableFind, timeOrZero, waitsUnder, countWaiting, tablePlaces, isPaired, waitingNumbers, openPlaces};
 ghost use Rattle.chain.specs.Room.{Room};
-ghost use Rattle.opening.specs.Cursor.{Ready, Valid, restOf};
-ghost use Rattle.opening.specs.Lookup.{Collected, placeOf, tablePlace, takeOne, takeAll};
+ghost use Rattle.opening.specs.Cursor.{Ready};
+ghost use Rattle.opening.specs.Lookup.{Extent, Known, commitsOf, commitAmong, Collected, placeOf, tablePlace, freeUnless};
 
 fn waits_under(slot: Slot, n: u64) -> bool
     ensures { λ r. ⌜ r ≡ waitsUnder slot n ⌝ }
@@ -46,19 +45,10 @@ pub fn count(cache: &[u8], n: u64, slots: u64) -> u64
 }
 
 // A live committed transaction's place.
-fn live_place(
-    medium: &[u8],
-    blocks: u64,
-    log: Cursor,
-    n: TxNumber,
-    t: CommitTime,
-    waiting: u64,
-) -> Place
-    requires { ⌜ Ready blocks (length (now medium)) ⌝ }
-    requires { ⌜ Valid log ⌝ }
-    ensures { λ r. ⌜ r ≡ placeOf (restOf (now (medium .entry)) blocks log) n t waiting ⌝ }
+fn live_place(commits: &[u64], n: TxNumber, t: CommitTime, waiting: u64) -> Place
+    ensures { λ r. ⌜ r ≡ placeOf (commitAmong (now (commits .entry)) (n .0)) n t waiting ⌝ }
 {
-    let c = crate::log::commit_under(medium, blocks, log, n.0);
+    let c = crate::log::commit_under(commits, n.0);
     match c {
         Match::Found(_, e) => Place {
             life: Life::Committed(n, t, e),
@@ -72,12 +62,19 @@ fn live_place(
 }
 
 // The place that a table place gives: live if versions wait under its number.
-fn table_place(medium: &[u8], blocks: u64, log: Cursor, cache: &[u8], slots: u64, i: usize) -> Place
+fn table_place(
+    medium: &[u8],
+    blocks: u64,
+    commits: &[u64],
+    cache: &[u8],
+    slots: u64,
+    i: usize,
+) -> Place
     requires { ⌜ Ready blocks (length (now medium)) ⌝ }
-    requires { ⌜ Valid log ⌝ }
+    requires { ⌜ now commits ≡ commitsOf (readLog (now medium) blocks) ⌝ }
     requires { ⌜ Room (length (now cache)) slots ⌝ }
     requires { ⌜ i < 64 ⌝ }
-    ensures { λ r. ⌜ r ≡ tablePlace (now (medium .entry)) (restOf (now (medium .entry)) blocks log) (now (cache .entry)) slots i ⌝ }
+    ensures { λ r. ⌜ r ≡ tablePlace (now (medium .entry)) (readLog (now (medium .entry)) blocks) (now (cache .entry)) slots i ⌝ }
 {
     let p = layout::table::read(medium, i);
     let n = p.number;
@@ -93,15 +90,21 @@ fn table_place(medium: &[u8], blocks: u64, log: Cursor, cache: &[u8], slots: u64
     if k == 0 {
         return free;
     }
-    live_place(medium, blocks, log, n, t, k)
+    live_place(commits, n, t, k)
 }
 
 // The places of the table's live pairs.
-fn table_places(medium: &[u8], blocks: u64, log: Cursor, cache: &[u8], slots: u64) -> [Place; 64]
+fn table_places(
+    medium: &[u8],
+    blocks: u64,
+    commits: &[u64],
+    cache: &[u8],
+    slots: u64,
+) -> [Place; 64]
     requires { ⌜ Ready blocks (length (now medium)) ⌝ }
-    requires { ⌜ Valid log ⌝ }
+    requires { ⌜ now commits ≡ commitsOf (readLog (now medium) blocks) ⌝ }
     requires { ⌜ Room (length (now cache)) slots ⌝ }
-    ensures { λ r. ⌜ r ≡ tablePlaces (now (medium .entry)) (restOf (now (medium .entry)) blocks log) (now (cache .entry)) slots 0 64 ⌝ }
+    ensures { λ r. ⌜ r ≡ tablePlaces (now (medium .entry)) (readLog (now (medium .entry)) blocks) (now (cache .entry)) slots 0 64 ⌝ }
 {
     let mut places = [Place {
         life: Life::Free,
@@ -109,52 +112,30 @@ fn table_places(medium: &[u8], blocks: u64, log: Cursor, cache: &[u8], slots: u6
     }; 64];
     let mut i: usize = 0;
     while i < 64 {
-        places[i] = table_place(medium, blocks, log, cache, slots, i);
+        places[i] = table_place(medium, blocks, commits, cache, slots, i);
         i += 1;
     }
     places
 }
 
-// A place for a live pair of the log that the table does not have: the first free one.
-fn take_one(
-    medium: &[u8],
-    blocks: u64,
-    log: Cursor,
-    cache: &[u8],
-    slots: u64,
-    places: [Place; 64],
-    n: u64,
-) -> [Place; 64]
-    requires { ⌜ Ready blocks (length (now medium)) ⌝ }
-    requires { ⌜ Valid log ⌝ }
-    requires { ⌜ Room (length (now cache)) slots ⌝ }
-    ensures { λ r. ⌜ r ≡ takeOne (now (medium .entry)) (restOf (now (medium .entry)) blocks log) (now (cache .entry)) slots places n ⌝ }
+// Where a live pair of the log is put: the first free place, if the table has none for it.
+fn place_for(medium: &[u8], used: usize, places: [Place; 64], n: u64) -> Found
+    requires { ⌜ 1536 ≤ length (now medium) ⌝ }
+    requires { ⌜ Extent (now medium) used ⌝ }
+    ensures { λ r. ⌜ r ≡ freeUnless (tableFind (now (medium .entry)) n) places ⌝ }
 {
-    let f = crate::table::find(medium, n);
+    let f = crate::table::find(medium, used, n);
     match f {
-        Found::At(_) => places,
-        Found::Nothing => {
-            let g = live::find_free(places, 0);
-            match g {
-                Found::Nothing => places,
-                Found::At(i) => {
-                    let p = log_place(medium, blocks, log, n, count(cache, n, slots));
-                    let mut ps = places;
-                    ps[i as usize] = p;
-                    ps
-                }
-            }
-        }
+        Found::At(_) => Found::Nothing,
+        Found::Nothing => live::find_free(places, 0),
     }
 }
 
 // The place of a pair that the log has.
-fn log_place(medium: &[u8], blocks: u64, log: Cursor, n: u64, waiting: u64) -> Place
-    requires { ⌜ Ready blocks (length (now medium)) ⌝ }
-    requires { ⌜ Valid log ⌝ }
-    ensures { λ r. ⌜ r ≡ placeOf (restOf (now (medium .entry)) blocks log) (record { 0 = n }) (record { 0 = timeOrZero (commitUnder (restOf (now (medium .entry)) blocks log) n) }) waiting ⌝ }
+fn log_place(commits: &[u64], n: u64, waiting: u64) -> Place
+    ensures { λ r. ⌜ r ≡ placeOf (commitAmong (now (commits .entry)) n) (record { 0 = n }) (record { 0 = timeOrZero (commitAmong (now (commits .entry)) n) }) waiting ⌝ }
 {
-    let c = crate::log::commit_under(medium, blocks, log, n);
+    let c = crate::log::commit_under(commits, n);
     match c {
         Match::Found(t, e) => Place {
             life: Life::Committed(TxNumber(n), t, e),
@@ -171,26 +152,29 @@ fn log_place(medium: &[u8], blocks: u64, log: Cursor, n: u64, waiting: u64) -> P
 pub fn all(
     medium: &[u8],
     blocks: u64,
-    log: Cursor,
+    used: usize,
+    commits: &[u64],
     cache: &[u8],
     slots: u64,
     numbers: Numbers,
 ) -> [Place; 64]
     requires { ⌜ Ready blocks (length (now medium)) ⌝ }
-    requires { ⌜ Valid log ⌝ }
+    requires { ⌜ Known (now medium) blocks used (now commits) ⌝ }
     requires { ⌜ Room (length (now cache)) slots ⌝ }
-    requires { ⌜ Collected (waitingNumbers (now cache) (isPaired (now medium) (restOf (now medium) blocks log)) slots) numbers ⌝ }
+    requires { ⌜ Collected (waitingNumbers (now cache) (isPaired (now medium) (readLog (now medium) blocks)) slots) numbers ⌝ }
     requires { ⌜ numbers .ok ≡ true ⌝ }
-    ensures { λ r. ⌜ r ≡ openPlaces (now (medium .entry)) (restOf (now (medium .entry)) blocks log) (now (cache .entry)) slots ⌝ }
+    ensures { λ r. ⌜ r ≡ openPlaces (now (medium .entry)) (readLog (now (medium .entry)) blocks) (now (cache .entry)) slots ⌝ }
 {
-    let mut places = table_places(medium, blocks, log, cache, slots);
+    let mut places = table_places(medium, blocks, commits, cache, slots);
     let list = numbers.list;
     let total = numbers.count;
     let mut i: u64 = 0;
     while i < total {
         let n = list[i as usize];
-        let next = take_one(medium, blocks, log, cache, slots, places, n);
-        places = next;
+        let f = place_for(medium, used, places, n);
+        if let Found::At(k) = f {
+            places[k as usize] = log_place(commits, n, count(cache, n, slots));
+        }
         i += 1;
     }
     places

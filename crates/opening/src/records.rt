@@ -12,10 +12,11 @@ ghost use mathlib.Core.List.{[]};
 ghost use Prim.Native.Nat.{_+_, _-_, _*_, _<_, _≤_, _^_};
 ghost use lib.ListN.{length};
 ghost use lib.Dec.{leb, ltb, eqb};
-ghost use Rattle.store.specs.OpenLog.{aboveAll, latest, commitUnder};
+ghost use Rattle.store.specs.OpenLog.{aboveAll, latest};
 ghost use Rattle.store.specs.OpenPairs.{tableFind, endOfCommitment};
 ghost use Rattle.store.specs.OpenConditions.{sameTime};
 ghost use Rattle.opening.specs.Cursor.{Ready, Valid, restOf};
+ghost use Rattle.opening.specs.Lookup.{commitsOf, commitAmong, Extent};
 ghost use Rattle.opening.specs.Passes.{logOk, commitOk};
 
 // Whether all records keep what is asked of them; one more than the highest number, and the highest time.
@@ -36,11 +37,12 @@ fn number_ok(n: TxNumber) -> bool
 }
 
 // Has the table another time for the number?
-fn same_time(medium: &[u8], pair: Pair) -> bool
+fn same_time(medium: &[u8], used: usize, pair: Pair) -> bool
     requires { ⌜ 1536 ≤ length (now medium) ⌝ }
+    requires { ⌜ Extent (now medium) used ⌝ }
     ensures { λ r. ⌜ r ≡ sameTime (tableFind (now (medium .entry)) (pair .number .0)) (now (medium .entry)) (pair .time .0) ⌝ }
 {
-    let f = crate::table::find(medium, pair.number.0);
+    let f = crate::table::find(medium, used, pair.number.0);
     match f {
         Found::At(i) => layout::table::read(medium, i as usize).time.0 == pair.time.0,
         Found::Nothing => true,
@@ -48,12 +50,10 @@ fn same_time(medium: &[u8], pair: Pair) -> bool
 }
 
 // Is a commit record that ends at `end` the first under its number?
-fn is_first(medium: &[u8], blocks: u64, log: Cursor, n: u64, end: EndPlace) -> bool
-    requires { ⌜ Ready blocks (length (now medium)) ⌝ }
-    requires { ⌜ Valid log ⌝ }
-    ensures { λ r. ⌜ r ≡ eqb (endOfCommitment (commitUnder (restOf (now (medium .entry)) blocks log) n)) (end .0) ⌝ }
+fn is_first(commits: &[u64], n: u64, end: EndPlace) -> bool
+    ensures { λ r. ⌜ r ≡ eqb (endOfCommitment (commitAmong (now (commits .entry)) n)) (end .0) ⌝ }
 {
-    let c = crate::log::commit_under(medium, blocks, log, n);
+    let c = crate::log::commit_under(commits, n);
     match c {
         Match::Found(_, e) => e.0 == end.0,
         Match::Absent => end.0 == 0,
@@ -61,9 +61,11 @@ fn is_first(medium: &[u8], blocks: u64, log: Cursor, n: u64, end: EndPlace) -> b
 }
 
 // All records from the cursor on.
-pub fn all_ok(medium: &[u8], blocks: u64, log: Cursor) -> Tally
+pub fn all_ok(medium: &[u8], blocks: u64, log: Cursor, used: usize, commits: &[u64]) -> Tally
     requires { ⌜ Ready blocks (length (now medium)) ⌝ }
     requires { ⌜ Valid log ⌝ }
+    requires { ⌜ Extent (now medium) used ⌝ }
+    requires { ⌜ now commits ≡ commitsOf (restOf (now medium) blocks log) ⌝ }
     ensures { λ r. ⌜ (r .ok ≡ logOk (now (medium .entry)) [] (restOf (now (medium .entry)) blocks log)) × (r .ok ≡ true → (r .above ≡ aboveAll (restOf (now (medium .entry)) blocks log)) × (r .latest ≡ latest (restOf (now (medium .entry)) blocks log))) ⌝ }
 {
     let mut above: u64 = 0;
@@ -95,7 +97,7 @@ pub fn all_ok(medium: &[u8], blocks: u64, log: Cursor) -> Tally
                 c = d;
             }
             Step::Committed(p, e, d) => {
-                if !commit_ok(medium, blocks, log, p, e) {
+                if !commit_ok(medium, used, commits, p, e) {
                     return Tally {
                         ok: false,
                         above: above,
@@ -111,10 +113,10 @@ pub fn all_ok(medium: &[u8], blocks: u64, log: Cursor) -> Tally
 }
 
 // A commit record: its number and time, the only one under its number, and no other time in the table.
-fn commit_ok(medium: &[u8], blocks: u64, log: Cursor, pair: Pair, end: EndPlace) -> bool
-    requires { ⌜ Ready blocks (length (now medium)) ⌝ }
-    requires { ⌜ Valid log ⌝ }
-    ensures { λ r. ⌜ r ≡ commitOk (now (medium .entry)) (restOf (now (medium .entry)) blocks log) pair (end .0) ⌝ }
+fn commit_ok(medium: &[u8], used: usize, commits: &[u64], pair: Pair, end: EndPlace) -> bool
+    requires { ⌜ 1536 ≤ length (now medium) ⌝ }
+    requires { ⌜ Extent (now medium) used ⌝ }
+    ensures { λ r. ⌜ r ≡ commitOk (now (medium .entry)) (commitAmong (now (commits .entry)) (pair .number .0)) pair (end .0) ⌝ }
 {
     let n = pair.number;
     if !number_ok(n) {
@@ -123,8 +125,8 @@ fn commit_ok(medium: &[u8], blocks: u64, log: Cursor, pair: Pair, end: EndPlace)
     if pair.time.0 == 0 {
         return false;
     }
-    if !same_time(medium, pair) {
+    if !same_time(medium, used, pair) {
         return false;
     }
-    is_first(medium, blocks, log, pair.number.0, end)
+    is_first(commits, pair.number.0, end)
 }

@@ -1,5 +1,4 @@
 // The slots of the cache once redo is done: pages full, earlier slots, times and bounds.
-use crate::cursor::Cursor;
 use layout::slot::Slot;
 use store::Timing;
 ghost use mathlib.Core.Path.{_≡_};
@@ -14,8 +13,8 @@ ghost use Rattle.store.specs.OpenLog.{readLog, nextNumber, lastTime};
 ghost use Rattle.store.specs.OpenPairs.{pairTime};
 ghost use Rattle.store.specs.OpenConditions.{slotInBounds, slotAtLeastOne, fullBefore};
 ghost use Rattle.chain.specs.Room.{Room};
-ghost use Rattle.opening.specs.Cursor.{Ready, Valid, restOf};
-ghost use Rattle.opening.specs.Lookup.{Tracks, timeFits, timesAfter};
+ghost use Rattle.opening.specs.Cursor.{Ready};
+ghost use Rattle.opening.specs.Lookup.{Known, Tracks, timeFits, timesAfter};
 ghost use Rattle.opening.specs.Passes.{allOf, slotOk};
 
 // Is the page full, the last one, or the one behind it unused?
@@ -73,14 +72,14 @@ fn in_bounds(slot: Slot, next: u64, last: u64) -> bool
 }
 
 // The time of a version: its stamp, or its pair's in table or log.
-fn time_of(medium: &[u8], blocks: u64, log: Cursor, slot: Slot) -> Timing
+fn time_of(medium: &[u8], blocks: u64, used: usize, commits: &[u64], slot: Slot) -> Timing
     requires { ⌜ Ready blocks (length (now medium)) ⌝ }
-    requires { ⌜ Valid log ⌝ }
-    ensures { λ r. ⌜ r ≡ versionTime (pairTime (now (medium .entry)) (restOf (now (medium .entry)) blocks log)) slot ⌝ }
+    requires { ⌜ Known (now medium) blocks used (now commits) ⌝ }
+    ensures { λ r. ⌜ r ≡ versionTime (pairTime (now (medium .entry)) (readLog (now (medium .entry)) blocks)) slot ⌝ }
 {
     match slot {
         Slot::Empty => Timing::Untimed,
-        Slot::Waiting(n) => crate::table::pair_time(medium, blocks, log, n.0),
+        Slot::Waiting(n) => crate::table::pair_time(medium, blocks, used, commits, n.0),
         Slot::Stamped(t) => Timing::Timed(t),
     }
 }
@@ -106,7 +105,8 @@ fn slot_ok(
     medium: &[u8],
     blocks: u64,
     pages: u64,
-    log: Cursor,
+    used: usize,
+    commits: &[u64],
     cache: &[u8],
     n: u64,
     next: u64,
@@ -115,10 +115,9 @@ fn slot_ok(
     times: &mut [u64],
 ) -> bool
     requires { ⌜ Ready blocks (length (now medium)) ⌝ }
-    requires { ⌜ Valid log ⌝ }
+    requires { ⌜ Known (now medium) blocks used (now commits) ⌝ }
     requires { ⌜ Room (length (now cache)) (suc n) ⌝ }
     requires { ⌜ (length (now newest) ≡ 256) × (length (now times) ≡ 256) ⌝ }
-    requires { ⌜ restOf (now medium) blocks log ≡ readLog (now medium) blocks ⌝ }
     requires { ⌜ (next ≡ nextNumber (now medium) blocks) × (last ≡ lastTime (now medium) blocks) ⌝ }
     requires { ⌜ Tracks (now medium) blocks pages (now cache) n (now newest) (now times) ⌝ }
     ensures { λ r. ⌜ (r ≡ slotOk (now (medium .entry)) blocks pages (now (cache .entry)) n) × (r ≡ true → Tracks (now (medium .entry)) blocks pages (now (cache .entry)) (suc n) (now (newest .exit)) (now (times .exit))) ⌝ }
@@ -133,7 +132,7 @@ fn slot_ok(
         return false;
     }
     newest[k] = n;
-    let time = time_of(medium, blocks, log, slot);
+    let time = time_of(medium, blocks, used, commits, slot);
     if !follows(times, key, time) {
         return false;
     }
@@ -145,15 +144,15 @@ pub fn all_ok(
     medium: &[u8],
     blocks: u64,
     pages: u64,
-    log: Cursor,
+    used: usize,
+    commits: &[u64],
     cache: &[u8],
     next: u64,
     last: u64,
 ) -> bool
     requires { ⌜ Ready blocks (length (now medium)) ⌝ }
-    requires { ⌜ Valid log ⌝ }
+    requires { ⌜ Known (now medium) blocks used (now commits) ⌝ }
     requires { ⌜ (pages ≤ 64) × (length (now cache) ≡ 512 * pages) ⌝ }
-    requires { ⌜ restOf (now medium) blocks log ≡ readLog (now medium) blocks ⌝ }
     requires { ⌜ (next ≡ nextNumber (now medium) blocks) × (last ≡ lastTime (now medium) blocks) ⌝ }
     ensures { λ r. ⌜ r ≡ allOf (slotOk (now (medium .entry)) blocks pages (now (cache .entry))) 0 (15 * pages) ⌝ }
 {
@@ -165,7 +164,8 @@ pub fn all_ok(
             medium,
             blocks,
             pages,
-            log,
+            used,
+            commits,
             cache,
             n,
             next,

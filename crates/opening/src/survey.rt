@@ -1,6 +1,5 @@
 // Opening as a whole: is the medium well formed, and the state that it gives.
 use crate::cursor::Cursor;
-use crate::waiting::Numbers;
 use layout::CommitTime;
 use layout::EndPlace;
 use layout::TxNumber;
@@ -15,13 +14,13 @@ ghost use Prim.Native.Nat.{_+_, _-_, _*_, _<_, _≤_, _^_};
 ghost use lib.ListN.{length};
 ghost use Rattle.layout.specs.Block.{mediumLength};
 ghost use Rattle.layout.specs.Master.{oldestOn};
-ghost use Rattle.store.specs.OpenLog.{readCount, readLog, logEnd, readTail, nextNumber, lastTime};
+ghost use Rattle.store.specs.OpenLog.{readCount, logEnd, readTail, nextNumber, lastTime};
 ghost use Rattle.store.specs.OpenRedo.{pagesOn, usedIn};
 ghost use Rattle.store.specs.State.{noState};
 ghost use Rattle.store.specs.OpenConditions.{wellFormed};
 ghost use Rattle.store.specs.Open.{openedState};
-ghost use Rattle.opening.specs.Cursor.{Ready, Valid, restOf};
-ghost use Rattle.opening.specs.Lookup.{Surveyed, ReadAs};
+ghost use Rattle.opening.specs.Cursor.{Ready, Valid};
+ghost use Rattle.opening.specs.Lookup.{Known, Surveyed, Applied, ReadAs};
 ghost use Rattle.opening.specs.Passes.{masterOk, tableAndSlots};
 
 // What is known of a medium once it was gone through.
@@ -32,7 +31,7 @@ pub struct Survey {
     pub last: u64,
     pub end: u64,
     pub first: [u64; 64],
-    pub numbers: Numbers,
+    pub places: [Place; 64],
 }
 
 // Are the master's fields in form, the sizes those given, and its numbers in range?
@@ -113,11 +112,10 @@ fn malformed() -> Survey
     ensures { λ r. ⌜ r .ok ≡ false ⌝ }
 {
     let first = [0u64; 64];
-    let numbers = Numbers {
-        ok: false,
-        count: 0,
-        list: [0u64; 64],
-    };
+    let places = [Place {
+        life: Life::Free,
+        waiting: 0,
+    }; 64];
     Survey {
         ok: false,
         log: Cursor {
@@ -129,7 +127,7 @@ fn malformed() -> Survey
         last: 0,
         end: 0,
         first: first,
-        numbers: numbers,
+        places: places,
     }
 }
 
@@ -161,7 +159,30 @@ pub fn examine(medium: &[u8], blocks: u64, pages: u64, cache: &mut [u8]) -> Surv
     if !done.ok {
         return malformed();
     }
-    let tally = crate::records::all_ok(medium, blocks, log);
+    let first = done.first;
+    judge(medium, blocks, pages, log, end, cache, first)
+}
+
+// Judges log, table and slots once redo is done, and takes what the state is made of.
+fn judge(
+    medium: &[u8],
+    blocks: u64,
+    pages: u64,
+    log: Cursor,
+    end: u64,
+    cache: &[u8],
+    first: [u64; 64],
+) -> Survey
+    requires { ⌜ Ready blocks (length (now medium)) ⌝ }
+    requires { ⌜ (pages ≤ 64) × (length (now cache) ≡ 512 * pages) ⌝ }
+    requires { ⌜ Applied (now medium) blocks pages log end (now cache) first ⌝ }
+    ensures { λ r. ⌜ (r .ok ≡ wellFormed (now (medium .entry)) blocks pages) × (r .ok ≡ true → Surveyed (now (medium .entry)) blocks pages (now (cache .entry)) r) ⌝ }
+{
+    let mut gathered = [0u64; 2592];
+    let used = crate::table::extent(medium);
+    let n = crate::log::gather(medium, blocks, log, &mut gathered);
+    let commits = &gathered[..n];
+    let tally = crate::records::all_ok(medium, blocks, log, used, commits);
     if !tally.ok {
         return malformed();
     }
@@ -169,14 +190,14 @@ pub fn examine(medium: &[u8], blocks: u64, pages: u64, cache: &mut [u8]) -> Surv
     let stored = layout::field::get8(medium, 35);
     let next = live::larger(given, tally.above);
     let last = live::larger(stored, tally.latest);
-    if !cache_ok(medium, blocks, pages, log, cache, next, last) {
+    if !cache_ok(medium, blocks, pages, used, commits, cache, next, last) {
         return malformed();
     }
-    let numbers = crate::waiting::collect(medium, blocks, log, cache, 15 * pages);
+    let numbers = crate::waiting::collect(medium, blocks, used, commits, cache, 15 * pages);
     if !numbers.ok {
         return malformed();
     }
-    let first = done.first;
+    let places = crate::places::all(medium, blocks, used, commits, cache, 15 * pages, numbers);
     Survey {
         ok: true,
         log: log,
@@ -184,7 +205,7 @@ pub fn examine(medium: &[u8], blocks: u64, pages: u64, cache: &mut [u8]) -> Surv
         last: last,
         end: end,
         first: first,
-        numbers: numbers,
+        places: places,
     }
 }
 
@@ -193,15 +214,15 @@ fn cache_ok(
     medium: &[u8],
     blocks: u64,
     pages: u64,
-    log: Cursor,
+    used: usize,
+    commits: &[u64],
     cache: &[u8],
     next: u64,
     last: u64,
 ) -> bool
     requires { ⌜ Ready blocks (length (now medium)) ⌝ }
-    requires { ⌜ Valid log ⌝ }
+    requires { ⌜ Known (now medium) blocks used (now commits) ⌝ }
     requires { ⌜ (pages ≤ 64) × (length (now cache) ≡ 512 * pages) ⌝ }
-    requires { ⌜ restOf (now medium) blocks log ≡ readLog (now medium) blocks ⌝ }
     requires { ⌜ (next ≡ nextNumber (now medium) blocks) × (last ≡ lastTime (now medium) blocks) ⌝ }
     ensures { λ r. ⌜ r ≡ tableAndSlots (now (medium .entry)) blocks pages (now (cache .entry)) ⌝ }
 {
@@ -211,7 +232,7 @@ fn cache_ok(
     if !crate::slots::pages_full(cache, pages) {
         return false;
     }
-    crate::slots::all_ok(medium, blocks, pages, log, cache, next, last)
+    crate::slots::all_ok(medium, blocks, pages, used, commits, cache, next, last)
 }
 
 // How many slots are used.
@@ -256,9 +277,8 @@ pub fn state(medium: &[u8], blocks: u64, pages: u64, cache: &[u8], found: Survey
 {
     let log = found.log;
     let first = found.first;
-    let numbers = found.numbers;
+    let places = found.places;
     let tail = tail_of(medium, blocks, log);
-    let places = crate::places::all(medium, blocks, log, cache, 15 * pages, numbers);
     State {
         blocks: blocks,
         pages: pages,

@@ -1,5 +1,4 @@
 // The pair table.
-use crate::cursor::Cursor;
 use crate::log::Match;
 use layout::item::Pair;
 use store::Found;
@@ -11,9 +10,10 @@ ghost use lib.ListN.{length};
 ghost use lib.Dec.{eqb, leb, ltb};
 ghost use Rattle.layout.specs.Table.{tablePair};
 ghost use Rattle.store.specs.Places.{first};
-ghost use Rattle.store.specs.OpenLog.{nextNumber, lastTime};
+ghost use Rattle.store.specs.OpenLog.{readLog};
 ghost use Rattle.store.specs.OpenPairs.{tableFind, pairTime};
-ghost use Rattle.opening.specs.Cursor.{Ready, Valid, restOf};
+ghost use Rattle.opening.specs.Cursor.{Ready};
+ghost use Rattle.opening.specs.Lookup.{Extent, Known};
 ghost use Rattle.opening.specs.Passes.{allOf, placeOk};
 
 // The first of the first k places that holds the number.
@@ -33,24 +33,41 @@ fn find_below(medium: &[u8], n: u64, k: usize) -> Found
     Found::Nothing
 }
 
-// The table place of a number; 0 has none.
-pub fn find(medium: &[u8], n: u64) -> Found
+// How many places of the table there are up to the last one in use.
+pub fn extent(medium: &[u8]) -> usize
     requires { ⌜ 1536 ≤ length (now medium) ⌝ }
+    ensures { λ r. ⌜ Extent (now (medium .entry)) r ⌝ }
+{
+    let mut k: usize = 64;
+    while 0 < k {
+        let p = layout::table::read(medium, k - 1);
+        if p.number.0 != 0 {
+            return k;
+        }
+        k -= 1;
+    }
+    0
+}
+
+// The table place of a number; 0 has none.
+pub fn find(medium: &[u8], used: usize, n: u64) -> Found
+    requires { ⌜ 1536 ≤ length (now medium) ⌝ }
+    requires { ⌜ Extent (now medium) used ⌝ }
     ensures { λ r. ⌜ r ≡ tableFind (now (medium .entry)) n ⌝ }
 {
     if n == 0 {
         return Found::Nothing;
     }
-    find_below(medium, n, 64)
+    find_below(medium, n, used)
 }
 
 // The commit time of a number: the table's, else the log's.
-pub fn pair_time(medium: &[u8], blocks: u64, log: Cursor, n: u64) -> Timing
+pub fn pair_time(medium: &[u8], blocks: u64, used: usize, commits: &[u64], n: u64) -> Timing
     requires { ⌜ Ready blocks (length (now medium)) ⌝ }
-    requires { ⌜ Valid log ⌝ }
-    ensures { λ r. ⌜ r ≡ pairTime (now (medium .entry)) (restOf (now (medium .entry)) blocks log) n ⌝ }
+    requires { ⌜ Known (now medium) blocks used (now commits) ⌝ }
+    ensures { λ r. ⌜ r ≡ pairTime (now (medium .entry)) (readLog (now (medium .entry)) blocks) n ⌝ }
 {
-    let f = find(medium, n);
+    let f = find(medium, used, n);
     match f {
         Found::At(i) => {
             let p = layout::table::read(medium, i as usize);
@@ -58,7 +75,7 @@ pub fn pair_time(medium: &[u8], blocks: u64, log: Cursor, n: u64) -> Timing
             Timing::Timed(t)
         }
         Found::Nothing => {
-            let c = crate::log::commit_under(medium, blocks, log, n);
+            let c = crate::log::commit_under(commits, n);
             match c {
                 Match::Found(t, _) => Timing::Timed(t),
                 Match::Absent => Timing::Untimed,

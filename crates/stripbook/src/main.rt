@@ -49,9 +49,7 @@ fn take(run: Run, bytes: &[u8], medium: &mut [u8], cache: &mut [u8]) -> Run {
                 } else {
                     let ended = room::change(call, state, medium, cache);
                     let answer = ended.answer;
-                    if !room::is_refused(answer) {
-                        state = ended.state;
-                    }
+                    state = ended.state;
                     n = room::put(&mut out, n, call.letter, answer, 0);
                 }
             }

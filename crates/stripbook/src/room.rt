@@ -118,12 +118,3 @@ pub fn query(line: Line, s: State, medium: &[u8], cache: &[u8], out: &mut [u8], 
     let answer = r.answer;
     put(out, n, b'Q', answer, r.value[0])
 }
-
-// Was the call refused? The state is then as it was.
-pub fn is_refused(answer: Answer) -> bool {
-    if let Answer::Refused(_) = answer {
-        true
-    } else {
-        false
-    }
-}

@@ -11,7 +11,7 @@ use Rattle.opening.proofs.places.count.Reads as count-reads
 use Rattle.opening.proofs.places.live_place.Reads as live-place-reads
 
 read-requires : tie.Need-read-requires
-read-requires c κs = (c .before .before .pre .1 .1 .1, ready-table _ _ (c .before .before .pre .0))
+read-requires c κs = let a = c .before .before .before in (a .pre .1 .1 .1, ready-table _ _ (a .pre .0))
 
 returns : tie.Need-returns
 returns c = place-vacant _ _ _ _ _ _ (c .before .before .before .before .read .ensures) (c .if1 .taken)
@@ -26,7 +26,9 @@ live-place-requires : tie.Need-live-place-requires
 live-place-requires c κs = search needs
 
 returns-3 : tie.Need-returns-3
-returns-3 c = place-live _ _ _ _ _ _ _ _ (c .before .before .before .before .before .before .before .read .ensures) (c .before .before .before .if1 .left) (c .before .before .count .ensures) (c .before .if2 .left) (c .live-place .ensures)
+returns-3 c =
+    let r = c .before .before .before .before .before .before .before in
+    place-live _ _ _ _ _ _ _ _ _ (r .read .ensures) (c .before .before .before .if1 .left) (c .before .before .count .ensures) (c .before .if2 .left) (r .before .before .before .before .pre .1 .0) (c .live-place .ensures)
 
 pub table-place-spec : {M : Type 1} → statement M
 table-place-spec =

@@ -5,8 +5,8 @@ use Prim.Native.Nat.{_-_}
 use native.Mathlib.Omega.{arith}
 use lib.ListN.{length, take, length-set}
 use borrow.Author.Needs.{needs}
+use Rattle.store.specs.OpenLog.{readLog}
 use Rattle.store.specs.OpenPairs.{tablePlaces}
-use Rattle.opening.specs.Cursor.{restOf}
 use Rattle.opening.proofs.PlacesLaws.{places-turn, places-end}
 use Rattle.opening.proofs.places.table_places.Statement.{statement}
 use Rattle.opening.proofs.places.table_places.Tie as tie
@@ -15,18 +15,18 @@ use Rattle.opening.proofs.places.table_places.Lts as lts
 use Rattle.opening.proofs.places.table_place.Reads as table-place-reads
 
 abbrev Inv-loop : tie.InvT-loop
-Inv-loop medium blocks log cache slots places₀ i₀ places i =
+Inv-loop medium blocks commits cache slots places₀ i₀ places i =
     (length places ≡ 64)
-    × (take i places ++ tablePlaces medium (restOf medium blocks log) cache slots i (64 - i) ≡ tablePlaces medium (restOf medium blocks log) cache slots 0 64)
+    × (take i places ++ tablePlaces medium (readLog medium blocks) cache slots i (64 - i) ≡ tablePlaces medium (readLog medium blocks) cache slots 0 64)
 
 abbrev μ-loop : tie.MeasureT-loop
-μ-loop medium blocks log cache slots places₀ i₀ places i = 64 - i
+μ-loop medium blocks commits cache slots places₀ i₀ places i = 64 - i
 
 loop-holds : tie.Need-loop-holds Inv-loop μ-loop
 loop-holds c = (refl, refl)
 
 table-place-requires : tie.Need-table-place-requires Inv-loop μ-loop
-table-place-requires c κs = let a = c .before .before .before .before in (a .pre .0, (a .pre .1 .0, (a .pre .1 .1, c .loop-test .taken)))
+table-place-requires c κs = let a = c .before .before .before .before .before in (a .pre .0, (a .pre .1 .0, (a .pre .1 .1, c .loop-test .taken)))
 
 mul-places : tie.Need-mul-places Inv-loop μ-loop
 mul-places c = search needs

@@ -1,7 +1,6 @@
 -- The tests in the order of the definition, each by its function.
 use borrow.Author.Tests.{not-true, not-false, eq-eqb, ne-eqb}
 use Rattle.opening.specs.Passes.{commitOk}
-use Rattle.opening.proofs.TableLaws.{ready-table}
 use borrow.Author.Needs.{needs}
 use Rattle.opening.proofs.records.commit_ok.Statement.{statement}
 use Rattle.opening.proofs.records.commit_ok.Tie as tie
@@ -23,7 +22,7 @@ unfolding commitOk
 returns-2 c = simp (← c .before .before .before .number-ok .ensures, not-false (c .before .before .before .number-ok .result) (c .before .before .if1 .left), eq-eqb _ _ (c .if2 .taken))
 
 same-time-requires : tie.Need-same-time-requires
-same-time-requires c κs = ready-table _ _ (c .before .before .before .before .before .before .pre .0)
+same-time-requires c κs = search needs
 
 returns-3 : tie.Need-returns-3
 unfolding commitOk

@@ -1,7 +1,6 @@
 -- The end place of the commit record that was found; 0 where none was.
 use mathlib.Core.Path.{sym, _∙_}
-use Rattle.store.specs.OpenLog.{commitUnder}
-use Rattle.opening.specs.Cursor.{restOf}
+use Rattle.opening.specs.Lookup.{commitAmong}
 use Rattle.opening.proofs.TableLaws.{match-some, match-none}
 use Rattle.opening.proofs.RecordsLaws.{eqb-zero}
 use borrow.Author.Needs.{needs}
@@ -23,12 +22,12 @@ enum-told c = search needs
 returns : tie.Need-returns
 returns c =
     let a = c .before .before .before .before .before .before .before .args in
-    simp (match-some (commitUnder (restOf (a .medium .now) (a .blocks) (a .log)) (a .n)) _ _ (sym (c .before .before .before .c .given .1) ∙ c .before .before .before .before .before .commit-under .ensures))
+    simp (match-some (commitAmong (a .commits .now) (a .n)) _ _ (sym (c .before .before .before .c .given .1) ∙ c .before .before .before .before .before .commit-under .ensures))
 
 returns-2 : tie.Need-returns-2
 returns-2 c =
     let a = c .before .before .before .before .before .args in
-    simp (match-none (commitUnder (restOf (a .medium .now) (a .blocks) (a .log)) (a .n)) (sym (c .before .enum-told .given .1) ∙ c .before .before .before .commit-under .ensures)) (eqb-zero (a .end .0))
+    simp (match-none (commitAmong (a .commits .now) (a .n)) (sym (c .before .enum-told .given .1) ∙ c .before .before .before .commit-under .ensures)) (eqb-zero (a .end .0))
 
 pub is-first-spec : {M : Type 1} → statement M
 is-first-spec = tie.close (tie.spec commit-under-requires enum-known-c enum-told returns returns-2)

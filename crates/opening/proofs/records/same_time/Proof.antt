@@ -16,7 +16,7 @@ enum-known-f : tie.Need-enum-known-f
 enum-known-f c = search needs
 
 read-requires : tie.Need-read-requires
-read-requires c κs = (found-below _ _ _ (sym (c .before .before .before .find .ensures) ∙ c .before .f .given .1), c .before .before .before .before .before .pre)
+read-requires c κs = (found-below _ _ _ (sym (c .before .before .before .find .ensures) ∙ c .before .f .given .1), c .before .before .before .before .before .pre .0)
 
 enum-told : tie.Need-enum-told
 enum-told c = search needs

@@ -19,12 +19,12 @@ use Rattle.opening.proofs.slots.all_ok.Lts as lts
 use Rattle.opening.proofs.slots.slot_ok.Reads as slot-ok-reads
 
 abbrev Inv-loop : tie.InvT-loop
-Inv-loop medium blocks pages log cache next last newest₀ times₀ n₀ newest times n =
+Inv-loop medium blocks pages used commits cache next last newest₀ times₀ n₀ newest times n =
     (length newest ≡ 256) × (length times ≡ 256) × Tracks medium blocks pages cache n newest times
     × (allOf (slotOk medium blocks pages cache) n (15 * pages - n) ≡ allOf (slotOk medium blocks pages cache) 0 (15 * pages))
 
 abbrev μ-loop : tie.MeasureT-loop
-μ-loop medium blocks pages log cache next last newest₀ times₀ n₀ newest times n = 15 * pages - n
+μ-loop medium blocks pages used commits cache next last newest₀ times₀ n₀ newest times n = 15 * pages - n
 
 loop-holds : tie.Need-loop-holds Inv-loop μ-loop
 loop-holds c = (refl, refl, tracks-start _ _ _ _, simp sub-zero)
@@ -40,13 +40,13 @@ slice-aggregate-slot-ok-2 c = search needs
 
 slot-ok-requires : tie.Need-slot-ok-requires Inv-loop μ-loop
 slot-ok-requires c κs =
-    let a = c .before .before .before .before .before .before in (
+    let a = c .before .before .before .before .before .before .before in (
       a .pre .0,
       (
         a .pre .1 .0,
         (
           record { pages = a .args .pages; few = omega arith; size = omega arith; below = omega arith },
-          ((c .before .before .before .loop .inv .0, c .before .before .before .loop .inv .1), (a .pre .1 .1 .1 .0, (a .pre .1 .1 .1 .1, c .before .before .before .loop .inv .2))),
+          ((c .before .before .before .loop .inv .0, c .before .before .before .loop .inv .1), (a .pre .1 .1 .1, c .before .before .before .loop .inv .2)),
         ),
       ),
     )
@@ -55,7 +55,7 @@ returns : tie.Need-returns Inv-loop μ-loop
 returns c =
     let s = c .before .before .before in
     let k = s .before .before .before .before in
-    all-stop _ (15 * k .before .before .before .args .pages) _ _ (s .before .before .before .loop-test .taken) (s .slot-ok .ensures .0) (not-true (s .slot-ok .result) (c .if1 .taken)) ∙ k .loop .inv .3
+    all-stop _ (15 * k .before .before .before .before .args .pages) _ _ (s .before .before .before .loop-test .taken) (s .slot-ok .ensures .0) (not-true (s .slot-ok .result) (c .if1 .taken)) ∙ k .loop .inv .3
 
 add-n : tie.Need-add-n Inv-loop μ-loop
 add-n c = search needs
@@ -71,11 +71,11 @@ loop-again c =
       search needs,
       search needs,
       rw add-one (s .slot-ok .ensures .1 t),
-      all-turn _ (15 * k .before .before .before .args .pages) _ _ (s .before .before .before .loop-test .taken) (s .slot-ok .ensures .0) t ∙ k .loop .inv .3,
+      all-turn _ (15 * k .before .before .before .before .args .pages) _ _ (s .before .before .before .loop-test .taken) (s .slot-ok .ensures .0) t ∙ k .loop .inv .3,
     )
 
 returns-2 : tie.Need-returns-2 Inv-loop μ-loop
-returns-2 c = all-end _ (15 * c .before .before .before .before .args .pages) (c .before .loop .n) (c .loop-test .left) ∙ c .before .loop .inv .3
+returns-2 c = all-end _ (15 * c .before .before .before .before .before .args .pages) (c .before .loop .n) (c .loop-test .left) ∙ c .before .loop .inv .3
 
 pub all-ok-spec : {M : Type 1} → statement M
 all-ok-spec =

@@ -9,7 +9,7 @@ use borrow.Author.Needs.{needs}
 use Rattle.store.specs.Chain.{cellAt, isVersion, versionTime}
 use Rattle.store.specs.OpenLog.{readLog}
 use Rattle.store.specs.OpenPairs.{pairTime}
-use Rattle.opening.proofs.SlotsLaws.{tracks-empty, tracks-version, time-as, ok-empty, ok-earlier, ok-falls, ok-bounds}
+use Rattle.opening.proofs.SlotsLaws.{tracks-empty, tracks-version, ok-empty, ok-earlier, ok-falls, ok-bounds}
 use Rattle.opening.proofs.slots.slot_ok.Statement.{statement}
 use Rattle.opening.proofs.slots.slot_ok.Tie as tie
 use Rattle.opening.proofs.slots.slot_ok.Reads as reads
@@ -23,16 +23,15 @@ use Rattle.opening.proofs.slots.in_bounds.Reads as in-bounds-reads
 use Rattle.opening.proofs.slots.time_of.Reads as time-of-reads
 
 -- the slot holds a version
-version : (c : tie.Else1) → let a = c .before .before .before .before .before .before .before .args in isVersion (cellAt (a .cache .now) (a .n) .state) ≡ true
+version : (c : tie.Else1) → let a = c .before .before .before .before .before .before .before .before .args in isVersion (cellAt (a .cache .now) (a .n) .state) ≡ true
 version c = ap isVersion (sym (c .before .before .state-at .ensures)) ∙ sym (c .before .is-version .ensures) ∙ not-false (c .before .is-version .result) (c .if1 .left)
 
 -- its time, by table and log
-timed : (c : tie.After-time-of) → let a = c .before .before .before .before .before .before .before .before .before .before .before .before .args in
+timed : (c : tie.After-time-of) → let a = c .before .before .before .before .before .before .before .before .before .before .before .before .before .args in
     c .time-of .result ≡ versionTime (pairTime (a .medium .now) (readLog (a .medium .now) (a .blocks))) (cellAt (a .cache .now) (a .n) .state)
 timed c =
     let s = c .before .before .before .before .before .before .before in
-    let a = s .before .before .before .before .before in
-    time-as _ _ (a .args .pages) _ _ _ _ _ (a .pre .1 .1 .1 .1 .0) (s .state-at .ensures) (c .time-of .ensures)
+    rw (s .state-at .ensures) at (c .time-of .ensures)
 
 state-at-requires : tie.Need-state-at-requires
 state-at-requires c κs = search needs
@@ -42,9 +41,9 @@ is-version-requires c κs = search needs
 
 returns : tie.Need-returns
 returns c =
-    let a = c .before .before .before .before .before .before .before in
+    let a = c .before .before .before .before .before .before .before .before in
     let e : isVersion (cellAt (a .args .cache .now) (a .args .n) .state) ≡ false = ap isVersion (sym (c .before .before .state-at .ensures)) ∙ sym (c .before .is-version .ensures) ∙ not-true (c .before .is-version .result) (c .if1 .taken) in
-    (ok-empty _ _ _ _ _ e, λ q. tracks-empty _ _ _ _ _ _ _ e (a .pre .1 .1 .1 .1 .1 .1))
+    (ok-empty _ _ _ _ _ e, λ q. tracks-empty _ _ _ _ _ _ _ e (a .pre .1 .1 .1 .1 .1))
 
 key-at-requires : tie.Need-key-at-requires
 key-at-requires c κs = search needs
@@ -64,8 +63,8 @@ earlier-at-requires c κs = search needs
 returns-2 : tie.Need-returns-2
 returns-2 c =
     let k = c .before .before .before in
-    let a = k .before .before .before .before .before .before .before .before in (
-      ok-earlier _ _ _ _ _ (k .key-at .result) _ _ _ (version (k .before)) (k .key-at .ensures) (c .before .earlier-at .ensures) (omega arith) (a .pre .1 .1 .1 .1 .1 .1) (c .if2 .taken),
+    let a = k .before .before .before .before .before .before .before .before .before in (
+      ok-earlier _ _ _ _ _ (k .key-at .result) _ _ _ (version (k .before)) (k .key-at .ensures) (c .before .earlier-at .ensures) (omega arith) (a .pre .1 .1 .1 .1 .1) (c .if2 .taken),
       λ q. let z : _≡_ {A = ℕ} 0 1 = cc q in absurd (omega arith),
     )
 
@@ -92,9 +91,9 @@ returns-3 c =
     let f = c .before .before .before in
     let t = f .before .before in
     let k = t .before .before .before .before in
-    let a = k .before .before .before .before .before .before .before .before in (
+    let a = k .before .before .before .before .before .before .before .before .before in (
       ok-falls _ _ _ _ _ (k .key-at .result) _ (t .time-of .result) _ _ _ (version (k .before)) (k .key-at .ensures) (t .before .before .earlier-at .ensures) (timed t) (omega arith)
-          (a .pre .1 .1 .1 .1 .1 .1) (t .before .if2 .left) (f .follows .ensures .0) (not-true (f .follows .result) (c .if3 .taken)),
+          (a .pre .1 .1 .1 .1 .1) (t .before .if2 .left) (f .follows .ensures .0) (not-true (f .follows .result) (c .if3 .taken)),
       λ q. let z : _≡_ {A = ℕ} 0 1 = cc q in absurd (omega arith),
     )
 
@@ -112,13 +111,13 @@ returns-4 c =
     let f = c .before .before .before .before in
     let t = f .before .before in
     let k = t .before .before .before .before in
-    let a = k .before .before .before .before .before .before .before .before in (
+    let a = k .before .before .before .before .before .before .before .before .before in (
       ok-bounds _ _ _ _ _ (k .key-at .result) _ (t .time-of .result) _ _ _ (version (k .before)) (k .key-at .ensures) (t .before .before .earlier-at .ensures) (timed t) (omega arith)
-          (a .pre .1 .1 .1 .1 .1 .1) (t .before .if2 .left) (f .follows .ensures .0) _ _ _ _ (not-false (f .follows .result) (c .before .if3 .left)) (k .before .before .before .state-at .ensures)
-          (a .pre .1 .1 .1 .1 .1 .0 .0) (a .pre .1 .1 .1 .1 .1 .0 .1) (c .in-bounds .ensures),
+          (a .pre .1 .1 .1 .1 .1) (t .before .if2 .left) (f .follows .ensures .0) _ _ _ _ (not-false (f .follows .result) (c .before .if3 .left)) (k .before .before .before .state-at .ensures)
+          (a .pre .1 .1 .1 .1 .0 .0) (a .pre .1 .1 .1 .1 .0 .1) (c .in-bounds .ensures),
       λ q. rw (f .follows .ensures .1)
           (tracks-version _ _ _ _ _ (k .key-at .result) (t .time-of .result) _ _ (version (k .before)) (k .key-at .ensures) (timed t) (a .pre .1 .1 .1 .0 .0) (a .pre .1 .1 .1 .0 .1)
-          (omega arith) (a .pre .1 .1 .1 .1 .1 .1)),
+          (omega arith) (a .pre .1 .1 .1 .1 .1)),
     )
 
 pub slot-ok-spec : {M : Type 1} → statement M
