@@ -12,10 +12,10 @@ pub enum Strip {
 }
 
 fn strip(slot: &[u8]) -> Strip {
-    if slot[2] == PRESENT {
-        Strip::Present(slot_value(slot))
-    } else {
+    if slot[2] == ERASED {
         Strip::Erased
+    } else {
+        Strip::Present(slot_value(slot))
     }
 }
 
@@ -35,7 +35,7 @@ pub fn newest(cache: &[u8], next_slot: usize, record: u8) -> Option<usize> {
     None
 }
 
-/// Walks from a slot to its earlier ones as long as the slot number falls.
+/// Walks from a slot to its earlier ones as long as the slot number falls; an empty slot ends the walk.
 pub struct Chain<'a> {
     cache: &'a [u8],
     at: Option<usize>,
@@ -53,6 +53,9 @@ impl<'a> Iterator for Chain<'a> {
     fn next(&mut self) -> Option<Self::Item> {
         let n = self.at?;
         let slot = slot(self.cache, n);
+        if slot_state(slot) == Slot::Empty {
+            return None;
+        }
         let earlier = get16(slot, 4) as usize;
         self.at = (earlier < n).then_some(earlier);
         Some((n, slot))
