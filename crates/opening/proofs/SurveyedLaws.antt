@@ -116,7 +116,7 @@ module _ (m : List ℕ) (l d : ℕ) (log : Cursor) (end : ℕ) (good : ReadGood 
     pub applied : ok ≡ true → Applied m l d log end c first
     applied e = record {
       read = good;
-      next = redo-is ∙ e;
+      redo = redo-is ∙ e;
       cache = ap (λ (r : Redone). r .cache) (redone-is e);
       first = ap (λ (r : Redone). r .first) (redone-is e);
     }
@@ -129,7 +129,7 @@ module _ (m : List ℕ) (l d : ℕ) (log : Cursor) (end : ℕ) (c first : List �
 
   passes-is : wellFormed m l d ≡ cacheOk m l d c
   unfolding passes
-  passes-is = formed m l d ∙ rw (done .read .ok, done .next, ← (done .cache))
+  passes-is = formed m l d ∙ rw (done .read .ok, done .redo, ← (done .cache))
 
   pub applied-known : (used : ℕ) (commits : List ℕ) → Extent m used → commits ≡ commitsOf (restOf m l log) → Known m l used commits
   applied-known used commits e f = record { table = e; log = f ∙ ap commitsOf applied-rest }

@@ -168,7 +168,7 @@ pub record ReadGood (m : List ℕ) (l d : ℕ) (log : Cursor) (e : ℕ) : Type 0
 -- a medium whose log was read and applied: the cache c and the first changes are those that redo leaves
 pub record Applied (m : List ℕ) (l d : ℕ) (log : Cursor) (e : ℕ) (c fs : List ℕ) : Type 0 where
   pub read : ReadGood m l d log e
-  pub next : redoOk (copied m l d) (readLog m l) ≡ true
+  pub redo : redoOk (copied m l d) (readLog m l) ≡ true
   pub cache : c ≡ redone m l d .cache
   pub first : fs ≡ redone m l d .first
 
