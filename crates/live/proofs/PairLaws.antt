@@ -1,15 +1,14 @@
 -- The table of committed pairs: one turn of writing it, one turn of searching it, and that the search in it finds what the
--- search of the places finds. Assumes nothing.
+-- search of the places finds, which passes over the places that have no entry. Assumes nothing.
 use mathlib.Core.Path.{_≡_, refl, sym, ap, _∙_, fun-ext}
-use mathlib.Core.Bool.{Bool, true, false, cond, not, _&&_, and-false}
-use mathlib.Core.Logic.{_⊎_, inl, inr}
+use mathlib.Core.Bool.{Bool, true, false, cond}
 use mathlib.Core.List.{List, [], _∷_, _++_, append-assoc, append-nil}
 use Prim.Native.Nat.{ℕ, zero, suc, _+_, _-_, _*_, _≤_, _<_}
 use native.Mathlib.Omega.{arith}
-use lib.ListN.{length, take, getD, set, length-append, length-set}
-use lib.Seq.{take-suc-set, take-all, getD-at}
+use lib.ListN.{length, getD, set, replicate, length-append, length-set, length-replicate}
+use lib.Seq.{set-at, getD-at, getD-append-add}
 use lib.Dec.{eqb}
-use borrow.Author.Tests.{ne-eqb}
+use borrow.Author.Tests.{eq-eqb, ne-eqb}
 use Rattle.store.specs.declared.Life.{Life}
 use Rattle.store.specs.declared.Life.the-variants.{Free, Active, Committed}
 use Rattle.store.specs.declared.Place.{Place}
@@ -19,54 +18,117 @@ use Rattle.store.specs.declared.Timing.{Timing}
 use Rattle.store.specs.declared.Timing.the-variants.{Timed, Untimed}
 use Rattle.store.specs.Places.{first, committedAs, placeAt, findCommitted, timeOf, timeUpTo, atFound, timeUnder, storedUnder}
 pub use Rattle.live.proofs.FirstLaws.{first-below}
-use Rattle.live.specs.Pairs.{markIn, numberIn, instantIn, pairEntry, pairTableFrom, upTo, pairTable, timeFrom, timeIn}
+use Rattle.live.specs.Pairs.{markIn, numberIn, instantIn, pairEntry, pairTableFrom, upTo, padded, pairTable, timeFrom, timeIn}
 
 -- ---- writing the table from the front
 
-take-three : (l : List ℕ) (k a b c : ℕ) → k + 2 < length l
-    → take (suc (suc (suc k))) (set (set (set l k a) (suc k) b) (suc (suc k)) c) ≡ take k l ++ (a ∷ b ∷ c ∷ [])
-take-three l k a b c h =
-    let l₁ = set l k a in
-    let l₂ = set l₁ (suc k) b in
-    let n₁ : length l₁ ≡ length l = length-set l k a in
-    let n₂ : length l₂ ≡ length l₁ = length-set l₁ (suc k) b in
-    rw (take-suc-set l₂ (suc (suc k)) c (omega arith), take-suc-set l₁ (suc k) b (omega arith), take-suc-set l k a (omega arith))
-    (simp append-assoc)
+-- the table before turn i: the entries of the places before i stand at the front, zeros are behind them, and with the
+-- entries of the places that are left they are those of all places
+pub record Begun (test : ℕ → Bool) (ps : List Place) (t : List ℕ) (a i : ℕ) : Type 0 where
+  pub full : length t ≡ 192
+  pub room : a ≤ 3 * i
+  pub front : List ℕ
+  pub size : length front ≡ a
+  pub laid : t ≡ front ++ replicate (192 - a) 0
+  pub whole : front ++ pairTableFrom test ps i (64 - i) ≡ pairTableFrom test ps 0 64
 
--- the three stores of turn i; a, b and d are what the code computed
-pub pair-turn : (test : ℕ → Bool) (ps : List Place) (t : List ℕ) (i a b d : ℕ) → i < 64 → length t ≡ 192
-    → a ≡ markIn test (placeAt ps i .life) → b ≡ numberIn (placeAt ps i .life) → d ≡ instantIn (placeAt ps i .life)
-    → take (3 * (i + 1)) (set (set (set t (3 * i) a) (3 * i + 1) b) (3 * i + 2) d) ++ pairTableFrom test ps (i + 1) (64 - (i + 1))
-    ≡ take (3 * i) t ++ pairTableFrom test ps i (64 - i)
-unfolding pairTableFrom pairEntry
-pair-turn test ps t i a b d h len ea eb ed =
-    let m : 64 - i ≡ suc (64 - (i + 1)) = omega arith in
-    let j₁ : 3 * i + 1 ≡ suc (3 * i) = omega arith in
-    let j₂ : 3 * i + 2 ≡ suc (suc (3 * i)) = omega arith in
-    let j₃ : 3 * (i + 1) ≡ suc (suc (suc (3 * i))) = omega arith in
-    rw (j₃, j₂, j₁, take-three t (3 * i) a b d (omega arith), m, ← ea, ← eb, ← ed)
-    (append-assoc (take (3 * i) t) (a ∷ b ∷ d ∷ []) (pairTableFrom test ps (i + 1) (64 - (i + 1))))
+pub pair-begin : (test : ℕ → Bool) (ps : List Place) → Begun test ps (replicate 192 0) 0 0
+pair-begin test ps = record { full = refl; room = omega arith; front = []; size = refl; laid = refl; whole = refl }
 
-pub pair-done : (test : ℕ → Bool) (ps : List Place) (t r : List ℕ) (i : ℕ) → 64 ≤ i → length t ≡ 192
-    → take (3 * i) t ++ pairTableFrom test ps i (64 - i) ≡ r → t ≡ r
+-- a place whose mark is 0 has no entry, any other has one of three numbers
+no-entry : (test : ℕ → Bool) (life : Life) → markIn test life ≡ 0 → pairEntry test life ≡ []
+unfolding pairEntry
+no-entry test Free z = refl
+no-entry test (Active n k) z = refl
+no-entry test (Committed n t e) z = go (test (e .0)) z
+  where
+    go : (b : Bool) → _≡_ {A = ℕ} (cond b 1 2) 0 → cond b 1 2 ∷ n .0 ∷ t .0 ∷ [] ≡ []
+    go true z = absurd (omega arith)
+    go false z = absurd (omega arith)
+
+one-entry : (test : ℕ → Bool) (life : Life) → (markIn test life ≡ 0 → ⊥) → pairEntry test life ≡ markIn test life ∷ numberIn life ∷ instantIn life ∷ []
+unfolding pairEntry
+one-entry test Free d = absurd (d refl)
+one-entry test (Active n k) d = absurd (d refl)
+one-entry test (Committed n t e) d = refl
+
+-- turn i at a place that is not committed; m is the mark that the code computed
+pub pair-skip : {test : ℕ → Bool} {ps : List Place} {t t₁ : List ℕ} {a a₁ i m : ℕ} → Begun test ps t a i → i < 64
+    → m ≡ markIn test (placeAt ps i .life) → m ≡ 0 → t₁ ≡ t → a₁ ≡ a → Begun test ps t₁ a₁ (i + 1)
 unfolding pairTableFrom
-pair-done test ps t r i h len e =
-    let m : 64 - i ≡ 0 = omega arith in
-    let w : take (3 * i) t ++ [] ≡ r = rw m at e in
-    sym (take-all (3 * i) t (omega arith)) ∙ sym (append-nil (take (3 * i) t)) ∙ w
+pair-skip {test} {ps} {t} {t₁} {a} {a₁} {i} {m} g h em z et ea =
+    let k : 64 - i ≡ suc (64 - (i + 1)) = omega arith in
+    let w : g .front ++ pairTableFrom test ps i (suc (64 - (i + 1))) ≡ pairTableFrom test ps 0 64 = rw k at (g .whole) in
+    record {
+      full = rw et (g .full);
+      room = omega arith;
+      front = g .front;
+      size = g .size ∙ sym ea;
+      laid = rw (et, ea) (g .laid);
+      whole = rw (no-entry test (placeAt ps i .life) (sym em ∙ z)) at w;
+    }
+
+-- three stores behind the front
+three-stores : (p : List ℕ) (a m b d : ℕ) → length p ≡ a → a + 2 < 192
+    → set (set (set (p ++ replicate (192 - a) 0) a m) (a + 1) b) (a + 2) d ≡ (p ++ (m ∷ b ∷ d ∷ [])) ++ replicate (192 - (a + 3)) 0
+three-stores p a m b d len h =
+    let z : List ℕ = replicate (192 - (a + 3)) 0 in
+    let k : 192 - a ≡ suc (suc (suc (192 - (a + 3)))) = omega arith in
+    let s₀ : set (p ++ (0 ∷ 0 ∷ 0 ∷ z)) a m ≡ (p ++ (m ∷ [])) ++ (0 ∷ 0 ∷ z) =
+    set-at p 0 (0 ∷ 0 ∷ z) m a len ∙ sym (append-assoc p (m ∷ []) (0 ∷ 0 ∷ z)) in
+    let s₁ : set ((p ++ (m ∷ [])) ++ (0 ∷ 0 ∷ z)) (a + 1) b ≡ (p ++ (m ∷ b ∷ [])) ++ (0 ∷ z) =
+    set-at (p ++ (m ∷ [])) 0 (0 ∷ z) b (a + 1) (simp length-append (omega arith)) ∙ simp append-assoc in
+    let s₂ : set ((p ++ (m ∷ b ∷ [])) ++ (0 ∷ z)) (a + 2) d ≡ (p ++ (m ∷ b ∷ d ∷ [])) ++ z =
+    set-at (p ++ (m ∷ b ∷ [])) 0 z d (a + 2) (simp length-append (omega arith)) ∙ simp append-assoc in
+    rw (k, s₀, s₁) s₂
+
+-- turn i at a committed place; m, b and d are what the code computed
+pub pair-add : {test : ℕ → Bool} {ps : List Place} {t t₁ : List ℕ} {a a₁ i m b d : ℕ} → Begun test ps t a i → i < 64
+    → m ≡ markIn test (placeAt ps i .life) → (m ≡ 0 → ⊥) → b ≡ numberIn (placeAt ps i .life) → d ≡ instantIn (placeAt ps i .life)
+    → t₁ ≡ set (set (set t a m) (a + 1) b) (a + 2) d → a₁ ≡ a + 3 → Begun test ps t₁ a₁ (i + 1)
+unfolding pairTableFrom
+pair-add {test} {ps} {t} {t₁} {a} {a₁} {i} {m} {b} {d} g h em z eb ed et ea =
+    let life = placeAt ps i .life in
+    let entry = m ∷ b ∷ d ∷ [] in
+    let rest = pairTableFrom test ps (i + 1) (64 - (i + 1)) in
+    let k : 64 - i ≡ suc (64 - (i + 1)) = omega arith in
+    let w : g .front ++ (pairEntry test life ++ rest) ≡ pairTableFrom test ps 0 64 = rw k at (g .whole) in
+    let o : pairEntry test life ≡ entry = one-entry test life (λ q. z (em ∙ q)) ∙ rw (em, eb, ed) in
+    let v : g .front ++ (entry ++ rest) ≡ pairTableFrom test ps 0 64 = rw o at w in
+    let n : length (g .front) ≡ a = g .size in
+    record {
+      full = rw et (simp length-set (g .full));
+      room = omega arith;
+      front = g .front ++ entry;
+      size = simp length-append (omega arith);
+      laid = et ∙ rw (g .laid, ea) (three-stores (g .front) a m b d n (omega arith));
+      whole = append-assoc (g .front) entry rest ∙ v;
+    }
+
+pub pair-done : {test : ℕ → Bool} {ps : List Place} {t : List ℕ} {a i : ℕ} → Begun test ps t a i → 64 ≤ i
+    → t ≡ padded (pairTableFrom test ps 0 64)
+unfolding pairTableFrom padded
+pair-done {test} {ps} {t} {a} {i} g h =
+    let k : 64 - i ≡ 0 = omega arith in
+    let w : g .front ++ [] ≡ pairTableFrom test ps 0 64 = rw k at (g .whole) in
+    let v : g .front ≡ pairTableFrom test ps 0 64 = sym (append-nil (g .front)) ∙ w in
+    g .laid ∙ rw (← v, g .size)
 
 -- ---- searching it from the front
 
-pub time-miss : (t : List ℕ) (n i : ℕ) → i < 64 → (getD t (3 * i) 0 ≡ 0) ⊎ (eqb (getD t (3 * i + 1) 0) n ≡ false)
+pub time-end : (t : List ℕ) (n i : ℕ) → i < 64 → getD t (3 * i) 0 ≡ 0 → timeFrom t n i (64 - i) ≡ Untimed
+unfolding timeFrom
+time-end t n i h z = let m : 64 - i ≡ suc (64 - (i + 1)) = omega arith in simp (m, z)
+
+pub time-miss : (t : List ℕ) (n i : ℕ) → i < 64 → (getD t (3 * i) 0 ≡ 0 → ⊥) → (getD t (3 * i + 1) 0 ≡ n → ⊥)
     → timeFrom t n (i + 1) (64 - (i + 1)) ≡ timeFrom t n i (64 - i)
 unfolding timeFrom
-time-miss t n i h (inl z) = let m : 64 - i ≡ suc (64 - (i + 1)) = omega arith in simp (m, z)
-time-miss t n i h (inr e) = let m : 64 - i ≡ suc (64 - (i + 1)) = omega arith in simp (m, e, and-false)
+time-miss t n i h d e = let m : 64 - i ≡ suc (64 - (i + 1)) = omega arith in simp (m, ne-eqb _ _ d, ne-eqb _ _ e)
 
-pub time-hit : (t : List ℕ) (n i : ℕ) → i < 64 → (getD t (3 * i) 0 ≡ 0 → ⊥) → eqb (getD t (3 * i + 1) 0) n ≡ true
+pub time-hit : (t : List ℕ) (n i : ℕ) → i < 64 → (getD t (3 * i) 0 ≡ 0 → ⊥) → getD t (3 * i + 1) 0 ≡ n
     → timeFrom t n i (64 - i) ≡ cond (eqb (getD t (3 * i) 0) 1) (Timed (record { 0 = getD t (3 * i + 2) 0 })) Untimed
 unfolding timeFrom
-time-hit t n i h d e = let m : 64 - i ≡ suc (64 - (i + 1)) = omega arith in simp (m, ne-eqb _ _ d, e)
+time-hit t n i h d e = let m : 64 - i ≡ suc (64 - (i + 1)) = omega arith in simp (m, ne-eqb _ _ d, eq-eqb _ _ e)
 
 pub time-none : (t : List ℕ) (n i : ℕ) → 64 ≤ i → timeFrom t n i (64 - i) ≡ Untimed
 unfolding timeFrom
@@ -80,50 +142,73 @@ timeIf test Free = Untimed
 timeIf test (Active n k) = Untimed
 timeIf test (Committed n t e) = cond (test (e .0)) (Timed t) Untimed
 
-entry : (test : ℕ → Bool) (life : Life) (n i : ℕ) (later : Timing) (rest : Found) (f : ℕ → Timing)
-    → f i ≡ timeIf test life → later ≡ atFound rest f
-    → cond (not (eqb (markIn test life) 0) && eqb (numberIn life) n)
-    (cond (eqb (markIn test life) 1) (Timed (record { 0 = instantIn life })) Untimed)
-    later
-    ≡ atFound (cond (committedAs life n) (At i) rest) f
-entry test Free n i later rest f h e = e
-entry test (Active m k) n i later rest f h e = e
-entry test (Committed m t d) n i later rest f h e = go (test (d .0)) (eqb (m .0) n) refl
+-- zeros end the search
+zeros : (p : List ℕ) (z n j m : ℕ) → length p ≡ 3 * j → timeFrom (p ++ replicate z 0) n j m ≡ Untimed
+unfolding timeFrom
+zeros p z n j zero len = refl
+zeros p z n j (suc m) len =
+    let e : 3 * j ≡ length p + 0 = omega arith in
+    let g : getD (p ++ replicate z 0) (3 * j) 0 ≡ 0 = rw e (getD-append-add p (replicate z 0) 0 0 ∙ first-zero z) in
+    simp g
   where
-    go : (b q : Bool) → test (d .0) ≡ b
-        → cond (not (eqb (cond b 1 2) 0) && q) (cond (eqb (cond b 1 2) 1) (Timed t) Untimed) later ≡ atFound (cond q (At i) rest) f
-    go true true w = sym (h ∙ rw w)
-    go false true w = sym (h ∙ rw w)
-    go true false w = e
-    go false false w = e
+    first-zero : (z : ℕ) → _≡_ {A = ℕ} (getD (replicate z 0) 0 0) 0
+    first-zero zero = refl
+    first-zero (suc z) = refl
 
--- the entries behind some first ones
-search-from : (test : ℕ → Bool) (ps : List Place) (n : ℕ) (f : ℕ → Timing) → ((i : ℕ) → f i ≡ timeIf test (placeAt ps i .life))
-    → (k i : ℕ) (p : List ℕ) → length p ≡ 3 * i
-    → timeFrom (p ++ pairTableFrom test ps i k) n i k ≡ atFound (first (λ j. committedAs (placeAt ps j .life) n) k i) f
-unfolding timeFrom pairTableFrom pairEntry first
-search-from test ps n f h zero i p len = refl
-search-from test ps n f h (suc k) i p len =
+-- the search at one place: past one that is not committed it goes on with the same entry, past another with the next
+search-place : (test : ℕ → Bool) (life : Life) (n i j m : ℕ) (p r : List ℕ) (rest : Found) (f : ℕ → Timing)
+    → f i ≡ timeIf test life → length p ≡ 3 * j → timeFrom (p ++ r) n j (suc m) ≡ atFound rest f
+    → ((q : List ℕ) → length q ≡ 3 * (j + 1) → timeFrom (q ++ r) n (j + 1) m ≡ atFound rest f)
+    → timeFrom (p ++ (pairEntry test life ++ r)) n j (suc m) ≡ atFound (cond (committedAs life n) (At i) rest) f
+unfolding timeFrom pairEntry
+search-place test Free n i j m p r rest f h len same next = same
+search-place test (Active l k) n i j m p r rest f h len same next = same
+search-place test (Committed l t e) n i j m p r rest f h len same next =
+    let a : ℕ = cond (test (e .0)) 1 2 in
+    let b = l .0 in
+    let d = t .0 in
+    let g₀ : getD (p ++ (a ∷ b ∷ d ∷ r)) (3 * j) 0 ≡ a = getD-at p a (b ∷ d ∷ r) 0 (3 * j) len in
+    let g₁ : getD (p ++ (a ∷ b ∷ d ∷ r)) (3 * j + 1) 0 ≡ b =
+    ap (λ (x : List ℕ). getD x (3 * j + 1) 0) (sym (append-assoc p (a ∷ []) (b ∷ d ∷ r)))
+    ∙ getD-at (p ++ (a ∷ [])) b (d ∷ r) 0 (3 * j + 1) (simp length-append (omega arith)) in
+    let g₂ : getD (p ++ (a ∷ b ∷ d ∷ r)) (3 * j + 2) 0 ≡ d =
+    ap (λ (x : List ℕ). getD x (3 * j + 2) 0) (sym (append-assoc p (a ∷ b ∷ []) (d ∷ r)))
+    ∙ getD-at (p ++ (a ∷ b ∷ [])) d r 0 (3 * j + 2) (simp length-append (omega arith)) in
+    let w : timeFrom (p ++ (a ∷ b ∷ d ∷ r)) n (j + 1) m ≡ atFound rest f =
+    ap (λ (x : List ℕ). timeFrom x n (j + 1) m) (sym (append-assoc p (a ∷ b ∷ d ∷ []) r))
+    ∙ next (p ++ (a ∷ b ∷ d ∷ [])) (simp length-append (omega arith)) in
+    rw (g₀, g₁, g₂) (go (test (e .0)) (eqb (l .0) n) _ refl w)
+  where
+    go : (b q : Bool) (later : Timing) → test (e .0) ≡ b → later ≡ atFound rest f
+        → cond (eqb (cond b 1 2) 0) Untimed (cond q (cond (eqb (cond b 1 2) 1) (Timed t) Untimed) later) ≡ atFound (cond q (At i) rest) f
+    go true true later w g = sym (h ∙ rw w)
+    go false true later w g = sym (h ∙ rw w)
+    go true false later w g = g
+    go false false later w g = g
+
+-- the entries of the k places from place i on, behind j others and before z zeros
+search-from : (test : ℕ → Bool) (ps : List Place) (n z : ℕ) (f : ℕ → Timing) → ((i : ℕ) → f i ≡ timeIf test (placeAt ps i .life))
+    → (k i j m : ℕ) (p : List ℕ) → length p ≡ 3 * j → k ≤ m
+    → timeFrom (p ++ (pairTableFrom test ps i k ++ replicate z 0)) n j m ≡ atFound (first (λ x. committedAs (placeAt ps x .life) n) k i) f
+unfolding pairTableFrom first
+search-from test ps n z f h zero i j m p len le = zeros p z n j m len
+search-from test ps n z f h (suc k) i j zero p len le = absurd (omega arith)
+search-from test ps n z f h (suc k) i j (suc m) p len le =
     let life = placeAt ps i .life in
-    let a = markIn test life in
-    let b = numberIn life in
-    let d = instantIn life in
-    let r = pairTableFrom test ps (i + 1) k in
-    let g₀ : getD (p ++ (a ∷ b ∷ d ∷ r)) (3 * i) 0 ≡ a = getD-at p a (b ∷ d ∷ r) 0 (3 * i) len in
-    let g₁ : getD (p ++ (a ∷ b ∷ d ∷ r)) (3 * i + 1) 0 ≡ b =
-    ap (λ (l : List ℕ). getD l (3 * i + 1) 0) (sym (append-assoc p (a ∷ []) (b ∷ d ∷ r)))
-    ∙ getD-at (p ++ (a ∷ [])) b (d ∷ r) 0 (3 * i + 1) (simp length-append (omega arith)) in
-    let g₂ : getD (p ++ (a ∷ b ∷ d ∷ r)) (3 * i + 2) 0 ≡ d =
-    ap (λ (l : List ℕ). getD l (3 * i + 2) 0) (sym (append-assoc p (a ∷ b ∷ []) (d ∷ r)))
-    ∙ getD-at (p ++ (a ∷ b ∷ [])) d r 0 (3 * i + 2) (simp length-append (omega arith)) in
-    let w : timeFrom (p ++ (a ∷ b ∷ d ∷ r)) n (i + 1) k ≡ atFound (first (λ j. committedAs (placeAt ps j .life) n) k (i + 1)) f =
-    ap (λ (l : List ℕ). timeFrom l n (i + 1) k) (sym (append-assoc p (a ∷ b ∷ d ∷ []) r))
-    ∙ search-from test ps n f h k (i + 1) (p ++ (a ∷ b ∷ d ∷ [])) (simp length-append (omega arith)) in
-    rw (g₀, g₁, g₂) (entry test life n i _ _ f (h i) w)
+    let r = pairTableFrom test ps (i + 1) k ++ replicate z 0 in
+    rw (append-assoc (pairEntry test life) (pairTableFrom test ps (i + 1) k) (replicate z 0))
+    (search-place test life n i j m p r (first (λ x. committedAs (placeAt ps x .life) n) k (i + 1)) f (h i) len
+    (search-from test ps n z f h k (i + 1) j (suc m) p len (omega arith))
+    (λ q s. search-from test ps n z f h k (i + 1) (j + 1) m q s (omega arith)))
+
+search-all : (test : ℕ → Bool) (ps : List Place) (n : ℕ) (f : ℕ → Timing) → ((i : ℕ) → f i ≡ timeIf test (placeAt ps i .life))
+    → timeFrom (padded (pairTableFrom test ps 0 64)) n 0 64 ≡ atFound (first (λ x. committedAs (placeAt ps x .life) n) 64 0) f
+unfolding padded
+search-all test ps n f h = search-from test ps n (192 - length (pairTableFrom test ps 0 64)) f h 64 0 0 64 [] refl (omega arith)
 
 pub time-any : (ps : List Place) (limit n : ℕ) → timeIn (pairTable ps true limit) n ≡ timeUnder ps n
 unfolding timeIn pairTable timeUnder findCommitted upTo
-time-any ps limit n = search-from (upTo true limit) ps n (λ i. timeOf (placeAt ps i .life)) (λ i. same (placeAt ps i .life)) 64 0 [] refl
+time-any ps limit n = search-all (upTo true limit) ps n (λ i. timeOf (placeAt ps i .life)) (λ i. same (placeAt ps i .life))
   where
     same : (life : Life) → timeOf life ≡ timeIf (upTo true limit) life
     same Free = refl
@@ -132,7 +217,7 @@ time-any ps limit n = search-from (upTo true limit) ps n (λ i. timeOf (placeAt 
 
 pub time-stored : (ps : List Place) (limit n : ℕ) → timeIn (pairTable ps false limit) n ≡ storedUnder ps limit n
 unfolding timeIn pairTable storedUnder findCommitted upTo
-time-stored ps limit n = search-from (upTo false limit) ps n (λ i. timeUpTo (placeAt ps i .life) limit) (λ i. same (placeAt ps i .life)) 64 0 [] refl
+time-stored ps limit n = search-all (upTo false limit) ps n (λ i. timeUpTo (placeAt ps i .life) limit) (λ i. same (placeAt ps i .life))
   where
     same : (life : Life) → timeUpTo life limit ≡ timeIf (upTo false limit) life
     same Free = refl
@@ -146,10 +231,25 @@ times-any ps limit = fun-ext (λ n. time-any ps limit n)
 pub times-stored : (ps : List Place) (limit : ℕ) → timeIn (pairTable ps false limit) ≡ storedUnder ps limit
 times-stored ps limit = fun-ext (λ n. time-stored ps limit n)
 
+-- an entry has at most three numbers, so those of 64 places fit into the table
+entry-short : (test : ℕ → Bool) (life : Life) → length (pairEntry test life) ≤ 3
+unfolding pairEntry
+entry-short test Free = omega arith
+entry-short test (Active n k) = omega arith
+entry-short test (Committed n t e) = omega arith
+
+entries-short : (test : ℕ → Bool) (ps : List Place) (k i : ℕ) → length (pairTableFrom test ps i k) ≤ 3 * k
+unfolding pairTableFrom
+entries-short test ps zero i = omega arith
+entries-short test ps (suc k) i =
+    let h = entries-short test ps k (i + 1) in
+    let g = entry-short test (placeAt ps i .life) in
+    simp length-append (omega arith)
+
+length-padded : (xs : List ℕ) → length xs ≤ 192 → length (padded xs) ≡ 192
+unfolding padded
+length-padded xs h = simp (length-append, length-replicate) (omega arith)
+
 pub length-pairTable : (ps : List Place) (any : Bool) (limit : ℕ) → length (pairTable ps any limit) ≡ 192
-unfolding pairTable pairTableFrom pairEntry
-length-pairTable ps any limit = go (upTo any limit) 64 0
-  where
-    go : (test : ℕ → Bool) (k i : ℕ) → length (pairTableFrom test ps i k) ≡ 3 * k
-    go test zero i = refl
-    go test (suc k) i = let h : length (pairTableFrom test ps (i + 1) k) ≡ 3 * k = go test k (i + 1) in omega arith
+unfolding pairTable
+length-pairTable ps any limit = length-padded _ (entries-short (upTo any limit) ps 64 0)

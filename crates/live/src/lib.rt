@@ -270,24 +270,28 @@ fn instant_of(p: Place) -> u64
     }
 }
 
-// The committed pairs as a flat table that a search can be lent.
+// The committed pairs as a flat table that a search can be lent: one behind the other, then zeros.
 pub fn pair_table(places: [Place; 64], any: bool, limit: u64) -> [u64; 192]
     ensures { λ r. ⌜ r ≡ pairTable places any limit ⌝ }
 {
     let mut table = [0u64; 192];
+    let mut a: usize = 0;
     let mut i: usize = 0;
     while i < 64 {
         let p = places[i];
-        let a = 3 * i;
-        table[a] = mark_of(p, any, limit);
-        table[a + 1] = number_of(p);
-        table[a + 2] = instant_of(p);
+        let m = mark_of(p, any, limit);
+        if m != 0 {
+            table[a] = m;
+            table[a + 1] = number_of(p);
+            table[a + 2] = instant_of(p);
+            a += 3;
+        }
         i += 1;
     }
     table
 }
 
-// What the first entry of such a table under a number says.
+// What the first entry of such a table under a number says; the table ends at a mark of 0.
 pub fn time_in(table: &[u64], n: u64) -> Timing
     requires { ⌜ length (now table) ≡ 192 ⌝ }
     ensures { λ r. ⌜ r ≡ timeIn (now (table .entry)) n ⌝ }
@@ -295,7 +299,10 @@ pub fn time_in(table: &[u64], n: u64) -> Timing
     let mut i: usize = 0;
     while i < 64 {
         let a = 3 * i;
-        if table[a] != 0 && table[a + 1] == n {
+        if table[a] == 0 {
+            return Timing::Untimed;
+        }
+        if table[a + 1] == n {
             if table[a] == 1 {
                 return Timing::Timed(layout::CommitTime(table[a + 2]));
             }

@@ -1,13 +1,12 @@
--- `pair_table` meets its contract: the entries before i are written, and with those that are left they are the table.
-use mathlib.Core.Path.{refl, _≡_, _∙_}
-use mathlib.Core.List.{_++_}
-use Prim.Native.Nat.{_*_, _-_}
+-- `pair_table` meets its contract: the entries of the places before i stand at the front, zeros are behind them, and with
+-- the entries of the places that are left they are those of all places.
+use mathlib.Core.Logic.{⊎-elim}
+use Prim.Native.Nat.{_-_}
 use native.Mathlib.Omega.{arith}
 use borrow.Author.Needs.{needs}
-use lib.ListN.{length, take, length-set}
 use Rattle.store.specs.Places.{placeAt}
-use Rattle.live.specs.Pairs.{upTo, pairTableFrom, pairTable}
-use Rattle.live.proofs.PairLaws.{pair-turn, pair-done}
+use Rattle.live.specs.Pairs.{upTo, pairTable}
+use Rattle.live.proofs.PairLaws.{Begun, pair-begin, pair-skip, pair-add, pair-done}
 use Rattle.live.proofs.pair_table.Statement.{statement}
 use Rattle.live.proofs.pair_table.Tie as tie
 use Rattle.live.proofs.pair_table.Reads as reads
@@ -17,23 +16,19 @@ use Rattle.live.proofs.mark_of.Reads as mark-of-reads
 use Rattle.live.proofs.number_of.Reads as number-of-reads
 
 abbrev Inv-loop : tie.InvT-loop
-Inv-loop any limit places table₀ i₀ table i =
-    (length table ≡ 192) × (take (3 * i) table ++ pairTableFrom (upTo any limit) places i (64 - i) ≡ pairTableFrom (upTo any limit) places 0 64)
+Inv-loop any limit places table₀ a₀ i₀ table a i = Begun (upTo any limit) places table a i
 
 abbrev μ-loop : tie.MeasureT-loop
-μ-loop any limit places table₀ i₀ table i = 64 - i
+μ-loop any limit places table₀ a₀ i₀ table a i = 64 - i
 
 loop-holds : tie.Need-loop-holds Inv-loop μ-loop
-loop-holds c = (refl, refl)
+loop-holds c = pair-begin _ _
 
 mul-p : tie.Need-mul-p Inv-loop μ-loop
 mul-p c = omega arith
 
 array-copy-out-p : tie.Need-array-copy-out-p Inv-loop μ-loop
 array-copy-out-p c = omega arith
-
-mul-a : tie.Need-mul-a Inv-loop μ-loop
-mul-a c = omega arith
 
 mark-of-requires : tie.Need-mark-of-requires Inv-loop μ-loop
 mark-of-requires c κs = search needs
@@ -68,6 +63,9 @@ mul-table-3 c = omega arith
 array-write-table-3 : tie.Need-array-write-table-3 Inv-loop μ-loop
 array-write-table-3 c = omega arith
 
+add-a : tie.Need-add-a Inv-loop μ-loop
+add-a c = omega arith
+
 add-i : tie.Need-add-i Inv-loop μ-loop
 add-i c = omega arith
 
@@ -77,20 +75,17 @@ loop-less c = omega arith
 loop-again : tie.Need-loop-again Inv-loop μ-loop
 unfolding placeAt
 loop-again c =
-    let k = c .before .before .before .before .before in
-    let a = k .before .args in
-    let w = k .loop in (
-      simp length-set (w .inv .0),
-      pair-turn (upTo (a .any) (a .limit)) (a .t1) (w .table) (w .i) _ _ _ (c .before .before .before .before .loop-test .taken) (w .inv .0)
-          (c .before .before .mark-of .ensures) (c .before .number-of .ensures) (c .instant-of .ensures)
-          ∙ w .inv .1,
-    )
+    let m = c .before in
+    let h = m .before .before .loop-test .taken in
+    let g = m .before .before .before .loop .inv in
+    ⊎-elim
+    (λ w. pair-add g h (m .mark-of .ensures) (w .0 .taken) (w .1 .ensures) (w .2 .ensures) (w .3) (w .4))
+    (λ w. pair-skip g h (m .mark-of .ensures) (w .0 .left) (w .1) (w .2))
+    (c .if1 .came)
 
 returns : tie.Need-returns Inv-loop μ-loop
 unfolding pairTable
-returns c =
-    let k = c .before in
-    pair-done _ _ _ _ (k .loop .i) (c .loop-test .left) (k .loop .inv .0) (k .loop .inv .1)
+returns c = pair-done (c .before .loop .inv) (c .loop-test .left)
 
 pub pair-table-spec : {M : Type 1} → statement M
 pair-table-spec =
@@ -101,7 +96,6 @@ pair-table-spec =
     loop-holds
     mul-p
     array-copy-out-p
-    mul-a
     mark-of-requires
     mul-table
     array-write-table
@@ -113,6 +107,7 @@ pair-table-spec =
     add-table-2
     mul-table-3
     array-write-table-3
+    add-a
     add-i
     loop-less
     loop-again

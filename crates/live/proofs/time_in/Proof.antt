@@ -1,11 +1,10 @@
 -- `time_in` meets its contract: the search from entry i on finds what the search from entry 0 on finds.
 use mathlib.Core.Path.{refl, _≡_, sym, _∙_}
-use mathlib.Core.Logic.{⊎-elim, inl, inr}
 use Prim.Native.Nat.{_-_}
 use native.Mathlib.Omega.{arith}
 use borrow.Author.Tests.{eq-eqb, ne-eqb}
 use Rattle.live.specs.Pairs.{timeFrom, timeIn}
-use Rattle.live.proofs.PairLaws.{time-miss, time-hit, time-none}
+use Rattle.live.proofs.PairLaws.{time-end, time-miss, time-hit, time-none}
 use Rattle.live.proofs.time_in.Statement.{statement}
 use Rattle.live.proofs.time_in.Tie as tie
 use Rattle.live.proofs.time_in.Reads as reads
@@ -29,6 +28,12 @@ mul-if1 c = omega arith
 shared-slice-read-if1 : tie.Need-shared-slice-read-if1 Inv-loop μ-loop
 shared-slice-read-if1 c = omega arith
 
+returns : tie.Need-returns Inv-loop μ-loop
+unfolding timeIn
+returns c =
+    let k = c .before .before .before in
+    sym (time-end (k .before .args .table .now) _ (k .loop .i) (c .before .before .loop-test .taken) (c .if1 .taken)) ∙ k .loop .inv
+
 add-if2 : tie.Need-add-if2 Inv-loop μ-loop
 add-if2 c = omega arith
 
@@ -44,29 +49,29 @@ mul-if3 c = omega arith
 shared-slice-read-if3 : tie.Need-shared-slice-read-if3 Inv-loop μ-loop
 shared-slice-read-if3 c = omega arith
 
-add-t19 : tie.Need-add-t19 Inv-loop μ-loop
-add-t19 c = omega arith
+add-t15 : tie.Need-add-t15 Inv-loop μ-loop
+add-t15 c = omega arith
 
-mul-t20 : tie.Need-mul-t20 Inv-loop μ-loop
-mul-t20 c = omega arith
+mul-t16 : tie.Need-mul-t16 Inv-loop μ-loop
+mul-t16 c = omega arith
 
-shared-slice-read-t22 : tie.Need-shared-slice-read-t22 Inv-loop μ-loop
-shared-slice-read-t22 c = omega arith
-
-returns : tie.Need-returns Inv-loop μ-loop
-unfolding timeIn
-returns c =
-    let j = c .before .before .before in
-    let k = j .before .before .before .before .before in
-    let e = time-hit (k .before .args .table .now) _ (k .loop .i) (j .before .before .before .before .loop-test .taken) (j .before .before .if1 .taken) (j .if2 .taken) in
-    sym (simp (eq-eqb _ _ (c .before .if3 .taken)) at e) ∙ k .loop .inv
+shared-slice-read-t18 : tie.Need-shared-slice-read-t18 Inv-loop μ-loop
+shared-slice-read-t18 c = omega arith
 
 returns-2 : tie.Need-returns-2 Inv-loop μ-loop
 unfolding timeIn
 returns-2 c =
+    let j = c .before .before .before in
+    let k = j .before .before .before .before .before in
+    let e = time-hit (k .before .args .table .now) _ (k .loop .i) (j .before .before .before .before .loop-test .taken) (j .before .before .if1 .left) (j .if2 .taken) in
+    sym (simp (eq-eqb _ _ (c .before .if3 .taken)) at e) ∙ k .loop .inv
+
+returns-3 : tie.Need-returns-3 Inv-loop μ-loop
+unfolding timeIn
+returns-3 c =
     let j = c .before .before in
     let k = j .before .before .before .before .before in
-    let e = time-hit (k .before .args .table .now) _ (k .loop .i) (j .before .before .before .before .loop-test .taken) (j .before .before .if1 .taken) (j .if2 .taken) in
+    let e = time-hit (k .before .args .table .now) _ (k .loop .i) (j .before .before .before .before .loop-test .taken) (j .before .before .if1 .left) (j .if2 .taken) in
     sym (simp (ne-eqb _ _ (c .if3 .left)) at e) ∙ k .loop .inv
 
 add-i : tie.Need-add-i Inv-loop μ-loop
@@ -77,17 +82,12 @@ loop-less c = omega arith
 
 loop-again : tie.Need-loop-again Inv-loop μ-loop
 loop-again c =
-    let k = c .before .before .before in
-    let h = c .before .before .loop-test .taken in
-    ⊎-elim
-    (λ w. time-miss (k .before .args .table .now) (k .before .args .n) (k .loop .i) h (inr (w .2 .left)))
-    (λ w. time-miss (k .before .args .table .now) (k .before .args .n) (k .loop .i) h (inl (w .left)))
-    (c .if1 .came)
-    ∙ k .loop .inv
+    let k = c .before .before .before .before .before in
+    time-miss (k .before .args .table .now) (k .before .args .n) (k .loop .i) (c .before .before .before .before .loop-test .taken) (c .before .before .if1 .left) (c .if2 .left) ∙ k .loop .inv
 
-returns-3 : tie.Need-returns-3 Inv-loop μ-loop
+returns-4 : tie.Need-returns-4 Inv-loop μ-loop
 unfolding timeIn
-returns-3 c = sym (time-none _ _ (c .before .loop .i) (c .loop-test .left)) ∙ c .before .loop .inv
+returns-4 c = sym (time-none _ _ (c .before .loop .i) (c .loop-test .left)) ∙ c .before .loop .inv
 
 pub time-in-spec : {M : Type 1} → statement M
 time-in-spec =
@@ -99,17 +99,18 @@ time-in-spec =
     mul-a
     mul-if1
     shared-slice-read-if1
+    returns
     add-if2
     mul-if2
     shared-slice-read-if2
     mul-if3
     shared-slice-read-if3
-    add-t19
-    mul-t20
-    shared-slice-read-t22
-    returns
+    add-t15
+    mul-t16
+    shared-slice-read-t18
     returns-2
+    returns-3
     add-i
     loop-less
     loop-again
-    returns-3)
+    returns-4)
