@@ -16,7 +16,7 @@ use Rattle.store.specs.declared.State.{State}
 use Rattle.store.specs.Answer.{ask}
 use Rattle.store.specs.State.{fits}
 use Rattle.store.specs.Tail.{tailFits, mayLog, logged, loggedIf}
-use Rattle.live.proofs.FitLaws.{fit-facts}
+use Rattle.store.proofs.FitLaws.{fit-of}
 use Rattle.tail.specs.Taken.{taken}
 use Rattle.tail.proofs.TailLaws.{may-begin}
 use Rattle.calls.specs.Asked.{verdict}
@@ -45,9 +45,9 @@ sequence-logged s t m c k r f w e = rw e (by (tailFits (s .tail) (recordSize r))
   where
     by : (b : Bool) → tailFits (s .tail) (recordSize r) ≡ b → sequenceOf (loggedIf b s m r .tail) < 2 ^ 48
     by true x =
-        let h = fit-facts s k c f in
-        let u = h .used in
-        rw (sequence-addRecord (s .tail) r (omega arith)) (h .sequence)
+        let h = fit-of s k c f in
+        let u = h .tail .used-low in
+        rw (sequence-addRecord (s .tail) r (omega arith)) (h .tail .sequence-high)
     by false x =
         let n = sequenceOf (s .tail) + 1 in
         let l : n < 2 ^ 48 = may-begin s m (recordSize r) w x in

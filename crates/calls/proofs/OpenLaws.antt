@@ -18,7 +18,7 @@ use Rattle.store.specs.State.{inRange, noState}
 use Rattle.store.specs.OpenLog.{lastTime}
 use Rattle.store.specs.OpenConditions.{wellFormed, redone}
 use Rattle.store.specs.Open.{openedState, refusedCache, openIf, openOf}
-use Rattle.live.proofs.FitLaws.{Range, range-facts}
+use Rattle.store.proofs.FitLaws.{InRange, range-of}
 use Rattle.opening.specs.Cursor.{Ready}
 
 -- a refusal with the state of zeros
@@ -36,14 +36,14 @@ module _ (m c : List ℕ) (l d : ℕ) (t : Bool) (sizes : t ≡ inRange l d && e
     sized : inRange l d && eqb (length m) (mediumLength l d) ≡ true
     sized = sym sizes ∙ right
 
-    pub range : Range l d
-    range = range-facts l d (and-0 (inRange l d) (eqb (length m) (mediumLength l d)) sized)
+    pub range : InRange l d
+    range = range-of l d (and-0 (inRange l d) (eqb (length m) (mediumLength l d)) sized)
 
     pub medium-is : length m ≡ mediumLength l d
     medium-is = eqb-true (length m) (mediumLength l d) (and-1 (inRange l d) (eqb (length m) (mediumLength l d)) sized)
 
     pub ready : Ready l (length m)
-    ready = record { low = range .low; high = range .high; pages = d; few = range .pages; medium = medium-is }
+    ready = record { low = range .blocks-low; high = range .blocks-high; pages = d; few = range .pages-high; medium = medium-is }
 
     pub bad-cache : (length c ≡ cacheLength d → ⊥) → refuses BadCache noState m c ≡ openOf m c l d
     unfolding openOf openIf refusedCache refusalNumber

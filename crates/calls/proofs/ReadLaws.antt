@@ -31,7 +31,7 @@ use Rattle.store.specs.CurrentRead.{reads, readCell, currentAt, currentIf, curr
 use Rattle.store.specs.AsOf.{asOfAt, asOfIf, asOfOf}
 use Rattle.store.specs.Changes.{lineBytes, linesBelow, changeLines, changesIf, changesOf}
 use Rattle.live.specs.Pairs.{pairTable, timeIn}
-use Rattle.live.proofs.FitLaws.{fit-facts}
+use Rattle.store.proofs.FitLaws.{fit-of}
 use Rattle.live.proofs.PairLaws.{times-any}
 use Rattle.chain.specs.Room.{Room, Head}
 use Rattle.chain.proofs.RoomLaws.{room-lower, kind-read, value-read}
@@ -42,8 +42,8 @@ use Rattle.calls.specs.Asked.{readingOf}
 pub fit-room : (s : State) (m c : ℕ) → fits s m c ≡ true → Room c (s .slots)
 unfolding cacheLength
 fit-room s m c e =
-    let f = fit-facts s m c e in
-    record { pages = s .pages; few = f .range .pages; size = f .cache; below = f .slots }
+    let f = fit-of s m c e in
+    record { pages = s .pages; few = f .range .pages-high; size = f .cache; below = f .slots }
 
 unless-head : (l : ℕ) (st : Slot) (f : Found) → Head f l → Head (unlessEmpty st Nothing f) l
 unless-head l Empty f h = tt

@@ -20,7 +20,7 @@ use Rattle.store.specs.Answer.{leaves}
 use Rattle.store.specs.State.{fits}
 use Rattle.store.specs.StorePage.{stampFrom, storedPair, stampedPage, settleFrom, settled, pageStored, storePageIf, storePageOf}
 use Rattle.live.specs.Pairs.{pairTable, timeIn}
-use Rattle.live.proofs.FitLaws.{fit-facts}
+use Rattle.store.proofs.FitLaws.{fit-of}
 use Rattle.live.proofs.PairLaws.{times-stored}
 use Rattle.pages.proofs.StampLaws.{length-stampFrom}
 use Rattle.calls.specs.Asked.{storedAs}
@@ -29,20 +29,20 @@ use Rattle.calls.specs.Asked.{storedAs}
 
 pub log-within : (s : State) (m c k q : ℕ) → fits s m c ≡ true → k ≡ logBlockAt (s .blocks) q → 512 * k + 512 ≤ m
 log-within s m c k q e ek =
-    let f = fit-facts s m c e in
+    let f = fit-of s m c e in
     let h = log-in-medium (s .blocks) (s .pages) q (omega arith) in
     omega arith
 
 pub page-within : (s : State) (m c p : ℕ) → fits s m c ≡ true → p < s .pages → (p < 64) × (512 * p + 512 ≤ c)
 page-within s m c p e h =
-    let f = fit-facts s m c e in
+    let f = fit-of s m c e in
     let k = page-in-cache (s .pages) p h in
     (omega arith, omega arith)
 
 pub block-within : (s : State) (m c p k : ℕ) → fits s m c ≡ true → p < s .pages → k ≡ pageBlockAt (s .blocks) p → (k < 128) × (512 * k + 512 ≤ m)
 unfolding pageBlockAt
 block-within s m c p k e h ek =
-    let f = fit-facts s m c e in
+    let f = fit-of s m c e in
     let w = page-in-medium (s .blocks) (s .pages) p h in
     (omega arith, omega arith)
 

@@ -23,7 +23,7 @@ use Rattle.store.specs.Places.{findActive}
 use Rattle.store.specs.State.{fits}
 use Rattle.store.specs.Tail.{mayLog, logged, tailEnd}
 use Rattle.store.specs.Write.{writeAsks, newHead, cellFor, written, writeStep, writeIf, addOf}
-use Rattle.live.proofs.FitLaws.{fit-facts}
+use Rattle.store.proofs.FitLaws.{fit-of}
 use Rattle.tail.specs.Taken.{taken}
 use Rattle.calls.specs.Asked.{verdict}
 use Rattle.calls.specs.declared.refuse.Verdict.{Verdict}
@@ -58,8 +58,8 @@ pub slot-in-cache : (s : State) (m c : ℕ) → fits s m c ≡ true → ltb (s .
     → (s .slots < 960) × (512 * pageOf (s .slots) + 512 ≤ c)
 unfolding cacheLength pageOf
 slot-in-cache s m c f e =
-    let h = fit-facts s m c f in
-    let p = h .range .pages in
+    let h = fit-of s m c f in
+    let p = h .range .pages-high in
     let k = h .cache in
     let l = ltb-true (s .slots) (15 * s .pages) e in
     (omega arith, omega arith)

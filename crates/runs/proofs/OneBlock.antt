@@ -35,7 +35,7 @@ use Rattle.store.specs.Open.{openOf}
 use Rattle.runs.specs.Event.{Call, begin, write, erase, current-read, commit, abort, as-of, changes, store-log, store-page, checkpoint}
 use Rattle.runs.specs.Machine.{called}
 use Rattle.runs.proofs.Asks.{Way, refused, begins, writes, erases, looks, commits, ends, aborts, logs, pages, checks, way}
-use Rattle.runs.proofs.Fitting.{fit-of}
+use Rattle.store.proofs.FitLaws.{fit-of}
 use Rattle.runs.proofs.Refusals.{open-medium}
 
 -- ---- the medium is left alone, or block k of it is replaced

@@ -36,7 +36,8 @@ use Rattle.store.specs.OpenRedo.{pagesOn, Redone, applies, redoIf, redoRecord, 
 use Rattle.store.specs.OpenPairs.{tablePlaces, takeAt, takeFree, openPlaces}
 use Rattle.store.specs.OpenConditions.{Checks, holds, allHold, each, tableChecks, blockChecks, sizesAre, formsOf, fieldsInForm, sequencesInRange, conditions, wellFormed, copied, redone}
 use Rattle.store.specs.Open.{openedState, openOf}
-use Rattle.runs.proofs.Fitting.{InRange, TailFit, Fit, range-of, fit-is, empty-fits}
+use Rattle.store.proofs.FitLaws.{InRange, TailFit, Fit, range-of, fit-is}
+use Rattle.runs.proofs.Fitting.{empty-fits}
 use Rattle.runs.proofs.Lengths.{length-pagesOn}
 use Rattle.runs.proofs.Refusals.{Opening, bad-sizes, bad-cache, malformed, opened, opening-way}
 

@@ -12,7 +12,7 @@ use Rattle.layout.specs.Block.{mediumLength, cacheLength}
 use Rattle.layout.specs.Journal.{sequenceOf, usedOf}
 use Rattle.store.specs.declared.State.{State}
 use Rattle.store.specs.State.{inRange, fits}
-use Rattle.live.proofs.FitLaws.{range-facts}
+use Rattle.store.proofs.FitLaws.{range-of}
 use borrow.Author.Needs.{needs}
 use Rattle.live.proofs.is_fit.Statement.{statement}
 use Rattle.live.proofs.is_fit.Tie as tie
@@ -71,21 +71,21 @@ unfolding fits
 returns c = simp (← c .before .in-range .ensures, not-true (c .before .in-range .result) (c .if1 .taken))
 
 medium-length-requires : tie.Need-medium-length-requires
-medium-length-requires c κs = let h = range-facts _ _ (range-holds c) in (h .high, h .pages)
+medium-length-requires c κs = let h = range-of _ _ (range-holds c) in (h .blocks-high, h .pages-high)
 
 returns-2 : tie.Need-returns-2
 unfolding fits
 returns-2 c = simp (range-holds (c .before .before), ← c .before .medium-length .ensures, ne-eqb _ _ (c .if2 .taken))
 
 cache-length-requires : tie.Need-cache-length-requires
-cache-length-requires c κs = range-facts _ _ (range-holds (c .before .before)) .pages
+cache-length-requires c κs = range-of _ _ (range-holds (c .before .before)) .pages-high
 
 returns-3 : tie.Need-returns-3
 unfolding fits
 returns-3 c = simp (range-holds (c .before .before .before .before), medium-holds (c .before .before), ← c .before .cache-length .ensures, ne-eqb _ _ (c .if3 .taken))
 
 mul-if4 : tie.Need-mul-if4
-mul-if4 c = let h = range-facts _ _ (range-holds (c .before .before .before .before .before)) in omega arith
+mul-if4 c = let h = range-of _ _ (range-holds (c .before .before .before .before .before)) in omega arith
 
 returns-4 : tie.Need-returns-4
 unfolding fits

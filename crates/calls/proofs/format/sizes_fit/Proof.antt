@@ -2,7 +2,7 @@
 use mathlib.Core.Path.{_≡_, sym, _∙_}
 use mathlib.Core.Bool.{true}
 use borrow.Author.Tests.{not-true, not-false}
-use Rattle.live.proofs.FitLaws.{range-facts}
+use Rattle.store.proofs.FitLaws.{range-of}
 use Rattle.store.specs.State.{inRange}
 use borrow.Author.Needs.{needs}
 use Rattle.calls.proofs.format.sizes_fit.Statement.{statement}
@@ -22,7 +22,7 @@ returns : tie.Need-returns
 returns c = simp (← c .before .in-range .ensures, not-true (c .before .in-range .result) (c .if1 .taken))
 
 medium-length-requires : tie.Need-medium-length-requires
-medium-length-requires c κs = let h = range-facts _ _ (q1 c) in (h .high, h .pages)
+medium-length-requires c κs = let h = range-of _ _ (q1 c) in (h .blocks-high, h .pages-high)
 
 returns-2 : tie.Need-returns-2
 returns-2 c = simp (q1 (c .before), c .medium-length .ensures)

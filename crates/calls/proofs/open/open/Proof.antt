@@ -41,7 +41,7 @@ returns : tie.Need-returns
 returns c = ended-is _ _ _ _ _ (c .ended .ensures) (c .before .before .before .no-state .ensures) ∙ bad-sizes _ _ _ _ _ (c .before .before .sizes-fit .ensures) (not-true (c .before .before .sizes-fit .result) (c .before .if1 .taken))
 
 cache-length-requires : tie.Need-cache-length-requires
-cache-length-requires c κs = let a = c .before .before .before .before .before .args in range (a .medium .now) (a .cache .now) _ _ _ (c .before .sizes-fit .ensures) (right c) .pages
+cache-length-requires c κs = let a = c .before .before .before .before .before .args in range (a .medium .now) (a .cache .now) _ _ _ (c .before .sizes-fit .ensures) (right c) .pages-high
 
 ended-requires-2 : tie.Need-ended-requires-2
 ended-requires-2 c κs = search needs
@@ -58,7 +58,7 @@ examine-requires c κs =
     let k = a .cache .now in
     let e = c .before .before .before .before .sizes-fit .ensures in
     let r = right (c .before .before .before) in
-    (ready m k _ _ _ e r, ((range m k _ _ _ e r .pages, medium-is m k _ _ _ e r), cache-is m k _ _ _ e r (fits (c .before))))
+    (ready m k _ _ _ e r, ((range m k _ _ _ e r .pages-high, medium-is m k _ _ _ e r), cache-is m k _ _ _ e r (fits (c .before))))
 
 clear-requires : tie.Need-clear-requires
 clear-requires c κs = search needs
@@ -83,7 +83,7 @@ state-requires c κs =
     let k = a .cache .now in
     let e = c .before .before .before .before .before .before .before .before .before .before .sizes-fit .ensures in
     let r = right (c .before .before .before .before .before .before .before .before .before) in
-    (ready m k _ _ _ e r, ((range m k _ _ _ e r .pages, c .before .before .before .before .cache .given ∙ cache-is m k _ _ _ e r (fits (c .before .before .before .before .before .before .before))), c .before .before .before .before .before .examine .ensures .1 (whole (c .before))))
+    (ready m k _ _ _ e r, ((range m k _ _ _ e r .pages-high, c .before .before .before .before .cache .given ∙ cache-is m k _ _ _ e r (fits (c .before .before .before .before .before .before .before))), c .before .before .before .before .before .examine .ensures .1 (whole (c .before))))
 
 same-length-2 : tie.Need-same-length-2
 same-length-2 c = search needs

@@ -10,7 +10,7 @@ use Rattle.layout.specs.Journal.{sequenceOf}
 use Rattle.store.specs.State.{fits}
 use Rattle.store.specs.Tail.{storedTail}
 use Rattle.store.specs.StoreLog.{storeLogIf, storeLogOf}
-use Rattle.live.proofs.FitLaws.{fit-facts}
+use Rattle.store.proofs.FitLaws.{fit-of}
 use Rattle.calls.proofs.StoreLaws.{log-within}
 use borrow.Author.Needs.{needs}
 use Rattle.calls.proofs.store_log.store_log.Statement.{statement}
@@ -51,7 +51,7 @@ sequence-requires : tie.Need-sequence-requires
 sequence-requires c κs = search needs
 
 log-block-requires : tie.Need-log-block-requires
-log-block-requires c κs = let f = fit-facts _ _ _ (q1 (c .before .before .before)) in (omega arith, omega arith)
+log-block-requires c κs = let f = fit-of _ _ _ (q1 (c .before .before .before)) in (omega arith, omega arith)
 
 slice-aggregate-same-block : tie.Need-slice-aggregate-same-block
 slice-aggregate-same-block c = search needs
@@ -78,12 +78,12 @@ store-requires : tie.Need-store-requires
 store-requires c κs =
     let k = c .before .before .before .before .before .before in
     let e = q1 (k .before .before .before .before) in
-    (log-within _ _ _ _ _ e (k .log-block .ensures), fit-facts _ _ _ e .tail)
+    (log-within _ _ _ _ _ e (k .log-block .ensures), fit-of _ _ _ e .tail .size)
 
 all-stored-requires : tie.Need-all-stored-requires
 all-stored-requires c κs =
     let k = c .before .before .before .before .before .before in
-    fit-facts _ _ _ (q1 (k .before .before .before .before .before .before .before)) .sequence
+    fit-of _ _ _ (q1 (k .before .before .before .before .before .before .before)) .tail .sequence-high
 
 same-length-2 : tie.Need-same-length-2
 same-length-2 c = search needs

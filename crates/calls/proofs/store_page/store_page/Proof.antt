@@ -10,7 +10,7 @@ use Rattle.layout.specs.Equal.{eqList}
 use Rattle.layout.specs.Page.{pageEnd}
 use Rattle.store.specs.State.{fits}
 use Rattle.store.specs.StorePage.{stampedPage, storePageIf, storePageOf}
-use Rattle.live.proofs.FitLaws.{fit-facts}
+use Rattle.store.proofs.FitLaws.{fit-of}
 use Rattle.calls.proofs.StoreLaws.{page-within, block-within, end-asked, page-asked, page-done}
 use borrow.Author.Needs.{needs}
 use Rattle.calls.proofs.store_page.store_page.Statement.{statement}
@@ -113,7 +113,7 @@ pair-table-requires c κs = search needs
 page-block-requires : tie.Need-page-block-requires
 page-block-requires c κs =
     let k = c .before .before .before .before .before .before .before .before in
-    let f = fit-facts _ _ _ (q1 (k .before .before)) in
+    let f = fit-of _ _ _ (q1 (k .before .before)) in
     let w = within k in
     (omega arith, omega arith)
 

@@ -6,7 +6,7 @@ use Rattle.store.specs.declared.Found.the-variants.{At}
 use Rattle.store.specs.Answer.{ask}
 use Rattle.store.specs.Places.{findActive}
 use Rattle.store.specs.Write.{writeAsks, newHead}
-use Rattle.live.proofs.FitLaws.{fit-facts}
+use Rattle.store.proofs.FitLaws.{fit-of}
 use Rattle.calls.proofs.AskLaws.{verdict-go}
 use Rattle.calls.proofs.WriteLaws.{write-asked, write-refused, write-passed}
 use borrow.Author.Needs.{needs}
@@ -39,8 +39,8 @@ enum-known-v-2 c = search needs
 head-of-requires : tie.Need-head-of-requires
 head-of-requires c κs =
     let a = c .before .before .before .before .before .before .before .before .before .args in
-    let h = fit-facts _ _ _ (write-asked (a .s) (a .medium .now) (a .cache .now) _ _ (go (c .before .before) .0) .fit) in
-    (h .cache, (h .range .pages, h .slots))
+    let h = fit-of _ _ _ (write-asked (a .s) (a .medium .now) (a .cache .now) _ _ (go (c .before .before) .0) .fit) in
+    (h .cache, (h .range .pages-high, h .slots))
 
 step-requires : tie.Need-step-requires
 unfolding newHead

@@ -9,7 +9,7 @@ use Rattle.store.specs.declared.Found.the-variants.{At}
 use Rattle.store.specs.Chain.{held}
 use Rattle.store.specs.Places.{findActive}
 use Rattle.store.specs.State.{fits}
-use Rattle.live.proofs.FitLaws.{fit-facts}
+use Rattle.store.proofs.FitLaws.{fit-of}
 use Rattle.tail.proofs.TailLaws.{ready}
 use Rattle.calls.proofs.ReadLaws.{fit-room}
 use borrow.Author.Needs.{needs}
@@ -58,7 +58,7 @@ returns-3 c =
 
 mul-if3 : tie.Need-mul-if3
 mul-if3 c =
-    let h = fit-facts _ _ _ (q1 (c .before .before .before .before .before .before .before .before)) in omega (arith, h .range)
+    let h = fit-of _ _ _ (q1 (c .before .before .before .before .before .before .before .before)) in omega (arith, h .range)
 
 returns-4 : tie.Need-returns-4
 returns-4 c =
