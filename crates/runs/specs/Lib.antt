@@ -2,3 +2,4 @@ pub mod Event
 pub mod Book
 pub mod Machine
 pub mod Demand
+pub mod Plain

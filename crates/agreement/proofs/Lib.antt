@@ -1,0 +1,11 @@
+pub mod history
+pub mod invariant
+pub mod logging
+pub mod transactions
+pub mod stores
+pub mod Cut
+pub mod Start
+pub mod opening
+pub mod reads
+pub mod Main
+pub mod plain

@@ -1,0 +1,5 @@
+pub mod Invariant
+pub mod MediumFacts
+pub mod StoredFacts
+pub mod PlaceFacts
+pub mod PlaceSet

@@ -1,0 +1,15 @@
+pub mod ReadingLaws
+pub mod Reading
+pub mod RedoLaws
+pub mod Redo
+pub mod Pigeons
+pub mod WaitingLaws
+pub mod PairLaws
+pub mod TakeLaws
+pub mod Places
+pub mod CheckLaws
+pub mod FormHolds
+pub mod HistoryHolds
+pub mod PairsHold
+pub mod WellFormed
+pub mod Opened

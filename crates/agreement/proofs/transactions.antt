@@ -1,0 +1,5 @@
+pub mod ActiveLaws
+pub mod WriteLaws
+pub mod Write
+pub mod Commit
+pub mod BeginAbort
