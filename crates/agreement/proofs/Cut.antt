@@ -50,12 +50,6 @@ module _ {l d : ℕ} {m c : List ℕ} {s : State} {b : Book} {disk : Disk} {clos
   here-cell : (n : ℕ) → n < length (versionsOf (disk .stored)) → cell mine n ≡ cell (disk .cells) n
   here-cell n h = getD-take _ (disk .cells) n noCell h
 
-  here-ver : (n : ℕ) → n < length (versionsOf (disk .stored)) → at (versionsOf history) n ≡ at (versionsOf (disk .stored)) n
-  here-ver n h = version-stored (u .medium) n h
-
-  longer : length (versionsOf (disk .stored)) ≤ length (versionsOf history)
-  longer = fewer-stored (u .medium)
-
   waited : (n : ℕ) → 0 < count n mine → 0 < count n (disk .cells)
   waited n h = omega (arith, count-take n (length (versionsOf (disk .stored))) (disk .cells))
 
@@ -78,12 +72,12 @@ module _ {l d : ℕ} {m c : List ℕ} {s : State} {b : Book} {disk : Disk} {clos
       → 0 < find (commitsOf (disk .stored)) (at (versionsOf (disk .stored)) i .num) .time → 0 < find (commitsOf (disk .stored)) (at (versionsOf (disk .stored)) j .num) .time
       → find (commitsOf (disk .stored)) (at (versionsOf (disk .stored)) i .num) .time ≤ find (commitsOf (disk .stored)) (at (versionsOf (disk .stored)) j .num) .time
   steady′ i j h a e f g =
-      let i′ = here-ver i (omega arith) in
-      let j′ = here-ver j a in
+      let i′ = version-stored (u .medium) i (omega arith) in
+      let j′ = version-stored (u .medium) j a in
       let p = find-stored (u .medium) (at (versionsOf (disk .stored)) i .num) f in
       let q = find-stored (u .medium) (at (versionsOf (disk .stored)) j .num) g in
       rw (← p, ← q, ← i′, ← j′)
-      (u .medium .numbers .steady i j h (omega (arith, longer)) (rw (i′, j′) e) (rw (i′, p) f) (rw (j′, q) g))
+      (u .medium .numbers .steady i j h (omega (arith, fewer-stored (u .medium))) (rw (i′, j′) e) (rw (i′, p) f) (rw (j′, q) g))
 
   pub cut-down : Down l d m (fall b) (fallenDisk disk)
   unfolding fall placeAt
@@ -116,12 +110,12 @@ module _ {l d : ℕ} {m c : List ℕ} {s : State} {b : Book} {disk : Disk} {clos
             ∙ ap (λ (vs : List LoggedVersion). pageWith vs (disk .cells) p (disk .on p)) (versions-split (u .medium))
             ∙ ap (λ (cs : List Cell). pageWith (versionsOf (disk .stored) ++ versionsIn (u .medium .log .rest)) cs p (disk .on p)) cells-split
             ∙ pageWith-grow (versionsOf (disk .stored)) (versionsIn (u .medium .log .rest)) mine gone p (disk .on p) kept-length (u .medium .pages .few p .1);
-        kept = λ n h. rw (← (here-ver n h)) (u .medium .pages .kept n (omega (arith, longer)));
-        slot = λ n h. rw (← (here-ver n h)) (u .medium .pages .slot n (omega (arith, longer)));
-        room = omega (arith, u .medium .pages .room, longer);
+        kept = λ n h. rw (← (version-stored (u .medium) n h)) (u .medium .pages .kept n (omega (arith, fewer-stored (u .medium))));
+        slot = λ n h. rw (← (version-stored (u .medium) n h)) (u .medium .pages .slot n (omega (arith, fewer-stored (u .medium))));
+        room = omega (arith, u .medium .pages .room, fewer-stored (u .medium));
         count = kept-length;
-        match = λ n h. rw (← (here-ver n h), here-cell n h) (u .medium .pages .match n (omega (arith, longer)));
-        plain = λ n h. rw (← (here-ver n h), here-cell n h) (u .medium .pages .plain n (omega (arith, longer)));
+        match = λ n h. rw (← (version-stored (u .medium) n h), here-cell n h) (u .medium .pages .match n (omega (arith, fewer-stored (u .medium))));
+        plain = λ n h. rw (← (version-stored (u .medium) n h), here-cell n h) (u .medium .pages .plain n (omega (arith, fewer-stored (u .medium))));
         chain = λ n h. chain′ n h;
       };
       table = record { pair = u .medium .table .pair; vacant = u .medium .table .vacant; apart = u .medium .table .apart };
@@ -148,9 +142,9 @@ module _ {l d : ℕ} {m c : List ℕ} {s : State} {b : Book} {disk : Disk} {clos
       chain′ : (n : ℕ) → n < length (versionsOf (disk .stored))
           → at (versionsOf (disk .stored)) n .earlier ≡ orNone (newestOf (versionsOf (disk .stored)) (at (versionsOf (disk .stored)) n .key) n)
       chain′ n h =
-          sym (ap (λ (v : LoggedVersion). v .earlier) (here-ver n h))
-          ∙ u .medium .pages .chain n (omega (arith, longer))
-          ∙ ap (λ (v : LoggedVersion). orNone (newestOf (versionsOf history) (v .key) n)) (here-ver n h)
+          sym (ap (λ (v : LoggedVersion). v .earlier) (version-stored (u .medium) n h))
+          ∙ u .medium .pages .chain n (omega (arith, fewer-stored (u .medium)))
+          ∙ ap (λ (v : LoggedVersion). orNone (newestOf (versionsOf history) (v .key) n)) (version-stored (u .medium) n h)
           ∙ ap (λ (vs : List LoggedVersion). orNone (newestOf vs (at (versionsOf (disk .stored)) n .key) n)) (versions-split (u .medium))
           ∙ ap orNone (newest-append (versionsOf (disk .stored)) (versionsIn (u .medium .log .rest)) (at (versionsOf (disk .stored)) n .key) n (omega arith))
 

@@ -8,6 +8,7 @@ use mathlib.Core.List.{List, [], _∷_, _++_}
 use mathlib.Core.Path.{_≡_, refl, sym, ap, _∙_}
 use lib.ListN.{length, take, drop}
 use lib.Seq.{take-append-le, take-all}
+use Rattle.layout.proofs.PageLaws.{part-zeros, page-empty}
 use Rattle.layout.specs.Block.{blk, zeros, pageBlockAt}
 use Rattle.layout.specs.Field.{dec}
 use Rattle.layout.specs.Part.{part}
@@ -20,7 +21,6 @@ use Rattle.layout.specs.declared.item.Pair.{Pair}
 use Rattle.layout.specs.declared.master.Fields.{Fields}
 use Rattle.layout.proofs.CellLaws.{part-behind}
 use Rattle.layout.proofs.MasterLaws.{length-masterBytes}
-use Rattle.layout.proofs.PageLaws.{page-empty}
 use Rattle.layout.proofs.PlaceLaws.{page-block-low, page-block-high}
 use Rattle.layout.proofs.TableLaws.{tablePair-is}
 use Rattle.store.specs.OpenLog.{placeFrom}
@@ -52,9 +52,6 @@ take-zeros : (n k : ℕ) → k ≤ n → take k (zeros n) ≡ zeros k
 take-zeros n zero h = refl
 take-zeros zero (suc k) h = absurd (omega arith)
 take-zeros (suc n) (suc k) h = ap (λ (l : List ℕ). 0 ∷ l) (take-zeros n k (le-of-suc-le-suc h))
-
-part-zeros : (n at k : ℕ) → at + k ≤ n → part (zeros n) at k ≡ zeros k
-part-zeros n at k h = ap (take k) (drop-zeros n at) ∙ take-zeros (n - at) k (omega arith)
 
 module _ (l d : ℕ) (r : inRange l d ≡ true) where
   range : InRange l d

@@ -98,7 +98,7 @@ slot-pageBytes e cs i s h =
     part-row e (length cs) (row cs) i 32
     ∙ cell-at slotBytes 32 cs i noCell (zeros (480 - 32 * length cs)) (cells-sized cs s) h
 
-part-zeros : (n at k : ℕ) → at + k ≤ n → part (zeros n) at k ≡ zeros k
+pub part-zeros : (n at k : ℕ) → at + k ≤ n → part (zeros n) at k ≡ zeros k
 part-zeros n zero zero h = refl
 part-zeros zero zero (suc k) h = absurd (omega arith)
 part-zeros (suc n) zero (suc k) h = ap (λ (t : List ℕ). 0 ∷ t) (part-zeros n zero k (omega arith))

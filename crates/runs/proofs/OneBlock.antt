@@ -69,7 +69,7 @@ pub length-stampedPage : (s : State) (page : List ℕ) → length (stampedPage s
 unfolding stampedPage
 length-stampedPage s page = length-stampFrom (storedPair s) page 0 15
 
-length-pairsFrom : (ps : List Place) (o i k : ℕ) → length (pairsFrom ps o i k) ≡ k
+pub length-pairsFrom : (ps : List Place) (o i k : ℕ) → length (pairsFrom ps o i k) ≡ k
 unfolding pairsFrom
 length-pairsFrom ps o i zero = refl
 length-pairsFrom ps o i (suc k) = ap suc (length-pairsFrom ps o (i + 1) k)

@@ -1,5 +1,5 @@
 -- A number commits once and times rise, so that looking a commit up in a longer history finds the same one.
-use Prim.Native.Nat.{ℕ, _≤_, _<_, max}
+use Prim.Native.Nat.{zero, suc, ℕ, _≤_, _<_, max}
 use native.Mathlib.Nat.{not-suc-le-zero}
 use native.Mathlib.Omega.{arith}
 use mathlib.Core.Bool.{Bool, true, false, cond}
@@ -9,7 +9,8 @@ use mathlib.Core.Path.{_≡_, refl, sym, ap, _∙_, subst}
 use lib.Dec.{eqb}
 use borrow.Author.Tests.{eqb-true, eqb-false, ne-eqb, eq-eqb}
 use Rattle.layout.proofs.CellLaws.{Each, each-map}
-use Rattle.agreement.proofs.history.Ghost.{LoggedCommit, noCommit, find, lastOf, Rising, Once}
+use Rattle.store.specs.declared.Timing.the-variants.{Timed}
+use Rattle.agreement.proofs.history.Ghost.{timing, LoggedCommit, noCommit, find, lastOf, Rising, Once}
 use Rattle.agreement.proofs.history.ListLaws.{same?}
 
 -- ---- the commit of a number
@@ -138,3 +139,8 @@ pub rising-snoc : (lo : ℕ) (cs : List LoggedCommit) (c : LoggedCommit) → Ris
 unfolding lastOf
 rising-snoc lo [] c r h k = (h, tt)
 rising-snoc lo (d ∷ cs) c r h k = (r .0, rising-snoc (d .time) cs c (r .1) (omega arith) (omega arith))
+
+-- a time that is not 0
+pub timed : (t : ℕ) → 0 < t → Timed (record { 0 = t }) ≡ timing t
+timed zero h = absurd (omega arith)
+timed (suc t) h = refl

@@ -29,6 +29,9 @@ size-flat (r ∷ rs) z = rw (length-append, length-recordBytes r (value-fits r (
 pub sound-sized : (d : ℕ) (rs : List Record) → Each (Sound d) rs → Each RecordSized rs
 sound-sized d rs z = each-map (Sound d) RecordSized rs (λ r s. s .sized) z
 
+pub block-size : (d : ℕ) (rs : List Record) → BlockSound d rs → length (flat recordBytes rs) ≡ sizeOf rs
+block-size d rs z = size-flat rs (sound-sized d rs (z .each))
+
 pub size-append : (xs ys : List Record) → sizeOf (xs ++ ys) ≡ sizeOf xs + sizeOf ys
 unfolding sizeOf
 size-append [] ys = rw zero-add

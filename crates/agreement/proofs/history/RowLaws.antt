@@ -2,7 +2,7 @@
 use Prim.Native.Nat.{ℕ, zero, suc, _<_, max, suc-le-suc}
 use native.Mathlib.Nat.{le-of-suc-le-suc}
 use native.Mathlib.Omega.{arith}
-use mathlib.Core.Bool.{Bool, true, false, cond, _||_}
+use mathlib.Core.Bool.{or-true, Bool, true, false, cond, _||_}
 use mathlib.Core.List.{List, [], _∷_, _++_}
 use mathlib.Core.Logic.{_⊎_, inl, inr, _≢_}
 use mathlib.Core.Option.{some}
@@ -96,10 +96,6 @@ below-row (x ∷ xs) n h = go (x .rec) (h .0) (below-row xs n (h .1))
     go (version h v) l ih = rw (ne-eqb (h .number .0) n (λ e. omega arith)) ih
     go (commit p) l ih = rw (ne-eqb (p .number .0) n (λ e. omega arith)) ih
 
-or-right : (a : Bool) → (a || true) ≡ true
-or-right true = refl
-or-right false = refl
-
 -- a number with a version has a row; one without a version and without a commit has none
 pub version-row : (xs : List Placed) (n j : ℕ) → j < length (versionsIn xs) → at (versionsIn xs) j .num ≡ n → hasRow (rowsIn xs) n ≡ true
 unfolding rowsIn hasRow versionsIn
@@ -109,8 +105,8 @@ version-row (x ∷ xs) n j h e = go (x .rec) j (version-row xs n) h e
     go : (r : Record) (j : ℕ) → ((i : ℕ) → i < length (versionsIn xs) → at (versionsIn xs) i .num ≡ n → hasRow (rowsIn xs) n ≡ true)
         → j < length (asVersion r (x .seq) (x .end) ++ versionsIn xs) → at (asVersion r (x .seq) (x .end) ++ versionsIn xs) j .num ≡ n → hasRow (rowOf r ∷ rowsIn xs) n ≡ true
     go (version h v) zero ih l e = rw (eq-eqb (h .number .0) n e)
-    go (version h v) (suc i) ih l e = rw (ih i (le-of-suc-le-suc l) e) (or-right (eqb (h .number .0) n))
-    go (commit p) i ih l e = rw (ih i l e) (or-right (eqb (p .number .0) n))
+    go (version h v) (suc i) ih l e = rw (ih i (le-of-suc-le-suc l) e) (or-true (eqb (h .number .0) n))
+    go (commit p) i ih l e = rw (ih i l e) (or-true (eqb (p .number .0) n))
 
 pub rowless : (xs : List Placed) (low n : ℕ) → Rising low (commitsIn xs) → ((j : ℕ) → j < length (versionsIn xs) → at (versionsIn xs) j .num ≢ n) → find (commitsIn xs) n .time ≡ 0 → hasRow (rowsIn xs) n ≡ false
 unfolding rowsIn hasRow versionsIn commitsIn

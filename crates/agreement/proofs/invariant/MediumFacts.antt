@@ -9,6 +9,7 @@ use mathlib.Core.Path.{_≡_, refl, sym, ap, _∙_}
 use lib.ListN.{length, take, drop, getD, length-append, List·getD-append, length-take, length-drop}
 use lib.Seq.{take-all, take-suc}
 use borrow.Author.Tests.{eqb-true, eq-eqb}
+use Rattle.layout.proofs.CellLaws.{each-map, each-at, Each}
 use Rattle.layout.specs.Block.{blk, pageOf}
 use Rattle.layout.specs.Page.{pageSlot}
 use Rattle.layout.specs.Field.{dec}
@@ -18,7 +19,6 @@ use Rattle.layout.specs.Master.{masterBytes, oldestOn}
 use Rattle.layout.specs.Slot.{kindForm, codeOf, sharedField, cellOf, slotState, stateOf, Cell}
 use Rattle.layout.proofs.BlockLaws.{part-blk}
 use Rattle.layout.proofs.FieldLaws.{Bytes}
-use Rattle.layout.proofs.CellLaws.{each-at, Each}
 use Rattle.layout.proofs.MasterLaws.{FieldsSized, MasterParts, master-parts, master-back, oldestOn-is}
 use Rattle.layout.proofs.PageLaws.{noCell, free-pageBytes}
 use Rattle.layout.proofs.CacheLaws.{cache-slot}
@@ -163,6 +163,10 @@ module _ {l d : ℕ} {m : List ℕ} {disk : Disk} {history : List (List Record)}
   -- every commit is at least 1 and below 2^64, every number below 2^64 - 1
   pub last-high : lastOf (commitsOf history) < 2 ^ 64
   last-high = last-below (commitsOf history) (commits-sound d history (medium .log .sound))
+
+  -- every stored commit has a time
+  pub times-low : Each (λ (c : LoggedCommit). 0 < c .time) (commitsOf (disk .stored))
+  times-low = each-map CommitSound (λ (c : LoggedCommit). 0 < c .time) (commitsOf (disk .stored)) (λ c f. f .time-low) (commits-sound d (disk .stored) (medium .log .stored))
 
   -- a slot waits under a number just if its version is that number's and is not stamped
   pub waiting-slot : (n : ℕ) → 0 < count n (disk .cells) → (j : ℕ) × (j < length (versionsOf history)) × (at (versionsOf history) j .num ≡ n) × (cell (disk .cells) j ≡ waitingCell (at (versionsOf history) j))

@@ -7,13 +7,14 @@ use mathlib.Core.Logic.{_⊎_, inl, inr, _≢_}
 use mathlib.Core.Path.{_≡_, refl, sym, ap, _∙_}
 use borrow.Author.Tests.{eqb-true, eq-eqb}
 use Rattle.layout.specs.Slot.{Cell}
+use Rattle.store.specs.Places.{isFree, placeAt, findActive, findCommitted, timeUnder, first, activeAs, committedAs, timeOf, atFound}
 use Rattle.store.specs.declared.Place.{Place}
 use Rattle.store.specs.declared.Found.{Found}
 use Rattle.store.specs.declared.Found.the-variants.{At, Nothing}
-use Rattle.store.specs.declared.Timing.the-variants.{Timed, Untimed}
+use Rattle.store.specs.declared.Timing.the-variants.{Untimed}
 use Rattle.store.specs.declared.Life.{Life}
 use Rattle.store.specs.declared.Life.the-variants.{Free, Active, Committed}
-use Rattle.store.specs.Places.{placeAt, findActive, findCommitted, timeUnder, first, activeAs, committedAs, timeOf, atFound}
+use Rattle.agreement.proofs.history.CommitLaws.{timed}
 use Rattle.agreement.proofs.history.Ghost.{at, LoggedCommit, find, timing, count}
 use Rattle.agreement.proofs.history.ListLaws.{same?}
 use Rattle.agreement.proofs.invariant.Invariant.{lifeNum, lifeTime, Formed, Living, numAt, timeAt}
@@ -75,6 +76,11 @@ life-committed Free n f e t = absurd (omega arith)
 life-committed (Active a k) n f e t = absurd (omega arith)
 life-committed (Committed a u k) n f e t = eq-eqb (a .0) n e
 
+pub free-num : (x : Life) → isFree x ≡ true → lifeNum x ≡ 0
+free-num Free e = refl
+free-num (Active n k) e = absurd (false≢true e)
+free-num (Committed n t z) e = absurd (false≢true e)
+
 -- a committed place has a number
 pub life-low : (x : Life) → Formed x → 0 < lifeTime x → 0 < lifeNum x
 life-low Free f h = absurd (omega arith)
@@ -86,10 +92,6 @@ pub life-time : (x : Life) → 0 < lifeTime x → timeOf x ≡ timing (lifeTime 
 life-time Free h = absurd (omega arith)
 life-time (Active a k) h = absurd (omega arith)
 life-time (Committed a t k) h = timed (t .0) h
-  where
-    timed : (u : ℕ) → 0 < u → Timed (record { 0 = u }) ≡ timing u
-    timed zero h = absurd (omega arith)
-    timed (suc u) h = refl
 
 module _ {m : List ℕ} {cs : List LoggedCommit} {cells : List Cell} {o next : ℕ} {ps : List Place} (v : Living m cs cells o next ps) where
   -- the active place that was found

@@ -10,13 +10,13 @@ use Rattle.layout.specs.Block.{endPlace}
 use Rattle.layout.specs.Journal.{Record}
 use Rattle.layout.proofs.CellLaws.{each-at, each-map, Each}
 use Rattle.store.specs.OpenLog.{Placed, placeFrom}
+use Rattle.agreement.proofs.invariant.MediumFacts.{times-low, commits-split, find-stored, versions-split}
 use Rattle.agreement.proofs.history.Ghost.{versionsOf, commitsOf, sizeOf, BlockSound, noVersion, records, LoggedVersion, versionsIn, at, LoggedCommit, commitsIn, find, Disk}
 use Rattle.agreement.proofs.history.ListLaws.{split, same?, append-cancel, each-both, each-right}
 use Rattle.agreement.proofs.history.VersionLaws.{place-versions, place-commits}
 use Rattle.agreement.proofs.history.CommitLaws.{find-right, find-each}
 use Rattle.agreement.proofs.history.PlacingLaws.{records-tail, Near, near-block, between-block, each-between, size-append, placeFrom-append}
 use Rattle.agreement.proofs.invariant.Invariant.{OnMedium, Stored, nothing, upTo}
-use Rattle.agreement.proofs.invariant.MediumFacts.{CommitSound, commits-sound, commits-split, find-stored, versions-split}
 
 -- ---- which records are stored
 
@@ -60,9 +60,6 @@ module _ {l d : ℕ} {m : List ℕ} {disk : Disk} {closed : List (List Record)} 
   versions-above : Each (λ (v : LoggedVersion). (e < v .end) × (length closed ≤ v .seq)) (versionsIn (medium .log .rest))
   versions-above = place-versions (λ a q. (e < a) × (length closed ≤ q)) (medium .log .rest) rest-above
 
-  times-low : Each (λ (c : LoggedCommit). 0 < c .time) (commitsOf (disk .stored))
-  times-low = each-map CommitSound (λ (c : LoggedCommit). 0 < c .time) (commitsOf (disk .stored)) (λ c f. f .time-low) (commits-sound d (disk .stored) (medium .log .stored))
-
   -- a commit that is not among the stored ones is among the rest
   commit-stored : (n : ℕ) → 0 < find (commitsOf (closed ++ (tail ∷ []))) n .time
       → ((e < find (commitsOf (closed ++ (tail ∷ []))) n .end) × (length closed ≤ find (commitsOf (closed ++ (tail ∷ []))) n .seq) → ⊥)
@@ -72,7 +69,7 @@ module _ {l d : ℕ} {m : List ℕ} {disk : Disk} {closed : List (List Record)} 
       go : (find (commitsOf (disk .stored)) n .time ≡ 0) ⊎ (find (commitsOf (disk .stored)) n .time ≢ 0) → find (commitsOf (disk .stored)) n ≡ find (commitsOf (closed ++ (tail ∷ []))) n
       go (inr z) = sym (find-stored medium n (omega arith))
       go (inl z) =
-          let g : find (commitsOf (closed ++ (tail ∷ []))) n ≡ find (commitsIn (medium .log .rest)) n = rw (commits-split medium) (find-right n (commitsOf (disk .stored)) (commitsIn (medium .log .rest)) times-low z) in
+          let g : find (commitsOf (closed ++ (tail ∷ []))) n ≡ find (commitsIn (medium .log .rest)) n = rw (commits-split medium) (find-right n (commitsOf (disk .stored)) (commitsIn (medium .log .rest)) (times-low medium) z) in
           absurd (f (rw g (find-each n (λ (c : LoggedCommit). (e < c .end) × (length closed ≤ c .seq)) (commitsIn (medium .log .rest)) commits-above (rw g at h))))
 
   -- a version, a commit that ends at or before the stored end place is stored

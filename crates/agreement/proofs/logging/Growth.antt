@@ -32,12 +32,12 @@ use Rattle.store.specs.Tail.{mayLog, tailFits, tailEnd, storedTail, Logged, log
 use Rattle.store.specs.OpenLog.{Placed}
 use Rattle.runs.specs.Book.{Book}
 use Rattle.runs.specs.Machine.{logChanged}
+use Rattle.agreement.proofs.logging.GrowthLaws.{tail-sequence, stored-length, stored-at, stored-more, take-size, match-more, block-used, block-end, sound-snoc, zero-size, one-size, record-high, empty-room, next-end, tail-sound, tail-length, tail-low, tail-seq, tail-used, tail-inside}
+use Rattle.agreement.proofs.history.PlacingLaws.{block-size, records-more, records-next}
 use Rattle.agreement.proofs.history.Ghost.{commitsOf, sizeOf, Sound, BlockSound, records, at, LoggedCommit, commitsIn, find, lastOf, count, Disk}
 use Rattle.agreement.proofs.history.ListLaws.{same?, each-left, each-right}
-use Rattle.agreement.proofs.history.PlacingLaws.{records-more, records-next}
 use Rattle.agreement.proofs.history.CommitLaws.{find-left, last-append}
 use Rattle.agreement.proofs.invariant.MediumFacts.{oldest-is, commits-split, fewer-stored}
-use Rattle.agreement.proofs.logging.GrowthLaws.{stored-length, stored-at, stored-more, take-size, match-more, block-size, block-used, block-end, sound-snoc, zero-size, one-size, record-high, empty-room, next-end, tail-sound, tail-length, tail-low, tail-seq, tail-used, tail-inside}
 use Rattle.agreement.proofs.invariant.Invariant.{OnMedium, tableNum, tableTime, Stored, nothing, upTo, Up}
 
 -- the disk with other stored blocks
@@ -200,6 +200,17 @@ pub record Grows (l d : ℕ) (m : List ℕ) (disk : Disk) (closed : List (List R
   pub longer : records stored′ ≡ records (disk .stored) ++ more
   pub pairs : (i : ℕ) → i < 64 → tablePair (g .medium) i ≡ tablePair m i
 
+-- the table's pairs stay, and the new tail is no older than the oldest block
+module _ {l d : ℕ} {m : List ℕ} {disk : Disk} {closed : List (List Record)} {tail : List Record} {r : Record} {lg : Logged} where
+  pub num-stays : Grows l d m disk closed tail r lg → (j : ℕ) → j < 64 → tableNum (lg .medium) j ≡ tableNum m j
+  num-stays g j h = ap (λ (p : Pair). p .number .0) (g .pairs j h)
+
+  pub time-stays : Grows l d m disk closed tail r lg → (j : ℕ) → j < 64 → tableTime (lg .medium) j ≡ tableTime m j
+  time-stays g j h = ap (λ (p : Pair). p .time .0) (g .pairs j h)
+
+  pub recent : {c : List ℕ} {s : State} {b : Book} → Up l d m c s b disk closed tail → (g : Grows l d m disk closed tail r lg) → disk .oldest ≤ length (g .closed′)
+  recent u g = omega (arith, u .state .ring-low, g .below)
+
 module _ {l d : ℕ} {m c : List ℕ} {s : State} {b : Book} {disk : Disk} {closed : List (List Record)} {tail : List Record} (u : Up l d m c s b disk closed tail) (r : Record) (z : Sound d r) where
   fits-size : tailFits (s .tail) (recordSize r) ≡ true → 10 + sizeOf tail + recordSize r ≤ 512
   unfolding tailFits
@@ -268,7 +279,7 @@ module _ {l d : ℕ} {m c : List ℕ} {s : State} {b : Book} {disk : Disk} {clos
       new = sound-snoc d [] r (record { each = tt; fits = zero-size }) z (record-high r)
 
       seq-is : sequenceOf (s .tail) ≡ length closed
-      seq-is = ap sequenceOf (u .state .tail-block) ∙ tail-seq closed tail (u .medium)
+      seq-is = tail-sequence u
 
       medium′ : put m (logBlockAt (s .blocks) (sequenceOf (s .tail))) (s .tail) ≡ put m (logBlockAt l (length closed)) (logBytes (length closed) tail)
       medium′ = ap (λ (a : ℕ). put m (logBlockAt a (sequenceOf (s .tail))) (s .tail)) (u .state .blocks)
@@ -298,7 +309,7 @@ grows {l} {d} {m} {c} {s} {b} {disk} {closed} {tail} u r z may = go (tailFits (s
         → (t || (ltb (sequenceOf (s .tail) + 1) (oldestOn m + s .blocks) && ltb (sequenceOf (s .tail) + 1) (2 ^ 48))) ≡ true → Grows l d m disk closed tail r (loggedIf t s m r)
     go true e may = in-tail u r z e
     go false e may =
-        let q : sequenceOf (s .tail) ≡ length closed = ap sequenceOf (u .state .tail-block) ∙ tail-seq closed tail (u .medium) in
+        let q : sequenceOf (s .tail) ≡ length closed = tail-sequence u in
         let a : sequenceOf (s .tail) + 1 < oldestOn m + s .blocks = ltb-true _ _ (and-0 (ltb (sequenceOf (s .tail) + 1) (oldestOn m + s .blocks)) _ may) in
         let w : sequenceOf (s .tail) + 1 < 2 ^ 48 = ltb-true _ _ (and-1 (ltb (sequenceOf (s .tail) + 1) (oldestOn m + s .blocks)) _ may) in
         in-next u r z (omega (arith, a, q, oldest-is (u .medium), u .state .blocks)) (omega (arith, w, q))

@@ -18,14 +18,16 @@ use Rattle.layout.specs.declared.item.Pair.{Pair}
 use Rattle.layout.proofs.CellLaws.{Each, each-append}
 use Rattle.layout.proofs.JournalLaws.{length-logBytes, sequence-logBytes, used-logBytes}
 use Rattle.layout.proofs.PlaceLaws.{log-in-medium}
+use Rattle.store.specs.declared.State.{State}
 use Rattle.store.specs.OpenLog.{Placed}
 use Rattle.store.specs.Tail.{tailEnd}
-use Rattle.agreement.proofs.history.Ghost.{versionsOf, commitsOf, sizeOf, Sound, BlockSound, records, LoggedVersion, versionsIn, LoggedCommit, commitsIn, find, Match, still, marked, Disk}
+use Rattle.runs.specs.Book.{Book}
+use Rattle.agreement.proofs.history.Ghost.{Disk, versionsOf, commitsOf, sizeOf, Sound, BlockSound, records, LoggedVersion, versionsIn, LoggedCommit, commitsIn, find, Match, still, marked}
+use Rattle.agreement.proofs.invariant.Invariant.{Up, OnMedium, Stored, nothing, upTo}
+use Rattle.agreement.proofs.history.PlacingLaws.{block-size, record-low, size-append}
 use Rattle.agreement.proofs.history.ListLaws.{same?, each-right}
-use Rattle.agreement.proofs.history.PlacingLaws.{record-low, size-flat, sound-sized, size-append}
 use Rattle.agreement.proofs.history.CommitLaws.{find-left, find-right, find-head, find-next}
 use Rattle.agreement.proofs.history.VersionLaws.{versions-append, commits-append}
-use Rattle.agreement.proofs.invariant.Invariant.{OnMedium, Stored, nothing, upTo}
 
 -- ---- the stored blocks
 
@@ -61,9 +63,6 @@ match-more cs ds v x still = still
 match-more cs ds v x (marked t h e) = marked t h (ap (λ (c : LoggedCommit). c .time) (find-left (v .num) cs ds (omega arith)) ∙ e)
 
 -- ---- the tail's bytes
-
-pub block-size : (d : ℕ) (rs : List Record) → BlockSound d rs → length (flat recordBytes rs) ≡ sizeOf rs
-block-size d rs z = size-flat rs (sound-sized d rs (z .each))
 
 pub block-length : (d q : ℕ) (rs : List Record) → BlockSound d rs → length (logBytes q rs) ≡ 512
 block-length d q rs z = length-logBytes q rs (omega (arith, block-size d rs z, z .fits))
@@ -164,3 +163,8 @@ snoc-each d Q xs y f q n h = go (same? n (length xs))
     go (inr e) =
         let lt : n < length xs = omega (arith, rw length-append at h) in
         rw (List·getD-append xs (y ∷ []) d n lt) (f n lt)
+
+-- the tail block's sequence
+pub tail-sequence : {l d : ℕ} {m c : List ℕ} {s : State} {b : Book} {disk : Disk} {closed : List (List Record)} {tail : List Record} → Up l d m c s b disk closed tail
+    → sequenceOf (s .tail) ≡ length closed
+tail-sequence {closed = closed} {tail} u = ap sequenceOf (u .state .tail-block) ∙ tail-seq closed tail (u .medium)

@@ -12,8 +12,7 @@ use lib.ListN.{length, take, drop, getD, length-take}
 use lib.Seq.{drop-cons}
 use borrow.Author.Tests.{eq-eqb, ne-eqb, le-leb, lt-ltb}
 use Rattle.layout.specs.Block.{blk, pageBlockAt}
-use Rattle.layout.specs.Cells.{flat}
-use Rattle.layout.specs.Journal.{Record, version, commit, recordBytes, recordSize, recordForm, Parsed, parsed, usedForm, logBytes}
+use Rattle.layout.specs.Journal.{Record, version, commit, recordSize, recordForm, Parsed, parsed, usedForm}
 use Rattle.layout.specs.Master.{masterOf, oldestOn}
 use Rattle.layout.specs.Page.{pageForm, pageEnd}
 use Rattle.layout.specs.Table.{tablePair, pairForm}
@@ -25,15 +24,15 @@ use Rattle.layout.proofs.SlotLaws.{SlotSized, SlotHolds}
 use Rattle.layout.specs.declared.master.Found.{Found as MasterFound}
 use Rattle.store.specs.OpenLog.{Placed, placeFrom, blockOf, readCount, logEnd}
 use Rattle.store.specs.OpenConditions.{holds, each, sizesAre, formsOf, recordsFit, lowAfterAll, recordsFrom, fieldsInForm, sequencesInRange, recordsWhole, endsLogged}
-use Rattle.agreement.proofs.history.Ghost.{versionsOf, Sound, BlockSound, placeAll, records, LoggedVersion, noVersion, at, commitsIn, Rising, endOfPage, pageWith, Disk}
+use Rattle.agreement.proofs.opening.Reading.{sound-block, small-block, block-is, count-is, log-is, log-split, ends-below}
+use Rattle.agreement.proofs.history.Ghost.{versionsOf, Sound, placeAll, records, LoggedVersion, noVersion, at, commitsIn, Rising, endOfPage, pageWith, Disk}
 use Rattle.agreement.proofs.history.ListLaws.{same?, each-take, each-drop}
-use Rattle.agreement.proofs.history.PlacingLaws.{sound-sized, size-flat}
+use Rattle.agreement.proofs.history.PlacingLaws.{sound-sized}
 use Rattle.agreement.proofs.history.VersionLaws.{commits-append, place-versions, near}
 use Rattle.agreement.proofs.history.CommitLaws.{rising-right}
 use Rattle.agreement.proofs.history.SlotLaws.{end-page}
 use Rattle.agreement.proofs.invariant.Invariant.{masterFields, OnMedium}
 use Rattle.agreement.proofs.invariant.MediumFacts.{fields-sized, oldest-is, cells-sized, cells-hold}
-use Rattle.agreement.proofs.opening.Reading.{count-is, log-is, log-split, ends-below}
 use Rattle.agreement.proofs.opening.CheckLaws.{both, first-holds, append-holds, each-holds, table-holds, blocks-hold}
 
 -- ---- the records of a block
@@ -67,20 +66,8 @@ module _ {l d : ℕ} {m : List ℕ} {disk : Disk} (medium : OnMedium l d m disk 
   read-high : (q : ℕ) → q < oldestOn m + readCount m l → q < length (disk .stored)
   read-high q h = omega (arith, oldest-is medium, count-is medium, medium .log .low)
 
-  sound-block : (q : ℕ) → q < length (disk .stored) → BlockSound d (getD (disk .stored) q [])
-  sound-block q h = each-at (BlockSound d) (disk .stored) q [] (medium .log .stored) h
-
-  block-fits : (q : ℕ) → q < length (disk .stored) → length (flat recordBytes (getD (disk .stored) q [])) ≤ 502
-  block-fits q h =
-      let b = sound-block q h in
-      omega (arith, b .fits, size-flat (getD (disk .stored) q []) (sound-sized d (getD (disk .stored) q []) (b .each)))
-
-  block-is : (q : ℕ) → disk .oldest ≤ q → q < length (disk .stored) → blockOf m l q ≡ logBytes q (getD (disk .stored) q [])
-  unfolding blockOf
-  block-is q a h = medium .log .blocks q a h
-
   parsed-is : (q : ℕ) → disk .oldest ≤ q → q < length (disk .stored) → parsed (blockOf m l q) ≡ record { records = getD (disk .stored) q []; whole = true }
-  parsed-is q a h = ap parsed (block-is q a h) ∙ parsed-logBytes q (getD (disk .stored) q []) (sound-sized d (getD (disk .stored) q []) (sound-block q h .each)) (block-fits q h)
+  parsed-is q a h = ap parsed (block-is medium q a h) ∙ parsed-logBytes q (getD (disk .stored) q []) (sound-sized d (getD (disk .stored) q []) (sound-block medium q h .each)) (small-block medium q h)
 
   -- ---- condition 1
 
@@ -100,8 +87,8 @@ module _ {l d : ℕ} {m : List ℕ} {disk : Disk} (medium : OnMedium l d m disk 
       let low : disk .oldest ≤ q = omega (arith, oldest-is medium) in
       let high = read-high q b in
       both (usedForm (blockOf m l q)) (formsOf (parsed (blockOf m l q) .records))
-      (ap usedForm (block-is q low high) ∙ usedForm-logBytes q (getD (disk .stored) q []) (block-fits q high))
-      (ap (λ (x : Parsed). formsOf (x .records)) (parsed-is q low high) ∙ forms-sound d (getD (disk .stored) q []) (sound-block q high .each))
+      (ap usedForm (block-is medium q low high) ∙ usedForm-logBytes q (getD (disk .stored) q []) (small-block medium q high))
+      (ap (λ (x : Parsed). formsOf (x .records)) (parsed-is q low high) ∙ forms-sound d (getD (disk .stored) q []) (sound-block medium q high .each))
 
   page-form : (p : ℕ) → p < d → pageForm (blk m (pageBlockAt l p)) ≡ true
   unfolding pageWith
@@ -137,7 +124,7 @@ module _ {l d : ℕ} {m : List ℕ} {disk : Disk} (medium : OnMedium l d m disk 
   records-from (suc j) low t q e o a r =
       let rs = getD (disk .stored) q [] in
       let h : q < length (disk .stored) = omega arith in
-      let g = records-fit d q 10 low t rs (placeAll (suc q) (drop (suc q) (disk .stored))) (sound-block q h .each) a (rw (drop-cons (disk .stored) q [] h) at r) in
+      let g = records-fit d q 10 low t rs (placeAll (suc q) (drop (suc q) (disk .stored))) (sound-block medium q h .each) a (rw (drop-cons (disk .stored) q [] h) at r) in
       rw (parsed-is q o h, g .fit, add-one)
       (records-from j (lowAfterAll low rs) (g .time) (suc q) (omega arith) (omega arith) (g .after) (g .rising))
 

@@ -22,6 +22,7 @@ use Rattle.store.specs.OpenLog.{readLog, nextNumber, lastTime}
 use Rattle.store.specs.OpenPairs.{pairTime}
 use Rattle.store.specs.OpenConditions.{holds, timeOr, notAbove, slotInBounds, fullBefore, earlierTrue, timeBelow, notFalling, pairInBounds, slotTrue, historyTrue, redone}
 use Rattle.runs.specs.Book.{Book}
+use Rattle.agreement.proofs.opening.PairLaws.{pair-timing}
 use Rattle.agreement.proofs.history.Ghost.{versionsOf, commitsOf, records, LoggedVersion, noVersion, at, LoggedCommit, find, timing, cell, Match, still, marked, full, Disk}
 use Rattle.agreement.proofs.history.ListLaws.{split, same?}
 use Rattle.agreement.proofs.history.VersionLaws.{num-versions, num-commits}
@@ -31,7 +32,6 @@ use Rattle.agreement.proofs.invariant.Invariant.{OnMedium, Down}
 use Rattle.agreement.proofs.invariant.MediumFacts.{cell-fields, cell-cached, cell-free, newest-cached, counted}
 use Rattle.agreement.proofs.opening.Reading.{numbers-below, last-is}
 use Rattle.agreement.proofs.opening.Redo.{redone-cache}
-use Rattle.agreement.proofs.opening.Places.{pair-time}
 use Rattle.agreement.proofs.opening.CheckLaws.{both, or-right, zero-or, append-holds, table-holds, pages-hold}
 
 module _ {l d : ℕ} {m : List ℕ} {disk : Disk} (medium : OnMedium l d m disk (disk .stored)) where
@@ -118,7 +118,7 @@ module _ {l d : ℕ} {m : List ℕ} {b : Book} {disk : Disk} (x : Down l d m b d
 
       go : (y : Cell) → cell (disk .cells) n ≡ y → Match (commitsOf (disk .stored)) (at (versionsOf (disk .stored)) n) y
           → versionTime (pairTime m (readLog m l)) (y .state) ≡ timing (find (commitsOf (disk .stored)) (at (versionsOf (disk .stored)) n .num) .time)
-      go y e still = pair-time x (at (versionsOf (disk .stored)) n .num) (counted (x .medium) (at (versionsOf (disk .stored)) n .num) n h refl e)
+      go y e still = pair-timing x (at (versionsOf (disk .stored)) n .num) (counted (x .medium) (at (versionsOf (disk .stored)) n .num) n h refl e)
       go y e (marked t z q) = is-timed t z ∙ ap timing (sym q)
 
   time-below : (key n : ℕ) → n ≤ length (versionsOf (disk .stored)) → TimeOf (versionsOf (disk .stored)) (commitsOf (disk .stored)) key n (timeBelow m l d (redone m l d .cache) key n)

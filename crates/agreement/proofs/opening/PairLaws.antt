@@ -10,22 +10,21 @@ use lib.Dec.{eqb}
 use lib.ListN.{take}
 use borrow.Author.Tests.{eqb-true, eqb-false}
 use Rattle.layout.specs.Table.{tablePair}
-use Rattle.layout.proofs.CellLaws.{Each, each-map}
+use Rattle.layout.proofs.CellLaws.{Each}
 use Rattle.layout.proofs.Choose.{and-0, and-1}
 use Rattle.store.specs.declared.Found.{Found}
 use Rattle.store.specs.declared.Found.the-variants.{At, Nothing}
-use Rattle.store.specs.declared.Timing.the-variants.{Timed}
 use Rattle.store.specs.Chain.{isTimed}
 use Rattle.store.specs.Places.{first, isAt}
 use Rattle.store.specs.OpenLog.{readLog, commitUnder, nextNumber}
 use Rattle.store.specs.OpenPairs.{tableFind, tableOr, timeOfCommitment, pairTime, isPaired, inLogAlone}
 use Rattle.runs.specs.Book.{Book}
+use Rattle.agreement.proofs.invariant.MediumFacts.{times-low, sound-at, waiting-slot}
+use Rattle.agreement.proofs.history.CommitLaws.{timed, find-num, find-each, find-left, find-right, once-split}
 use Rattle.agreement.proofs.history.Ghost.{commitsOf, placeAll, records, LoggedCommit, commitsIn, noCommit, find, Once, timing, count, Disk}
 use Rattle.agreement.proofs.history.ListLaws.{same?, each-left, each-right}
 use Rattle.agreement.proofs.history.VersionLaws.{commits-append, place-commits, num-commits}
-use Rattle.agreement.proofs.history.CommitLaws.{find-num, find-each, find-left, find-right, once-split}
 use Rattle.agreement.proofs.invariant.Invariant.{tableNum, tableTime, Down}
-use Rattle.agreement.proofs.invariant.MediumFacts.{CommitSound, commits-sound, sound-at, waiting-slot}
 use Rattle.agreement.proofs.invariant.PlaceFacts.{first-found, first-nothing}
 use Rattle.agreement.proofs.opening.Reading.{commit-time, log-split, log-before, log-recent, numbers-below}
 
@@ -50,10 +49,6 @@ table-lacks m n z e i h = go (eqb n 0) refl e
     go false q e = eqb-false (tablePair m i .number .0) n (first-nothing (λ j. eqb (tablePair m j .number .0) n) 64 0 e i (omega arith) (omega arith))
 
 -- ---- times with 0 as none
-
-timed : (t : ℕ) → 0 < t → Timed (record { 0 = t }) ≡ timing t
-timed zero h = absurd (omega arith)
-timed (suc t) h = refl
 
 timed-low : (t : ℕ) → isTimed (timing t) ≡ true → 0 < t
 timed-low zero e = absurd (false≢true e)
@@ -87,14 +82,11 @@ module _ {l d : ℕ} {m : List ℕ} {b : Book} {disk : Disk} (x : Down l d m b d
   unfolding lost
   lost-early = place-commits (λ e q. q < disk .oldest) (placeAll 0 (take (disk .oldest) (disk .stored))) (log-before (x .medium))
 
-  pub times-low : Each (λ (c : LoggedCommit). 0 < c .time) (commitsOf (disk .stored))
-  times-low = each-map CommitSound (λ (c : LoggedCommit). 0 < c .time) (commitsOf (disk .stored)) (λ c f. f .time-low) (commits-sound d (disk .stored) (x .medium .log .stored))
-
   lost-times : Each (λ (c : LoggedCommit). 0 < c .time) lost
-  lost-times = each-left (λ (c : LoggedCommit). 0 < c .time) lost (commitsIn (readLog m l)) (subst (Each (λ (c : LoggedCommit). 0 < c .time)) commits-split times-low)
+  lost-times = each-left (λ (c : LoggedCommit). 0 < c .time) lost (commitsIn (readLog m l)) (subst (Each (λ (c : LoggedCommit). 0 < c .time)) commits-split (times-low (x .medium)))
 
   pub logged-times : Each (λ (c : LoggedCommit). 0 < c .time) (commitsIn (readLog m l))
-  logged-times = each-right (λ (c : LoggedCommit). 0 < c .time) lost (commitsIn (readLog m l)) (subst (Each (λ (c : LoggedCommit). 0 < c .time)) commits-split times-low)
+  logged-times = each-right (λ (c : LoggedCommit). 0 < c .time) lost (commitsIn (readLog m l)) (subst (Each (λ (c : LoggedCommit). 0 < c .time)) commits-split (times-low (x .medium)))
 
   -- a commit is in the log, or below it
   pub commit-where : (n : ℕ) → 0 < find (commitsOf (disk .stored)) n .time

@@ -23,12 +23,12 @@ use Rattle.store.specs.OpenLog.{Placed, numberIn, nextOn, readLog, commitUnder,
 use Rattle.store.specs.OpenPairs.{tableFind, timeOfCommitment, waitingNumbers, isPaired}
 use Rattle.store.specs.OpenConditions.{holds, atLeastOne, slotAtLeastOne, sameTime, onceIn, onceChecks, newInTable, redone, fromOne, numbersLeft, pairsOnce, fewWaiting}
 use Rattle.runs.specs.Book.{Book}
+use Rattle.agreement.proofs.invariant.MediumFacts.{times-low, next-is, sound-at, cell-cached, cell-free}
 use Rattle.agreement.proofs.history.Ghost.{versionsOf, commitsOf, Sound, placeAll, records, LoggedVersion, at, LoggedCommit, commitsIn, asCommit, find, timing, cell, Match, still, marked, Once, Disk}
 use Rattle.agreement.proofs.history.ListLaws.{split, same?, each-left, each-right}
 use Rattle.agreement.proofs.history.VersionLaws.{sound-all, commits-append}
 use Rattle.agreement.proofs.history.CommitLaws.{find-left, find-right, find-head, once-split}
 use Rattle.agreement.proofs.invariant.Invariant.{OnMedium, Down}
-use Rattle.agreement.proofs.invariant.MediumFacts.{CommitSound, commits-sound, next-is, sound-at, cell-cached, cell-free}
 use Rattle.agreement.proofs.invariant.PlaceFacts.{first-found}
 use Rattle.agreement.proofs.opening.Reading.{log-split, commit-time}
 use Rattle.agreement.proofs.opening.Redo.{redone-cache}
@@ -112,9 +112,6 @@ module _ {l d : ℕ} {m : List ℕ} {disk : Disk} (medium : OnMedium l d m disk 
           let lt : j < i = omega (arith, r .1) in
           absurd (omega (arith, medium .table .apart i j h (omega arith) (omega arith) (sym (eqb-true (tablePair m j .number .0) (tablePair m i .number .0) (r .2)))))
 
-  times-low : Each (λ (c : LoggedCommit). 0 < c .time) (commitsOf (disk .stored))
-  times-low = each-map CommitSound (λ (c : LoggedCommit). 0 < c .time) (commitsOf (disk .stored)) (λ c f. f .time-low) (commits-sound d (disk .stored) (medium .log .stored))
-
   -- the table's time for a number is its commit's
   same-time : (n t : ℕ) → find (commitsOf (disk .stored)) n .time ≡ t → sameTime (tableFind m n) m t ≡ true
   unfolding tableFind
@@ -143,7 +140,7 @@ module _ {l d : ℕ} {m : List ℕ} {disk : Disk} (medium : OnMedium l d m disk 
           let c : LoggedCommit = record { seq = x .seq; end = x .end; num = p .number .0; time = p .time .0 } in
           let g : commitsOf (disk .stored) ≡ commitsIn (pre ++ seen) ++ (c ∷ commitsIn xs) =
           ap commitsIn (e ∙ sym (append-assoc pre seen (x ∷ xs))) ∙ commits-append (pre ++ seen) (x ∷ xs) ∙ ap (λ (r : Record). commitsIn (pre ++ seen) ++ (asCommit r (x .seq) (x .end) ++ commitsIn xs)) q in
-          let low : Each (λ (y : LoggedCommit). 0 < y .time) (commitsIn (pre ++ seen) ++ (c ∷ commitsIn xs)) = rw g at times-low in
+          let low : Each (λ (y : LoggedCommit). 0 < y .time) (commitsIn (pre ++ seen) ++ (c ∷ commitsIn xs)) = rw g at (times-low medium) in
           let before : find (commitsIn (pre ++ seen)) (p .number .0) .time ≡ 0 = none-before (commitsIn (pre ++ seen)) (commitsIn xs) c (rw g at (medium .numbers .once)) low in
           let lows : Each (λ (y : LoggedCommit). 0 < y .time) (commitsIn (pre ++ seen)) = each-left (λ (y : LoggedCommit). 0 < y .time) (commitsIn (pre ++ seen)) (c ∷ commitsIn xs) low in
           let apart : Each (λ (y : LoggedCommit). 0 < y .time) (commitsIn pre ++ commitsIn seen) = rw (commits-append pre seen) at lows in

@@ -11,17 +11,17 @@ use Rattle.store.specs.declared.Life.{Life}
 use Rattle.store.specs.declared.Life.the-variants.{Free, Active, Committed}
 use Rattle.store.specs.Places.{placeAt}
 use Rattle.store.specs.OpenLog.{readLog, nextNumber}
-use Rattle.store.specs.OpenPairs.{openPlaces, waitingNumbers, countWaiting, isPaired, pairTime}
+use Rattle.store.specs.OpenPairs.{openPlaces, waitingNumbers, countWaiting, isPaired}
 use Rattle.store.specs.OpenConditions.{redone}
 use Rattle.runs.specs.Book.{Book}
-use Rattle.agreement.proofs.history.Ghost.{versionsOf, commitsOf, find, timing, count, Disk}
+use Rattle.agreement.proofs.history.Ghost.{versionsOf, commitsOf, count, Disk}
 use Rattle.agreement.proofs.history.ListLaws.{split}
 use Rattle.agreement.proofs.invariant.Invariant.{lifeNum, lifeTime, lifeClock, Formed, numAt, Living, Opens, Down}
 use Rattle.agreement.proofs.invariant.MediumFacts.{count-cached}
 use Rattle.agreement.proofs.opening.Redo.{redone-cache}
 use Rattle.agreement.proofs.opening.Pigeons.{pigeon}
 use Rattle.agreement.proofs.opening.WaitingLaws.{Among, waiting-ascends, waiting-each, ascending-same}
-use Rattle.agreement.proofs.opening.PairLaws.{pair-timing, paired-commit}
+use Rattle.agreement.proofs.opening.PairLaws.{paired-commit}
 use Rattle.agreement.proofs.opening.TakeLaws.{Taken, places-taken}
 
 -- a place that is free or committed has no clock
@@ -31,10 +31,6 @@ clock-none (Active n k) h e = absurd (omega (arith, e h))
 clock-none (Committed n t k) h e = refl
 
 module _ {l d : ℕ} {m : List ℕ} {b : Book} {disk : Disk} (x : Down l d m b disk) where
-  -- the time of a number that is waited for: its commit is in the log, or below it and then in the table
-  pub pair-time : (n : ℕ) → 0 < count n (disk .cells) → pairTime m (readLog m l) n ≡ timing (find (commitsOf (disk .stored)) n .time)
-  pair-time n h = pair-timing x n h
-
   counts : (n : ℕ) → countWaiting (redone m l d .cache) n (15 * d) ≡ count n (disk .cells)
   counts n = count-cached (x .medium) (redone-cache (x .medium)) n
 

@@ -19,14 +19,14 @@ use Rattle.layout.proofs.CellLaws.{Each, each-at, each-map, each-append}
 use Rattle.layout.proofs.JournalLaws.{sequence-logBytes, used-logBytes, parsed-logBytes}
 use Rattle.store.specs.OpenLog.{Placed, placeFrom, numberIn, blockOf, matching, loggedFrom, readCount, readLog, tailAfter, readTail, logEnd, aboveAll, nextNumber, lastTime, commitUnder}
 use Rattle.store.specs.OpenPairs.{timeOfCommitment, endOfCommitment, timeOrZero}
+use Rattle.agreement.proofs.history.PlacingLaws.{block-size, sound-sized, placeAll-append, records-tail, records-empty, Near, near-all, near-records, between-block}
 use Rattle.agreement.proofs.history.Ghost.{commitsOf, sizeOf, Sound, BlockSound, placeAll, records, LoggedCommit, commitsIn, find, lastOf, timing, Disk, closedOf, tailOf}
 use Rattle.agreement.proofs.history.ListLaws.{split, each-left, each-right, each-both, each-drop, each-take}
-use Rattle.agreement.proofs.history.PlacingLaws.{sound-sized, placeAll-append, records-tail, records-empty, Near, near-all, near-records, between-block}
 use Rattle.agreement.proofs.history.VersionLaws.{place-commits, commits-append, sound-all}
 use Rattle.agreement.proofs.history.CommitLaws.{last-append}
 use Rattle.agreement.proofs.invariant.Invariant.{OnMedium, Stored, nothing, upTo}
 use Rattle.agreement.proofs.invariant.MediumFacts.{oldest-is, next-is, time-is}
-use Rattle.agreement.proofs.opening.ReadingLaws.{commit-finds, above-each, above-below, latest-is, last-under, block-size, empty-sound, between-high, Taking, none-read, last-read, taking}
+use Rattle.agreement.proofs.opening.ReadingLaws.{commit-finds, above-each, above-below, latest-is, last-under, empty-sound, between-high, Taking, none-read, last-read, taking}
 
 -- the blocks of an opened store
 abbrev pub taken : Disk → List (List Record)

@@ -1,6 +1,6 @@
 -- What an opening's folds over log records find, in terms of the ghost's commits: the commit under a number, the numbers, the
 -- times. By induction on the records.
-use Prim.Native.Nat.{ℕ, zero, suc, _+_, _-_, _≤_, _<_, max}
+use Prim.Native.Nat.{ℕ, suc, _+_, _-_, _≤_, _<_, max}
 use native.Mathlib.Omega.{arith}
 use mathlib.Core.Bool.{Bool, true, false, cond}
 use mathlib.Core.List.{List, [], _∷_, _++_}
@@ -11,20 +11,15 @@ use lib.Dec.{eqb}
 use lib.ListN.{length, take, getD}
 use lib.Seq.{take-suc, take-length, length-take-le}
 use borrow.Author.Tests.{eqb-true, eqb-false}
-use Rattle.layout.specs.Journal.{Record, version, commit, recordBytes}
-use Rattle.layout.specs.Cells.{flat}
+use Rattle.layout.specs.Journal.{Record, version, commit}
 use Rattle.layout.proofs.CellLaws.{Each, each-map}
-use Rattle.store.specs.declared.Timing.the-variants.{Timed}
 use Rattle.store.specs.OpenLog.{Placed, numberIn, commitUnder, commitIn, orElse, Commitment, aboveAll, latest, timeIn}
 use Rattle.store.specs.OpenPairs.{timeOfCommitment, endOfCommitment, timeOrZero}
+use Rattle.agreement.proofs.history.CommitLaws.{timed}
+use Rattle.agreement.proofs.history.PlacingLaws.{Between}
 use Rattle.agreement.proofs.history.Ghost.{sizeOf, BlockSound, LoggedCommit, asCommit, commitsIn, find, lastOf, timing, closedOf, tailOf}
-use Rattle.agreement.proofs.history.PlacingLaws.{size-flat, sound-sized, Between}
 
 -- ---- the commit under a number
-
-pub timed : (t : ℕ) → 0 < t → Timed (record { 0 = t }) ≡ timing t
-timed zero h = absurd (omega arith)
-timed (suc t) h = refl
 
 -- what is found is the time and the end place of c
 abbrev pub Finds : Option Commitment → LoggedCommit → Type 0
@@ -77,9 +72,6 @@ last-under [] t h = omega arith
 last-under (c ∷ cs) t h = omega (arith, h .0, last-under cs t (h .1))
 
 -- ---- a block
-
-pub block-size : (d : ℕ) (b : List Record) → BlockSound d b → length (flat recordBytes b) ≡ sizeOf b
-block-size d b f = size-flat b (sound-sized d b (f .each))
 
 pub empty-sound : (d : ℕ) → BlockSound d []
 unfolding sizeOf

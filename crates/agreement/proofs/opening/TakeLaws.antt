@@ -22,10 +22,10 @@ use Rattle.store.specs.Places.{first, placeAt, freePlace, isFree}
 use Rattle.store.specs.OpenLog.{readLog, commitUnder, nextNumber}
 use Rattle.store.specs.OpenPairs.{tableFind, timeOrZero, endOfCommitment, countWaiting, livePlace, tablePlaces, takeAt, takeFree, waitingNumbers, inLogAlone}
 use Rattle.runs.specs.Book.{Book}
+use Rattle.agreement.proofs.invariant.PlaceFacts.{free-num, first-found, first-nothing, life-low}
 use Rattle.agreement.proofs.history.Ghost.{commitsOf, LoggedCommit, commitsIn, noCommit, find, count, Disk}
 use Rattle.agreement.proofs.history.ListLaws.{split, same?}
 use Rattle.agreement.proofs.invariant.Invariant.{tableNum, tableTime, lifeNum, lifeTime, Formed, numAt, timeAt, Lively, Covered, Down}
-use Rattle.agreement.proofs.invariant.PlaceFacts.{first-found, first-nothing, life-low}
 use Rattle.agreement.proofs.invariant.PlaceSet.{placeAt-same, placeAt-other, covered-set}
 use Rattle.agreement.proofs.opening.Reading.{commit-zero, commit-end, next-low}
 use Rattle.agreement.proofs.opening.Pigeons.{pigeon}
@@ -42,11 +42,6 @@ pub record Taken (m : List ℕ) (cs : List LoggedCommit) (cells : List Cell) (o 
   pub covered : Covered m cs ps o 64
   pub home : (i : ℕ) → i < 64 → 0 < tableNum m i → 0 < count (tableNum m i) cells → numAt ps i ≡ tableNum m i
   pub apart : Each (λ (n : ℕ). (j : ℕ) → j < 64 → numAt ps j ≢ n) ns
-
-free-num : (f : Life) → isFree f ≡ true → lifeNum f ≡ 0
-free-num Free e = refl
-free-num (Active n k) e = absurd (false≢true e)
-free-num (Committed n t k) e = absurd (false≢true e)
 
 used-num : (f : Life) → Formed f → isFree f ≡ false → 0 < lifeNum f
 used-num Free h e = absurd (false≢true (sym e))

@@ -13,7 +13,7 @@ use Rattle.runs.specs.Event.{Call, Event, opening, cut, call, begin, write, era
 use Rattle.runs.specs.Book.{Row, committed, Opened, Book, timeOf, hasRow, isOpen, close, add, fall, entered, feed}
 use Rattle.runs.specs.Machine.{World, step, trace, formatted}
 use Rattle.runs.specs.Plain.{Run, worldAfter, bookAt, seenAt, traceAt, Among, anySeen, BegunAnew, Known, Aborted, CutOff}
-use Rattle.agreement.proofs.plain.Laws.{or-true, time-other, time-version, none-take, none-among, close-shuts, close-less}
+use Rattle.agreement.proofs.plain.Laws.{either-true, time-other, time-version, none-take, none-among, close-shuts, close-less}
 use Rattle.agreement.proofs.plain.Runs.{begins, Turn, stays, falls, opens, adds, ends, closes, stores, world-append}
 use Rattle.agreement.proofs.plain.Times.{since, front-run, book-next, known, orderly}
 use Rattle.agreement.proofs.plain.Reads.{next-fits}
@@ -67,7 +67,7 @@ seen-split : (l d : ℕ) (p : Event → Observation → Bool) (fs : List Event) 
     → (before : List Event) × (e : Event) × (behind : List Event) × (fs ≡ before ++ (e ∷ behind)) × (p e (step l d (worldAfter l d w before) e .seen) ≡ true)
 unfolding anySeen trace worldAfter
 seen-split l d p [] w h = absurd (false≢true h)
-seen-split l d p (e ∷ fs) w h = go (or-true (p e (step l d w e .seen)) (anySeen p fs (trace l d (step l d w e .world) fs)) h) (seen-split l d p fs (step l d w e .world))
+seen-split l d p (e ∷ fs) w h = go (either-true (p e (step l d w e .seen)) (anySeen p fs (trace l d (step l d w e .world) fs)) h) (seen-split l d p fs (step l d w e .world))
   where
     go : (p e (step l d w e .seen) ≡ true) ⊎ (anySeen p fs (trace l d (step l d w e .world) fs) ≡ true)
         → (anySeen p fs (trace l d (step l d w e .world) fs) ≡ true

@@ -2,7 +2,7 @@
 use Prim.Native.Nat.{ℕ, zero, suc, _≤_}
 use native.Mathlib.Nat.{le-of-suc-le-suc}
 use native.Mathlib.Omega.{arith}
-use mathlib.Core.Bool.{Bool, true, false, cond, _||_, false≢true}
+use mathlib.Core.Bool.{or-true, Bool, true, false, cond, _||_, false≢true}
 use mathlib.Core.List.{List, [], _∷_, _++_}
 use mathlib.Core.Logic.{_⊎_, inl, inr, _≢_}
 use mathlib.Core.Option.{Option, none, some}
@@ -50,17 +50,13 @@ among-take x (suc n) (y ∷ xs) (inr h) = inr (among-take x n xs h)
 pub none-some : {t : ℕ} → none ≡ some t → ⊥
 none-some e = let z : _≡_ {A = ℕ} 0 1 = cc in omega arith
 
-pub or-false : (a b : Bool) → (a || b) ≡ false → (a ≡ false) × (b ≡ false)
-or-false true b e = absurd (false≢true (sym e))
-or-false false b e = (refl, e)
+pub neither-true : (a b : Bool) → (a || b) ≡ false → (a ≡ false) × (b ≡ false)
+neither-true true b e = absurd (false≢true (sym e))
+neither-true false b e = (refl, e)
 
-pub or-true : (a b : Bool) → (a || b) ≡ true → (a ≡ true) ⊎ (b ≡ true)
-or-true true b e = inl refl
-or-true false b e = inr e
-
-pub or-right : (a : Bool) → (a || true) ≡ true
-or-right true = refl
-or-right false = refl
+pub either-true : (a b : Bool) → (a || b) ≡ true → (a ≡ true) ⊎ (b ≡ true)
+either-true true b e = inl refl
+either-true false b e = inr e
 
 -- ---- versions and transactions
 
@@ -191,23 +187,23 @@ pub rowless-left : (rs ss : List Row) (n : ℕ) → hasRow (rs ++ ss) n ≡ fals
 unfolding hasRow
 rowless-left [] ss n e = refl
 rowless-left (version v ∷ rs) ss n e =
-    let q = or-false (eqb (v .number) n) (hasRow (rs ++ ss) n) e in rw (q .0) (rowless-left rs ss n (q .1))
+    let q = neither-true (eqb (v .number) n) (hasRow (rs ++ ss) n) e in rw (q .0) (rowless-left rs ss n (q .1))
 rowless-left (committed k t ∷ rs) ss n e =
-    let q = or-false (eqb k n) (hasRow (rs ++ ss) n) e in rw (q .0) (rowless-left rs ss n (q .1))
+    let q = neither-true (eqb k n) (hasRow (rs ++ ss) n) e in rw (q .0) (rowless-left rs ss n (q .1))
 
 pub rowless-none : (rs : List Row) (n : ℕ) → hasRow rs n ≡ false → timeOf rs n ≡ none
 unfolding hasRow timeOf
 rowless-none [] n e = refl
-rowless-none (version v ∷ rs) n e = rowless-none rs n (or-false (eqb (v .number) n) (hasRow rs n) e .1)
+rowless-none (version v ∷ rs) n e = rowless-none rs n (neither-true (eqb (v .number) n) (hasRow rs n) e .1)
 rowless-none (committed k t ∷ rs) n e =
-    let q = or-false (eqb k n) (hasRow rs n) e in rw (q .0) (rowless-none rs n (q .1))
+    let q = neither-true (eqb k n) (hasRow rs n) e in rw (q .0) (rowless-none rs n (q .1))
 
 pub version-has : (v : Version) (rs : List Row) → Among v (versions rs) → hasRow rs (v .number) ≡ true
 unfolding hasRow versions
 version-has v [] h = absurd h
 version-has v (version w ∷ rs) (inl e) = rw (eq-eqb (w .number) (v .number) (ap (λ (x : Version). x .number) (sym e)))
-version-has v (version w ∷ rs) (inr h) = rw (version-has v rs h) (or-right (eqb (w .number) (v .number)))
-version-has v (committed n t ∷ rs) h = rw (version-has v rs h) (or-right (eqb n (v .number)))
+version-has v (version w ∷ rs) (inr h) = rw (version-has v rs h) (or-true (eqb (w .number) (v .number)))
+version-has v (committed n t ∷ rs) h = rw (version-has v rs h) (or-true (eqb n (v .number)))
 
 -- ---- open numbers
 
@@ -227,9 +223,9 @@ close-less [] n k e = e
 close-less (o ∷ os) n k e = go (eqb (o .number) n) e (close-less os n k)
   where
     go : (t : Bool) → isOpen (cond t (close os n) (o ∷ close os n)) k ≡ true → (isOpen (close os n) k ≡ true → isOpen os k ≡ true) → (eqb (o .number) k || isOpen os k) ≡ true
-    go true e ih = rw (ih e) (or-right (eqb (o .number) k))
-    go false e ih = by (or-true (eqb (o .number) k) (isOpen (close os n) k) e)
+    go true e ih = rw (ih e) (or-true (eqb (o .number) k))
+    go false e ih = by (either-true (eqb (o .number) k) (isOpen (close os n) k) e)
       where
         by : (eqb (o .number) k ≡ true) ⊎ (isOpen (close os n) k ≡ true) → (eqb (o .number) k || isOpen os k) ≡ true
         by (inl q) = rw q
-        by (inr q) = rw (ih q) (or-right (eqb (o .number) k))
+        by (inr q) = rw (ih q) (or-true (eqb (o .number) k))

@@ -14,7 +14,7 @@ use Rattle.runs.specs.Event.{Event, call, current-read, as-of, changes, Strip, 
 use Rattle.runs.specs.Book.{Version, Row, version, committed, Book, blank, versions, timeOf, add, fall, stripOf, isSome, currentOf, Dated, laterOf, datedOf, bestBelow, lastBelow, stripAt, asOf, differs, linesAt, linesBelow, linesOf, Fits}
 use Rattle.runs.specs.Machine.{formatted}
 use Rattle.runs.specs.Plain.{Run, worldAfter, bookAt, seenAt, traceAt, Among, rowsSeen, Written, Committed, CleanAsOf, CleanLists, CleanCurrent}
-use Rattle.agreement.proofs.plain.Laws.{or-true, among-left, among-right, among-either, among-take, version-among, time-among}
+use Rattle.agreement.proofs.plain.Laws.{either-true, among-left, among-right, among-either, among-take, version-among, time-among}
 use Rattle.agreement.proofs.plain.Runs.{Turn, stays, falls, opens, adds, ends, closes, stores, run-append, after-one, inv-after, started}
 use Rattle.agreement.proofs.plain.Times.{always, front-run}
 
@@ -194,7 +194,7 @@ current-from rs n key (v ∷ vs) before = go (eqb (v .key) key && (eqb (v .numbe
           among = inl refl;
           keyed = eqb-true (v .key) key (and-0 (eqb (v .key) key) _ q);
           strip = e;
-          whose = whose′ (or-true (eqb (v .number) n) (isSome (timeOf rs (v .number))) (and-1 (eqb (v .key) key) _ q));
+          whose = whose′ (either-true (eqb (v .number) n) (isSome (timeOf rs (v .number))) (and-1 (eqb (v .key) key) _ q));
         })
         by (inr m) = inr (next mine m)
 

@@ -28,7 +28,7 @@ use Rattle.agreement.proofs.invariant.PlaceFacts.{active-found}
 use Rattle.agreement.proofs.reads.ReadFacts.{positive}
 use Rattle.agreement.proofs.Start.{start}
 use Rattle.agreement.proofs.Main.{keeps}
-use Rattle.agreement.proofs.plain.Laws.{none-some, or-false}
+use Rattle.agreement.proofs.plain.Laws.{none-some, neither-true}
 
 -- ---- an accepted call names an open number
 
@@ -203,7 +203,7 @@ module _ (l d : ℕ) where
     along [] w b hs i r n p = subst (P b) (sym (append-nil hs)) p
     along (e ∷ es) w b hs i r n p =
         let o : Observation = step l d w e .seen in
-        let z = or-false (q e o) (anySeen q es (trace l d (step l d w e .world) es)) n in
+        let z = neither-true (q e o) (anySeen q es (trace l d (step l d w e .world) es)) n in
         let k = after-one e es w b i r in
         subst (P (bookAfter l d (step l d w e .world) (feed b e o) es)) (append-assoc hs (eventRow e o) (rowsSeen es (trace l d (step l d w e .world) es)))
         (along es (step l d w e .world) (feed b e o) (hs ++ eventRow e o) (k .2) (k .3) (z .1)

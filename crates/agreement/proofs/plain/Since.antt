@@ -21,7 +21,7 @@ use Rattle.runs.specs.Book.{Version, Row, version, committed, Book, blank, vers
 use Rattle.runs.specs.Machine.{World, down, mediumOf, openedTo, seenOf, step, isRun, trace, formatted, opens as openStep}
 use Rattle.runs.specs.Plain.{Run, worldAfter, bookAfter, bookAt, traceAt, Openings, Among, eventRow, rowsSeen, anySeen, isOpening, isBreak, Transaction, transactions, rowsFound, First, Found}
 use Rattle.agreement.proofs.invariant.Invariant.{Inv}
-use Rattle.agreement.proofs.plain.Laws.{take-past, or-false, or-true, transactions-append, transactions-take, row-transaction, transaction-row, time-among}
+use Rattle.agreement.proofs.plain.Laws.{take-past, neither-true, either-true, transactions-append, transactions-take, row-transaction, transaction-row, time-among}
 use Rattle.agreement.proofs.plain.Runs.{Turn, stays, falls, opens, adds, ends, closes, stores, turn, run-append, first-typed, after-one, inv-after, started, book-append}
 use Rattle.agreement.proofs.plain.Times.{always, rows-turn, Once, once-take, once-time, orderly}
 use Rattle.agreement.proofs.plain.Reads.{next-fits}
@@ -79,7 +79,7 @@ module _ (l d : ℕ) where
   quiet-down [] m b f r n = (refl, refl)
   quiet-down (opening y ∷ es) m b f r n =
       let o : Observation = step l d (down m) (opening y) .seen in
-      let z = or-false (eqb (o .refusal) 0) (anySeen isOpening es (trace l d (step l d (down m) (opening y) .world) es)) n in
+      let z = neither-true (eqb (o .refusal) 0) (anySeen isOpening es (trace l d (step l d (down m) (opening y) .world) es)) n in
       let w : step l d (down m) (opening y) .world ≡ down m = stays-down m y (z .0) in
       let q = quiet-down es m b f (subst (λ (v : World). isRun l d v es ≡ true) w (first-typed l d (opening y) es (down m) r .2)) (subst (λ (v : World). anySeen isOpening es (trace l d v es) ≡ false) w (z .1)) in
       (rw (w, book-down b y o (z .0)) (q .0), rw w (q .1))
@@ -118,7 +118,7 @@ module _ (l d : ℕ) where
         (j, rw (append-nil hs) (unfold fall in (ap (take (b .stored)) p ∙ e)))
     reached (opening y ∷ es) w b hs i r n p s =
         let o : Observation = step l d w (opening y) .seen in
-        let z = or-false (eqb (o .refusal) 0) (anySeen isOpening es (trace l d (step l d w (opening y) .world) es)) n in
+        let z = neither-true (eqb (o .refusal) 0) (anySeen isOpening es (trace l d (step l d w (opening y) .world) es)) n in
         let k = after-one l d (opening y) es w b i r in
         let g = onward (opening y) es w b hs i r (z .0) p s in
         reached es (step l d w (opening y) .world) (feed b (opening y) o) hs (k .2) (k .3) (z .1) (rw (append-nil hs) at (g .0)) (g .1)
@@ -176,12 +176,12 @@ rooted-commit vs (committed k u ∷ rs) n t a h = (h .0, rooted-commit vs rs n t
 rooted-has : (vs : List Version) (rs : List Row) (n : ℕ) → Rooted vs rs → hasRow rs n ≡ true → By vs n ⊎ By (versions rs) n
 unfolding versions hasRow
 rooted-has vs [] n h e = absurd (false≢true e)
-rooted-has vs (version v ∷ rs) n h e = go (or-true (eqb (v .number) n) (hasRow rs n) e) (λ q. rooted-has (v ∷ vs) rs n h q)
+rooted-has vs (version v ∷ rs) n h e = go (either-true (eqb (v .number) n) (hasRow rs n) e) (λ q. rooted-has (v ∷ vs) rs n h q)
   where
     go : (eqb (v .number) n ≡ true) ⊎ (hasRow rs n ≡ true) → (hasRow rs n ≡ true → By (v ∷ vs) n ⊎ By (versions rs) n) → By vs n ⊎ By (v ∷ versions rs) n
     go (inl q) ih = inr (v, inl refl, eqb-true (v .number) n q)
     go (inr q) ih = unfold versions in shift-out v vs rs n (ih q)
-rooted-has vs (committed k t ∷ rs) n h e = go (or-true (eqb k n) (hasRow rs n) e) (λ q. rooted-has vs rs n (h .1) q)
+rooted-has vs (committed k t ∷ rs) n h e = go (either-true (eqb k n) (hasRow rs n) e) (λ q. rooted-has vs rs n (h .1) q)
   where
     go : (eqb k n ≡ true) ⊎ (hasRow rs n ≡ true) → (hasRow rs n ≡ true → By vs n ⊎ By (versions rs) n) → By vs n ⊎ By (versions rs) n
     go (inl q) ih = inl (subst (By vs) (eqb-true k n q) (h .0))

@@ -14,7 +14,7 @@ use Rattle.runs.specs.Event.{Event, call, Observation}
 use Rattle.runs.specs.Book.{Version, Row, version, committed, Opened, Book, blank, timeOf, lastTime, isOpen, close, add, fall, feed}
 use Rattle.runs.specs.Machine.{trace, formatted}
 use Rattle.runs.specs.Plain.{Run, worldAfter, bookAfter, bookAt, seenAt, traceAt, Among, rowsSeen, anySeen, isBreak, transactions, Rises, Known, RisingRows, RisingAnswers, OneTime}
-use Rattle.agreement.proofs.plain.Laws.{none-some, or-true, transactions-append, time-other, time-version, none-take, rowless-none, close-shuts, close-less}
+use Rattle.agreement.proofs.plain.Laws.{none-some, either-true, transactions-append, time-other, time-version, none-take, rowless-none, close-shuts, close-less}
 use Rattle.agreement.proofs.plain.Runs.{knows, Turn, stays, falls, opens, adds, ends, closes, stores, book-append, run-append, first-typed, inv-after, along, never, started}
 
 -- ---- at every moment of a run
@@ -155,7 +155,7 @@ pub record Orderly (b : Book) : Type 0 where
 -- a number is open after one more opens: it was, or is the new one
 pub opened-cases : {B : Type 0} (n k x : ℕ) (os : List Opened) → isOpen (record { number = n; clock = k } ∷ os) x ≡ true → (n ≡ x → B) → (isOpen os x ≡ true → B) → B
 unfolding isOpen
-opened-cases {B} n k x os e f g = go (or-true (eqb n x) (isOpen os x) e)
+opened-cases {B} n k x os e f g = go (either-true (eqb n x) (isOpen os x) e)
   where
     go : (eqb n x ≡ true) ⊎ (isOpen os x ≡ true) → B
     go (inl q) = f (eqb-true n x q)

@@ -24,13 +24,14 @@ use Rattle.store.specs.AsOf.{asOfAt}
 use Rattle.store.specs.Changes.{before}
 use Rattle.runs.specs.Book.{Book, Row, Dated, timeOf, datedOf, bestBelow, lastBelow, stripAt, versions, Version as RowVersion, laterOf as laterRow}
 use Rattle.runs.specs.Machine.{stripOf, timeIn}
+use Rattle.agreement.proofs.transactions.WriteLaws.{newest-is}
 use Rattle.agreement.proofs.history.Ghost.{versionsOf, commitsOf, LoggedVersion, at, find, timing, Disk}
 use Rattle.agreement.proofs.invariant.Invariant.{Up}
 use Rattle.agreement.proofs.invariant.MediumFacts.{cell-fields, cell-cached}
 use Rattle.agreement.proofs.history.RowLaws.{rowFor, rowsFor}
 use Rattle.agreement.proofs.reads.Sights.{version-time}
 use Rattle.agreement.proofs.reads.WalkLaws.{overAll, Reaches, walked}
-use Rattle.agreement.proofs.reads.ReadFacts.{rowsFor-step, all-rows, row-time, newest-is, chain-cached, kind-cached, value-cached, few-slots}
+use Rattle.agreement.proofs.reads.ReadFacts.{rowsFor-step, all-rows, row-time, chain-cached, kind-cached, value-cached, few-slots}
 use Rattle.agreement.proofs.reads.CurrentRead.{unless-empty, cell-strip}
 
 -- ---- the book's fold

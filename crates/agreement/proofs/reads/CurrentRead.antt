@@ -2,7 +2,7 @@
 -- the record's versions by rising slot (WalkLaws), and they agree at each slot.
 use Prim.Native.Nat.{ℕ, zero, suc, _≤_, _<_}
 use native.Mathlib.Omega.{arith}
-use mathlib.Core.Bool.{Bool, true, false, cond, _&&_, _||_, false≢true}
+use mathlib.Core.Bool.{or-true, Bool, true, false, cond, _&&_, _||_, false≢true}
 use mathlib.Core.List.{List, [], _∷_, _++_}
 use mathlib.Core.Option.{Option}
 use mathlib.Core.Path.{_≡_, refl, sym, ap, _∙_}
@@ -24,13 +24,14 @@ use Rattle.store.specs.CurrentRead.{reads, readCell, currentAt}
 use Rattle.runs.specs.Event.{Strip, missing, erased, present}
 use Rattle.runs.specs.Book.{Book, Row, Version, timeOf, isSome, versions, stripOf as rowStrip, currentOf as rowsCurrent}
 use Rattle.runs.specs.Machine.{stripOf, timeIn}
+use Rattle.agreement.proofs.transactions.WriteLaws.{newest-is}
 use Rattle.agreement.proofs.history.Ghost.{versionsOf, commitsOf, LoggedVersion, at, LoggedCommit, find, timing, cell, Match, still, marked, Disk}
 use Rattle.agreement.proofs.invariant.Invariant.{Up}
 use Rattle.agreement.proofs.invariant.MediumFacts.{cell-fields, cell-cached}
 use Rattle.agreement.proofs.history.RowLaws.{rowFor, rowsFor}
 use Rattle.agreement.proofs.reads.Sights.{version-time}
 use Rattle.agreement.proofs.reads.WalkLaws.{overAll, Reaches, walked}
-use Rattle.agreement.proofs.reads.ReadFacts.{rowsFor-step, all-rows, row-time, newest-is, chain-cached, kind-cached, value-cached, few-slots}
+use Rattle.agreement.proofs.reads.ReadFacts.{rowsFor-step, all-rows, row-time, chain-cached, kind-cached, value-cached, few-slots}
 
 current-snoc : (rs : List Row) (n key : ℕ) (before : Strip) (vs : List Version) (v : Version)
     → rowsCurrent rs n key before (vs ++ (v ∷ []))
@@ -42,10 +43,6 @@ current-snoc rs n key before (x ∷ vs) v =
 
 -- ---- what a slot shows
 
-or-right : (a : Bool) → (a || true) ≡ true
-or-right true = refl
-or-right false = refl
-
 is-timed : (t : ℕ) → isTimed (timing t) ≡ isSome (timeIn (timing t))
 is-timed zero = refl
 is-timed (suc t) = refl
@@ -56,7 +53,7 @@ seen-by : (cs : List LoggedCommit) (v : LoggedVersion) (x : Cell) (pair : ℕ �
 unfolding versionTime
 seen-by cs v x pair n t still e = ap (λ (y : Timing). eqb (v .num) n || isTimed y) e ∙ ap (λ (y : Bool). eqb (v .num) n || y) (is-timed t)
 seen-by cs v x pair n t (marked a z q) e =
-    sym (ap (λ (y : Timing). eqb (v .num) n || isSome (timeIn y)) (sym e) ∙ or-right (eqb (v .num) n))
+    sym (ap (λ (y : Timing). eqb (v .num) n || isSome (timeIn y)) (sym e) ∙ or-true (eqb (v .num) n))
 
 pub unless-empty : {A : Type 0} (x : Slot) (stop go : A) → isVersion x ≡ true → unlessEmpty x stop go ≡ go
 unless-empty Empty stop go e = absurd (false≢true e)

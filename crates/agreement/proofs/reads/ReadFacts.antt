@@ -12,13 +12,13 @@ use Rattle.store.specs.declared.Refusal.{Refusal}
 use Rattle.store.specs.declared.Refusal.the-variants.{BadSizes, BadCache, Malformed, NoPlace, NotActive, Held, NoSlot, LogFull, NoTime, NotYet, NoPage, NotLogged, Unchanged, ShortBuffer, NoNumber, Unfit}
 use Rattle.store.specs.declared.State.{State}
 use Rattle.store.specs.Answer.{refusalNumber}
-use Rattle.store.specs.Chain.{newest, cellAt}
+use Rattle.store.specs.Chain.{cellAt}
 use Rattle.store.specs.Write.{orNone}
 use Rattle.runs.specs.Book.{Book, Version, timeOf, versions}
 use Rattle.runs.specs.Machine.{timeIn}
 use Rattle.agreement.proofs.history.Ghost.{versionsOf, commitsOf, records, LoggedVersion, noVersion, at, newestOf, find, timing, Disk}
 use Rattle.agreement.proofs.invariant.Invariant.{Up}
-use Rattle.agreement.proofs.invariant.MediumFacts.{cell-fields, cell-cached, newest-cached}
+use Rattle.agreement.proofs.invariant.MediumFacts.{cell-fields, cell-cached}
 use Rattle.agreement.proofs.history.RowLaws.{rowFor, rowsFor, versions-are, time-row}
 
 pub positive : (r : Refusal) → 0 < refusalNumber r
@@ -61,9 +61,6 @@ module _ {l d : ℕ} {m c : List ℕ} {s : State} {b : Book} {disk : Disk} {clos
 
   pub row-time : (n : ℕ) → timeOf (b .rows) n ≡ timeIn (timing (find (commitsOf (closed ++ (tail ∷ []))) n .time))
   row-time n = rw (u .rows) (time-row (records (closed ++ (tail ∷ []))) 0 (u .medium .numbers .rising) n)
-
-  pub newest-is : (key : ℕ) → newest c key (s .slots) ≡ newestOf (versionsOf (closed ++ (tail ∷ []))) key (length (versionsOf (closed ++ (tail ∷ []))))
-  newest-is key = ap (newest c key) (u .state .slots) ∙ newest-cached (u .medium) (u .cache) key (length (versionsOf (closed ++ (tail ∷ [])))) (omega arith)
 
   -- earlier slots in the cache are true
   pub chain-cached : (n : ℕ) → n < length (versionsOf (closed ++ (tail ∷ [])))

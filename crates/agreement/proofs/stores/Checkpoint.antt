@@ -5,7 +5,7 @@ use native.Mathlib.Omega.{arith}
 use mathlib.Core.Bool.{Bool, true, false, cond}
 use mathlib.Core.List.{List, [], _∷_, _++_}
 use mathlib.Core.Logic.{_⊎_, inl, inr}
-use mathlib.Core.Path.{_≡_, refl, ap, _∙_, subst}
+use mathlib.Core.Path.{_≡_, refl, _∙_, subst}
 use lib.Dec.{eqb}
 use lib.ListN.{length, take, getD, length-take, length-append}
 use lib.Seq.{getD-take}
@@ -16,7 +16,6 @@ use Rattle.layout.proofs.BlockLaws.{length-put, blk-same, blk-other}
 use Rattle.layout.proofs.MasterLaws.{length-masterBytes}
 use Rattle.layout.proofs.CellLaws.{each-append, each-map}
 use Rattle.layout.specs.Master.{masterBytes}
-use Rattle.layout.proofs.JournalLaws.{sequence-logBytes}
 use Rattle.layout.proofs.PlaceLaws.{log-not-first, page-not-first, first-in-medium}
 use Rattle.layout.specs.Table.{tablePair}
 use Rattle.layout.proofs.TableLaws.{tablePair-other}
@@ -30,6 +29,7 @@ use Rattle.store.specs.declared.State.{State}
 use Rattle.store.specs.Checkpoint.{newOldest, leastOr, tableBlock, checkpointStep}
 use Rattle.runs.specs.Book.{Book}
 use Rattle.runs.specs.Machine.{after}
+use Rattle.agreement.proofs.logging.GrowthLaws.{stored-length, tail-sequence}
 use Rattle.agreement.proofs.history.Ghost.{commitsOf, Disk, records, LoggedCommit, commitsIn, find, lastOf, count}
 use Rattle.agreement.proofs.history.ListLaws.{split}
 use Rattle.agreement.proofs.history.CommitLaws.{last-each}
@@ -37,13 +37,8 @@ use Rattle.agreement.proofs.history.VersionLaws.{place-commits}
 use Rattle.agreement.proofs.invariant.PlaceSet.{table-same, covered-same, living-same}
 use Rattle.agreement.proofs.invariant.MediumFacts.{commits-split, commits-sound, last-below}
 use Rattle.agreement.proofs.invariant.StoredFacts.{rest-above}
-use Rattle.agreement.proofs.invariant.Invariant.{lifeEnd, numAt, timeAt, tableNum, tableTime, Stored, nothing, upTo, Lively, PhaseIs, Up, Inv, running, Pending}
+use Rattle.agreement.proofs.invariant.Invariant.{lifeEnd, numAt, timeAt, tableNum, tableTime, Lively, PhaseIs, Up, Inv, running, Pending}
 use Rattle.agreement.proofs.stores.TableStore.{covered-now, covered-still, tabled-up}
-
--- the closed blocks are stored
-stored-length : (closed : List (List Record)) (tail : List Record) (stored : List (List Record)) (e : ℕ) → Stored closed tail stored e → length closed ≤ length stored
-stored-length closed tail stored e (nothing a h) = omega arith
-stored-length closed tail stored e (upTo n h) = rw length-append (omega arith)
 
 -- ---- the new oldest block
 
@@ -77,22 +72,19 @@ least-each q (x ∷ xs) (suc p) z = go (eqb x 0) (least-each q xs p z) (least-ea
     go false a e = omega arith
 
 module _ {l d : ℕ} {m c : List ℕ} {s : State} {b : Book} {disk : Disk} {closed : List (List Record)} {tail : List Record} (u : Up l d m c s b disk closed tail) where
-  tail-seq : sequenceOf (s .tail) ≡ length closed
-  tail-seq = ap sequenceOf (u .state .tail-block) ∙ sequence-logBytes (length closed) tail (omega (arith, u .medium .log .top, length-append closed (tail ∷ [])))
-
   first-at : (p : ℕ) → p < d → getD (take (s .pages) (s .first)) p 0 ≡ getD (s .first) p 0
   first-at p h = getD-take (s .pages) (s .first) p 0 (omega (arith, u .state .pages))
 
   -- the new oldest block is from the oldest to the tail, and not above any first change
   pub oldest-low : disk .oldest ≤ newOldest s
   unfolding newOldest
-  oldest-low = least-low (disk .oldest) (sequenceOf (s .tail)) (take (s .pages) (s .first)) (omega (arith, tail-seq, u .state .ring-low)) (λ p a z.
+  oldest-low = least-low (disk .oldest) (sequenceOf (s .tail)) (take (s .pages) (s .first)) (omega (arith, tail-sequence u, u .state .ring-low)) (λ p a z.
       let h : p < d = omega (arith, length-take (s .pages) (s .first), u .state .pages) in
       rw (first-at p h) (u .firsts .low p h (rw (first-at p h) at z)))
 
   pub oldest-high : newOldest s ≤ length closed
   unfolding newOldest
-  oldest-high = least-high (sequenceOf (s .tail)) (take (s .pages) (s .first)) (length closed) (omega (arith, tail-seq)) (λ p a.
+  oldest-high = least-high (sequenceOf (s .tail)) (take (s .pages) (s .first)) (length closed) (omega (arith, tail-sequence u)) (λ p a.
       let h : p < d = omega (arith, length-take (s .pages) (s .first), u .state .pages) in
       rw (first-at p h) (u .firsts .high p h))
 
@@ -151,7 +143,7 @@ module _ {l d : ℕ} {m c : List ℕ} {s : State} {b : Book} {disk : Disk} {clos
             time-high = omega (arith, p .late, last-below (commitsOf (disk .stored)) (commits-sound d (disk .stored) (u .medium .log .stored)));
           };
           log = record {
-            low = omega (arith, p .below, stored-length closed tail (disk .stored) (s .end .0) (u .state .mark));
+            low = omega (arith, p .below, stored-length (u .state .mark));
             high = omega (arith, p .above, u .medium .log .high);
             front = u .medium .log .front;
             top = u .medium .log .top;

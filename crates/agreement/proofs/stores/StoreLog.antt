@@ -4,18 +4,19 @@ use Prim.Native.Nat.{ℕ, _+_, _≤_, _<_}
 use native.Mathlib.Omega.{arith}
 use mathlib.Core.List.{List, [], _∷_, _++_}
 use mathlib.Core.Path.{_≡_, sym, ap, _∙_, subst}
-use lib.ListN.{length, length-append}
+use lib.ListN.{length}
 use lib.Seq.{take-all}
 use Rattle.layout.specs.Block.{put, logBlockAt, endPlace}
 use Rattle.layout.specs.Cells.{flat}
-use Rattle.layout.specs.Journal.{Record, logBytes, sequenceOf, usedOf, recordBytes}
+use Rattle.layout.specs.Journal.{Record, logBytes, usedOf, recordBytes}
 use Rattle.layout.specs.Table.{tablePair}
-use Rattle.layout.proofs.JournalLaws.{sequence-logBytes, used-logBytes}
+use Rattle.layout.proofs.JournalLaws.{used-logBytes}
 use Rattle.store.specs.declared.State.{State}
 use Rattle.store.specs.Tail.{tailEnd, storedTail}
 use Rattle.store.specs.StoreLog.{logStored}
 use Rattle.runs.specs.Book.{Book}
 use Rattle.runs.specs.Machine.{up}
+use Rattle.agreement.proofs.logging.GrowthLaws.{tail-sequence}
 use Rattle.agreement.proofs.history.Ghost.{commitsOf, sizeOf, BlockSound, records, commitsIn, lastOf, Disk}
 use Rattle.agreement.proofs.history.ListLaws.{each-right}
 use Rattle.agreement.proofs.history.PlacingLaws.{size-flat, sound-sized}
@@ -42,17 +43,14 @@ module _ {l d : ℕ} {m c : List ℕ} {s : State} {b : Book} {disk : Disk} {clos
   tail-fits : length (flat recordBytes tail) ≤ 502
   tail-fits = omega (arith, tail-size, each-right (BlockSound d) closed (tail ∷ []) (u .medium .log .sound) .0 .fits)
 
-  sequence-is : sequenceOf (s .tail) ≡ length closed
-  sequence-is = ap sequenceOf (u .state .tail-block) ∙ sequence-logBytes (length closed) tail (omega (arith, u .medium .log .top, length-append closed (tail ∷ [])))
-
   medium-is : storedTail (s .blocks) m (s .tail) ≡ medium
   unfolding storedTail
-  medium-is = rw (u .state .blocks, sequence-is, u .state .tail-block)
+  medium-is = rw (u .state .blocks, tail-sequence u, u .state .tail-block)
 
   end-is : tailEnd (s .tail) .0 ≡ endPlace (length closed) (10 + sizeOf tail)
   unfolding tailEnd
   end-is =
-      rw (sequence-is)
+      rw (tail-sequence u)
       (ap (endPlace (length closed)) (ap usedOf (u .state .tail-block) ∙ used-logBytes (length closed) tail tail-fits ∙ ap (λ (n : ℕ). 10 + n) tail-size))
 
   mark-is : Stored closed tail (closed ++ (tail ∷ [])) (tailEnd (s .tail) .0)

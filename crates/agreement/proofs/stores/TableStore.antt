@@ -26,6 +26,7 @@ use Rattle.store.specs.Places.{placeAt}
 use Rattle.store.specs.declared.Phase.{Phase}
 use Rattle.store.specs.declared.State.{State}
 use Rattle.store.specs.Checkpoint.{noPair, pairBelow, pairsFrom, tableBlock}
+use Rattle.runs.proofs.OneBlock.{length-pairsFrom}
 use Rattle.runs.specs.Book.{Book}
 use Rattle.agreement.proofs.history.Ghost.{commitsOf, Disk, LoggedCommit, find, count}
 use Rattle.agreement.proofs.history.ListLaws.{split, same?}
@@ -37,11 +38,6 @@ use Rattle.agreement.proofs.invariant.PlaceFacts.{life-low}
 use Rattle.agreement.proofs.invariant.Invariant.{lifeNum, lifeTime, lifeEnd, Formed, numAt, timeAt, tableNum, tableTime, TableOn, OnMedium, Covered, Living, PhaseIs, Up}
 
 -- ---- a table block
-
-length-pairsFrom : (ps : List Place) (o i k : ℕ) → length (pairsFrom ps o i k) ≡ k
-unfolding pairsFrom
-length-pairsFrom ps o i zero = refl
-length-pairsFrom ps o i (suc k) = ap suc (length-pairsFrom ps o (i + 1) k)
 
 getD-pairsFrom : (ps : List Place) (o i k j : ℕ) → j < k → getD (pairsFrom ps o i k) j noPair ≡ pairBelow o (placeAt ps (i + j) .life)
 unfolding pairsFrom

@@ -2,7 +2,7 @@
 -- table, so everything said of the medium stays.
 use Prim.Native.Nat.{ℕ, _+_, _-_, _^_, _≤_, _<_}
 use native.Mathlib.Omega.{arith}
-use mathlib.Core.Bool.{Bool, true, false, cond, _||_, false≢true}
+use mathlib.Core.Bool.{or-true, Bool, true, false, cond, _||_}
 use mathlib.Core.List.{List, [], _∷_, _++_}
 use mathlib.Core.Logic.{_⊎_, inl, inr, _≢_}
 use mathlib.Core.Path.{_≡_, refl, sym, ap, _∙_}
@@ -11,8 +11,7 @@ use lib.ListN.{length, set}
 use borrow.Author.Tests.{eqb-true, eq-eqb, ne-eqb, ltb-true}
 use Rattle.layout.specs.Journal.{Record}
 use Rattle.layout.proofs.CellLaws.{Each, each-at, each-map}
-use Rattle.store.specs.declared.Life.{Life}
-use Rattle.store.specs.declared.Life.the-variants.{Free, Active, Committed}
+use Rattle.store.specs.declared.Life.the-variants.{Active}
 use Rattle.store.specs.declared.Place.{Place}
 use Rattle.store.specs.declared.Found.the-variants.{At}
 use Rattle.store.specs.declared.State.{State}
@@ -23,14 +22,14 @@ use Rattle.store.specs.OpenLog.{Placed, numberIn}
 use Rattle.store.proofs.AskLaws.{Passed}
 use Rattle.runs.specs.Book.{Book, Row, Opened, close, hasRow, isOpen, clockOf as clockIn}
 use Rattle.runs.specs.Machine.{up}
+use Rattle.agreement.proofs.invariant.PlaceFacts.{free-num, first-found, active-found}
 use Rattle.agreement.proofs.history.Ghost.{versionsOf, commitsOf, records, LoggedVersion, noVersion, at, LoggedCommit, find, count, Disk}
-use Rattle.agreement.proofs.invariant.Invariant.{lifeNum, lifeClock, numAt, timeAt, tableNum, Covered, Lively, Up, Inv, running}
+use Rattle.agreement.proofs.invariant.Invariant.{lifeClock, numAt, timeAt, tableNum, Covered, Lively, Up, Inv, running}
 use Rattle.agreement.proofs.history.ListLaws.{same?}
 use Rattle.agreement.proofs.history.CommitLaws.{find-none, find-num, find-each}
 use Rattle.agreement.proofs.history.VersionLaws.{num-versions, num-commits}
 use Rattle.agreement.proofs.history.RowLaws.{below-row}
 use Rattle.agreement.proofs.invariant.MediumFacts.{CommitSound, commits-sound, find-stored, waiting-slot}
-use Rattle.agreement.proofs.invariant.PlaceFacts.{first-found, active-found}
 use Rattle.agreement.proofs.invariant.PlaceSet.{placeAt-same, placeAt-other, covered-set, living-set, phase-map}
 
 closed-above : (os : List Opened) (n : ℕ) → Each (λ (o : Opened). o .number < n) os → isOpen os n ≡ false
@@ -60,10 +59,6 @@ open-close (o ∷ os) n k h = go (eqb (o .number) n) refl (open-close os n k h)
     go true e ih = rw (ne-eqb (o .number) k (λ w. h (sym w ∙ eqb-true _ _ e))) ih
     go false e ih = ap (λ (x : Bool). eqb (o .number) k || x) ih
 
-or-right : (a : Bool) → (a || true) ≡ true
-or-right true = refl
-or-right false = refl
-
 pub below-close : (os : List Opened) (n k : ℕ) → Each (λ (o : Opened). o .number < k) os → Each (λ (o : Opened). o .number < k) (close os n)
 unfolding close
 below-close [] n k h = tt
@@ -82,11 +77,6 @@ ring-below ring r = omega arith
 free-found : (ps : List Place) (ring r : ℕ) → findFree ps ring ≡ At r → isFree (placeAt ps (ringPlace ring r) .life) ≡ true
 unfolding findFree
 free-found ps ring r e = first-found (λ k. isFree (placeAt ps (ringPlace ring k) .life)) 64 0 r e .2
-
-free-num : (x : Life) → isFree x ≡ true → lifeNum x ≡ 0
-free-num Free e = refl
-free-num (Active n k) e = absurd (false≢true e)
-free-num (Committed n t z) e = absurd (false≢true e)
 
 module _ {l d : ℕ} {m c : List ℕ} {s : State} {b : Book} {disk : Disk} {closed : List (List Record)} {tail : List Record} (u : Up l d m c s b disk closed tail) where
   -- the next number is neither open nor in a row: all are below it
@@ -203,7 +193,7 @@ module _ {l d : ℕ} {m c : List ℕ} {s : State} {b : Book} {disk : Disk} {clos
       known′ : (j : ℕ) → j < 64 → (j ≡ i) ⊎ (j ≢ i) → 0 < numAt (set (s .places) i new) j → timeAt (set (s .places) i new) j ≡ 0
           → (eqb (s .next .0) (numAt (set (s .places) i new) j) || isOpen (b .opened) (numAt (set (s .places) i new) j)) ≡ true
       known′ j a (inl q) = rw (q, placeAt-same (s .places) i new (u .living .size) h, eq-eqb (s .next .0) (s .next .0) refl) (λ z t. refl)
-      known′ j a (inr q) = rw (placeAt-other (s .places) i j new q) (λ z t. rw (u .opens .known j a z t) (or-right (eqb (s .next .0) (numAt (s .places) j))))
+      known′ j a (inr q) = rw (placeAt-other (s .places) i j new q) (λ z t. rw (u .opens .known j a z t) (or-true (eqb (s .next .0) (numAt (s .places) j))))
 
   -- the number has no commit, so `all` and `home` do not speak of it
   pub closes : (n i : ℕ) → findActive (s .places) n ≡ At i

@@ -1,6 +1,6 @@
 -- Commit of a number with versions: a running store goes on to the book with one commit row more. The log grows by the commit;
 -- only the number's own place and its commit change, and its versions all wait, so the table and the slots stay as they are.
-use Prim.Native.Nat.{ℕ, _+_, _-_, _^_, _≤_, _<_, max}
+use Prim.Native.Nat.{ℕ, _-_, _^_, _≤_, _<_}
 use native.Mathlib.Omega.{arith}
 use mathlib.Core.Bool.{true, false}
 use mathlib.Core.List.{List, [], _∷_, _++_}
@@ -11,7 +11,6 @@ use lib.ListN.{length, set}
 use borrow.Author.Tests.{eqb-true, eqb-false, ltb-true}
 use Rattle.layout.specs.Journal.{Record, commit, recordForm, recordSize}
 use Rattle.layout.specs.declared.CommitTime.{CommitTime}
-use Rattle.layout.specs.declared.item.Pair.{Pair}
 use Rattle.layout.proofs.CellLaws.{each-append}
 use Rattle.store.specs.declared.Place.{Place}
 use Rattle.store.specs.Tail.{Logged, logged, mayLog, tailEnd}
@@ -25,7 +24,8 @@ use Rattle.store.specs.declared.Life.the-variants.{Free, Active, Committed}
 use Rattle.store.proofs.AskLaws.{Passed}
 use Rattle.runs.specs.Book.{Book, Row, committed, add, close, hasRow, isOpen, clockOf as clockIn, commitTime as rowTime}
 use Rattle.runs.specs.Machine.{after, logChanged}
-use Rattle.agreement.proofs.history.Ghost.{versionsOf, commitsOf, records, at, LoggedCommit, find, lastOf, count, rowsIn, Disk}
+use Rattle.agreement.proofs.logging.Growth.{num-stays, time-stays, recent, withLog, Grows, grows}
+use Rattle.agreement.proofs.history.Ghost.{Sound, versionsOf, commitsOf, records, at, LoggedCommit, find, lastOf, count, rowsIn, Disk}
 use Rattle.agreement.proofs.history.ListLaws.{same?}
 use Rattle.agreement.proofs.history.VersionLaws.{commits-append}
 use Rattle.agreement.proofs.history.CommitLaws.{rising-above, last-append}
@@ -33,8 +33,7 @@ use Rattle.agreement.proofs.history.RowLaws.{version-row, rowless, rows
 use Rattle.agreement.proofs.invariant.MediumFacts.{waiting-slot, counted}
 use Rattle.agreement.proofs.reads.Sights.{last-is}
 use Rattle.agreement.proofs.transactions.ActiveLaws.{active-place, active-low, active-num, active-time, active-next, active-high, active-waits, uncommitted, elsewhere, all-wait, alone}
-use Rattle.agreement.proofs.invariant.Invariant.{lifeClock, numAt, timeAt, tableNum, tableTime, Covered, Lively, Living, Opens, Pending, Up, Inv, running}
-use Rattle.agreement.proofs.logging.Growth.{withLog, Grows, grows}
+use Rattle.agreement.proofs.invariant.Invariant.{lifeClock, numAt, timeAt, tableNum, Covered, Lively, Living, Opens, Pending, Up, Inv, running}
 use Rattle.agreement.proofs.logging.GrowthLaws.{old-versions, new-com, find-new, find-old}
 use Rattle.agreement.proofs.invariant.PlaceSet.{placeAt-same, placeAt-other, covered-set, living-set, phase-map}
 use Rattle.agreement.proofs.transactions.BeginAbort.{clock-close, open-close, below-close}
@@ -88,9 +87,6 @@ module _ {l d : ℕ} {m c : List ℕ} {s : State} {b : Book} {disk : Disk} {clos
   unfolding me
   new-cs = new-com (g .closed′ ++ (g .tail′ ∷ [])) (records (closed ++ (tail ∷ []))) _ (g .grown) (record { number = record { 0 = n }; time = t }) refl
 
-  recent : disk .oldest ≤ length (g .closed′)
-  recent = omega (arith, u .state .ring-low, g .below)
-
   found-new : find (commitsOf (closed ++ (tail ∷ [])) ++ (me ∷ [])) n ≡ me
   unfolding me
   found-new = find-new (commitsOf (closed ++ (tail ∷ []))) me (rising-above 0 (commitsOf (closed ++ (tail ∷ []))) (u .medium .numbers .rising)) (uncommitted u n i f)
@@ -99,19 +95,13 @@ module _ {l d : ℕ} {m c : List ℕ} {s : State} {b : Book} {disk : Disk} {clos
   unfolding me
   found-old j h = find-old (commitsOf (closed ++ (tail ∷ []))) me j h
 
-  num-stays : (j : ℕ) → j < 64 → tableNum (lg .medium) j ≡ tableNum m j
-  num-stays j h = ap (λ (p : Pair). p .number .0) (g .pairs j h)
-
-  time-stays : (j : ℕ) → j < 64 → tableTime (lg .medium) j ≡ tableTime m j
-  time-stays j h = ap (λ (p : Pair). p .time .0) (g .pairs j h)
-
   covered′ : (o x : ℕ) → x ≤ 64 → o ≤ length (g .closed′) → Covered m (commitsOf (closed ++ (tail ∷ []))) (s .places) o x
       → Covered (lg .medium) (commitsOf (closed ++ (tail ∷ [])) ++ (me ∷ [])) (set (s .places) i ended) o x
   unfolding ended me
   covered′ o x le h p =
       covered-set (lg .medium) (commitsOf (closed ++ (tail ∷ [])) ++ (me ∷ [])) (s .places) i ended o x (u .living .size) (active-place u n i f)
       (λ z w. absurd (omega (arith, h, ap (λ (y : LoggedCommit). y .seq) found-new, w)))
-      (λ j a e. rw (found-old (numAt (s .places) j) (elsewhere u n i f j (omega arith) e), num-stays j (omega arith), time-stays j (omega arith)) (p j a))
+      (λ j a e. rw (found-old (numAt (s .places) j) (elsewhere u n i f j (omega arith) e), num-stays g j (omega arith), time-stays g j (omega arith)) (p j a))
 
   living′ : Living (lg .medium) (commitsOf (closed ++ (tail ∷ [])) ++ (me ∷ [])) (disk .cells) (disk .oldest) (s .next .0) (set (s .places) i ended)
   unfolding ended me
@@ -129,7 +119,7 @@ module _ {l d : ℕ} {m c : List ℕ} {s : State} {b : Book} {disk : Disk} {clos
       (λ j h e. other j h (found-old (numAt (s .places) j) (elsewhere u n i f j h e)) (u .living .each j h))
       (λ j h e z. elsewhere u n i f j h e)
       (λ x a z. all′ x a z (same? x n))
-      (covered′ (disk .oldest) 64 (omega arith) recent (u .living .covered))
+      (covered′ (disk .oldest) 64 (omega arith) (recent u g) (u .living .covered))
       (λ z w. sym (active-num u n i f) ∙ home′ i (active-place u n i f) z w)
       (λ j h e. home′ j h)
     where
@@ -154,7 +144,7 @@ module _ {l d : ℕ} {m c : List ℕ} {s : State} {b : Book} {disk : Disk} {clos
           inr (j, h, (λ w. e (sym q ∙ ap (λ (y : ℕ). numAt (s .places) y) w ∙ active-num u n i f)), q)
 
       home′ : (j : ℕ) → j < 64 → 0 < tableNum (lg .medium) j → 0 < count (tableNum (lg .medium) j) (disk .cells) → numAt (s .places) j ≡ tableNum (lg .medium) j
-      home′ j h = rw (num-stays j h) (u .living .home j h)
+      home′ j h = rw (num-stays g j h) (u .living .home j h)
 
   opens′ : Opens (versionsOf (closed ++ (tail ∷ []))) (s .next .0) (close (b .opened) n) (set (s .places) i ended)
   unfolding ended
@@ -208,14 +198,14 @@ module _ {l d : ℕ} {m c : List ℕ} {s : State} {b : Book} {disk : Disk} {clos
   commit-up : Up l d (lg .medium) c (committedState s i n t lg) (add b (committed n (t .0)) (logChanged l m (lg .medium)) (close (b .opened) n)) (withLog disk (g .stored′)) (g .closed′) (g .tail′)
   unfolding committedState add ended me rowsIn lastOf
   commit-up = record {
-    medium = grow-commit (g .medium) _ (g .grown) (g .sound) (g .top) (g .front) recent (record { number = record { 0 = n }; time = t }) refl
+    medium = grow-commit (g .medium) _ (g .grown) (g .sound) (g .top) (g .front) (recent u g) (record { number = record { 0 = n }; time = t }) refl
         (omega (arith, u .state .last)) (uncommitted u n i f) (alone u n i f);
     state = record {
       blocks = u .state .blocks;
       pages = u .state .pages;
       slots = rw old-vs (u .state .slots);
       tail-block = g .tail-block;
-      ring-low = recent;
+      ring-low = (recent u g);
       ring-high = g .ring-high;
       mark = g .mark;
       last = rw (new-cs, last-append) (omega (arith, u .state .last));
@@ -236,21 +226,28 @@ module _ {l d : ℕ} {m c : List ℕ} {s : State} {b : Book} {disk : Disk} {clos
 
 module _ {l d : ℕ} {m c : List ℕ} {s : State} {b : Book} {disk : Disk} {closed : List (List Record)} {tail : List Record} (u : Up l d m c s b disk closed tail) where
   -- the record that the call takes is sound: its time is above the last one, and below 2^64 by the questions
+  taken : (n clock i : ℕ) → clock < 2 ^ 64 → findActive (s .places) n ≡ At i → s .last .0 < 2 ^ 64 - 1
+      → Sound d (commit (record { number = record { 0 = n }; time = commitTime s i clock }))
+  unfolding commitTime recordForm
+  taken n clock i h f a = record {
+    sized = record {
+      number = omega (arith, active-high u n i f);
+      time = omega (arith, u .opens .short i (active-place u n i f), clock-is (placeAt (s .places) i .life));
+    };
+    form = refl;
+    low = active-low u n i f;
+    high = active-high u n i f;
+    placeable = omega arith;
+  }
+
   pub committed-up : (n clock i : ℕ) → clock < 2 ^ 64 → Passed (commitAsks s m c n) → findActive (s .places) n ≡ At i
       → eqb (placeAt (s .places) i .waiting) 0 ≡ false
       → Inv l d (after (commitStep s m c i n (commitTime s i clock)))
       (add b (committed n (commitTime s i clock .0)) (logChanged l m (commitStep s m c i n (commitTime s i clock) .medium)) (close (b .opened) n))
-  unfolding commitStep commitTime recordForm recordSize
+  unfolding commitStep commitTime recordSize
   committed-up n clock i h p f w =
       let a : ltb (s .last .0) (2 ^ 64 - 1) ≡ true = rw (f, w) at (p .1 .1 .0) in
       let may : mayLog s m 19 ≡ true = rw (f, w) at (p .1 .1 .1 .0) in
-      let t : CommitTime = record { 0 = max (clockOf (placeAt (s .places) i .life)) (max clock (s .last .0 + 1)) } in
-      running (commit-up u n i f t (omega arith) w (logged s m (commit (record { number = record { 0 = n }; time = t })))
-      (grows u (commit (record { number = record { 0 = n }; time = t }))
-      (record {
-        sized = record { number = omega (arith, active-high u n i f); time = omega (arith, ltb-true (s .last .0) (2 ^ 64 - 1) a, u .opens .short i (active-place u n i f), clock-is (placeAt (s .places) i .life)) };
-        form = refl;
-        low = active-low u n i f;
-        high = active-high u n i f;
-        placeable = omega arith;
-      }) may))
+      let r : Record = commit (record { number = record { 0 = n }; time = commitTime s i clock }) in
+      running (commit-up u n i f (commitTime s i clock) (omega arith) w (logged s m r)
+      (grows u r (taken n clock i h f (ltb-true (s .last .0) (2 ^ 64 - 1) a)) may))

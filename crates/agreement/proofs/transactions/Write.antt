@@ -14,7 +14,6 @@ use Rattle.layout.specs.Page.{putVersion}
 use Rattle.layout.specs.Slot.{Cell, kindForm}
 use Rattle.layout.specs.Journal.{Record, recordForm, recordSize, sequenceOf, version as versionRecord}
 use Rattle.layout.specs.declared.item.VersionHead.{VersionHead}
-use Rattle.layout.specs.declared.item.Pair.{Pair}
 use Rattle.layout.proofs.FieldLaws.{Bytes}
 use Rattle.layout.proofs.CellLaws.{each-append}
 use Rattle.layout.proofs.JournalLaws.{sequence-logBytes}
@@ -30,7 +29,8 @@ use Rattle.store.specs.Write.{writeAsks, newHead, writeStep, written, cellFor, 
 use Rattle.store.proofs.AskLaws.{Passed}
 use Rattle.runs.specs.Book.{Book, Row, version, versions, add}
 use Rattle.runs.specs.Machine.{after, logChanged}
-use Rattle.agreement.proofs.history.Ghost.{versionsOf, commitsOf, records, LoggedVersion, noVersion, at, newestOf, find, waitingCell, count, rowsIn, Disk}
+use Rattle.agreement.proofs.logging.Growth.{num-stays, time-stays, recent, withLog, Grows, grows}
+use Rattle.agreement.proofs.history.Ghost.{Sound, versionsOf, commitsOf, records, LoggedVersion, noVersion, at, newestOf, find, waitingCell, count, rowsIn, Disk}
 use Rattle.agreement.proofs.history.ListLaws.{same?}
 use Rattle.agreement.proofs.history.VersionLaws.{commits-append, newest-at}
 use Rattle.agreement.proofs.history.CommitLaws.{last-append}
@@ -40,8 +40,7 @@ use Rattle.agreement.proofs.invariant.MediumFacts.{cells-sized}
 use Rattle.agreement.proofs.transactions.ActiveLaws.{active-place, active-low, active-num, active-next, active-high, active-waits, uncommitted, elsewhere, unpaired}
 use Rattle.agreement.proofs.transactions.WriteLaws.{count-other, count-same, touch-low, firsts-more, cache-more, newest-is, not-held}
 use Rattle.agreement.proofs.invariant.PlaceSet.{placeAt-same, placeAt-other, living-set, phase-map}
-use Rattle.agreement.proofs.invariant.Invariant.{numAt, timeAt, tableNum, tableTime, Covered, OnMedium, CacheIs, Firsts, Lively, Living, Opens, Pending, Up, Inv, running}
-use Rattle.agreement.proofs.logging.Growth.{withLog, Grows, grows}
+use Rattle.agreement.proofs.invariant.Invariant.{numAt, timeAt, tableNum, Covered, OnMedium, CacheIs, Firsts, Lively, Living, Opens, Pending, Up, Inv, running}
 use Rattle.agreement.proofs.logging.GrowthLaws.{new-ver, old-commits}
 use Rattle.agreement.proofs.logging.Grown.{withCell, grow-version}
 
@@ -69,15 +68,6 @@ module _ {l d : ℕ} {m c : List ℕ} {s : State} {b : Book} {disk : Disk} {clos
   unfolding head
   old-cs = old-commits (g .closed′ ++ (g .tail′ ∷ [])) (records (closed ++ (tail ∷ []))) _ (g .grown) head v refl
 
-  recent : disk .oldest ≤ length (g .closed′)
-  recent = omega (arith, u .state .ring-low, g .below)
-
-  num-stays : (j : ℕ) → j < 64 → tableNum (lg .medium) j ≡ tableNum m j
-  num-stays j h = ap (λ (p : Pair). p .number .0) (g .pairs j h)
-
-  time-stays : (j : ℕ) → j < 64 → tableTime (lg .medium) j ≡ tableTime m j
-  time-stays j h = ap (λ (p : Pair). p .time .0) (g .pairs j h)
-
   -- each place keeps its life
   life-stays : (j : ℕ) → placeAt (set (s .places) i mine) j .life ≡ placeAt (s .places) j .life
   unfolding mine raised
@@ -88,7 +78,7 @@ module _ {l d : ℕ} {m c : List ℕ} {s : State} {b : Book} {disk : Disk} {clos
       go (inr e) = rw (placeAt-other (s .places) i j mine e)
 
   covered′ : (o x : ℕ) → x ≤ 64 → Covered m (commitsOf (closed ++ (tail ∷ []))) (s .places) o x → Covered (lg .medium) (commitsOf (closed ++ (tail ∷ []))) (set (s .places) i mine) o x
-  covered′ o x le p j a = rw (life-stays j, num-stays j (omega arith), time-stays j (omega arith)) (p j a)
+  covered′ o x le p j a = rw (life-stays j, num-stays g j (omega arith), time-stays g j (omega arith)) (p j a)
 
   living′ : Living (lg .medium) (commitsOf (closed ++ (tail ∷ []))) (disk .cells ++ (waitingCell me ∷ [])) (disk .oldest) (s .next .0) (set (s .places) i mine)
   unfolding mine raised me
@@ -134,7 +124,7 @@ module _ {l d : ℕ} {m c : List ℕ} {s : State} {b : Book} {disk : Disk} {clos
           inr (j, h, (λ w. e (sym q ∙ ap (λ (y : ℕ). numAt (s .places) y) w ∙ active-num u n i f)), q)
 
       home′ : (j : ℕ) → j < 64 → 0 < tableNum (lg .medium) j → 0 < count (tableNum (lg .medium) j) (disk .cells ++ (waitingCell me ∷ [])) → numAt (s .places) j ≡ tableNum (lg .medium) j
-      home′ j h = rw (num-stays j h) (λ z w. u .living .home j h z (rw (count-other (tableNum m j) me (disk .cells) (unpaired u n i f j h)) at w))
+      home′ j h = rw (num-stays g j h) (λ z w. u .living .home j h z (rw (count-other (tableNum m j) me (disk .cells) (unpaired u n i f j h)) at w))
 
   opens′ : Opens (versionsOf (closed ++ (tail ∷ [])) ++ (me ∷ [])) (s .next .0) (b .opened) (set (s .places) i mine)
   unfolding me
@@ -180,7 +170,7 @@ module _ {l d : ℕ} {m c : List ℕ} {s : State} {b : Book} {disk : Disk} {clos
   medium′ =
       subst (λ (y : Cell). OnMedium l d (lg .medium) (withCell (withLog disk (g .stored′)) y) (g .closed′ ++ (g .tail′ ∷ [])))
       (ap (λ (vs : List LoggedVersion). waitingCell (at vs (length (versionsOf (closed ++ (tail ∷ [])))))) new-vs ∙ ap waitingCell (getD-append-seam (versionsOf (closed ++ (tail ∷ []))) me [] noVersion))
-      (grow-version (g .medium) _ (g .grown) (g .sound) (g .top) (g .front) recent head v refl (u .state .slots) (omega (arith, u .state .slots))
+      (grow-version (g .medium) _ (g .grown) (g .sound) (g .top) (g .front) (recent u g) head v refl (u .state .slots) (omega (arith, u .state .slots))
       (chained ∙ ap orNone (newest-is u key)) (uncommitted u n i f))
 
   write-up : Up l d (lg .medium) (putVersion c (s .slots) (tailEnd (lg .tail) .0) (waitingCell me)) (written s i lg)
@@ -194,7 +184,7 @@ module _ {l d : ℕ} {m c : List ℕ} {s : State} {b : Book} {disk : Disk} {clos
       pages = u .state .pages;
       slots = rw (new-vs, length-append) (omega (arith, u .state .slots));
       tail-block = g .tail-block;
-      ring-low = recent;
+      ring-low = (recent u g);
       ring-high = g .ring-high;
       mark = g .mark;
       last = rw old-cs (u .state .last);
@@ -206,8 +196,8 @@ module _ {l d : ℕ} {m c : List ℕ} {s : State} {b : Book} {disk : Disk} {clos
     cache = rw new-vs (subst (λ (x : ℕ). CacheIs d (putVersion c x (tailEnd (lg .tail) .0) (waitingCell me)) (versionsOf (closed ++ (tail ∷ [])) ++ (me ∷ [])) (disk .cells ++ (waitingCell me ∷ []))) (sym (u .state .slots))
         (cache-more d c (versionsOf (closed ++ (tail ∷ []))) (disk .cells) me (waitingCell me) (u .cache) (u .medium .pages .count) (omega (arith, u .state .slots)) (cells-sized medium′)));
     firsts = rw new-vs (subst (λ (x : ℕ). Firsts d (versionsOf (closed ++ (tail ∷ [])) ++ (me ∷ [])) (disk .on) (length (versionsOf (closed ++ (tail ∷ [])) ++ (me ∷ []))) (disk .oldest) (length (g .closed′)) (touched (s .first) (pageOf x) (sequenceOf (lg .tail))))
-        (sym (u .state .slots)) (rw tail-is (firsts-more d (versionsOf (closed ++ (tail ∷ []))) me (disk .on) (disk .oldest) (length closed) (length (g .closed′)) (s .first) (u .firsts) refl (g .below) recent
-        (omega (arith, recent, u .medium .master .oldest-low)) (omega (arith, u .state .slots)) (u .medium .sizes .range .pages-high))));
+        (sym (u .state .slots)) (rw tail-is (firsts-more d (versionsOf (closed ++ (tail ∷ []))) me (disk .on) (disk .oldest) (length closed) (length (g .closed′)) (s .first) (u .firsts) refl (g .below) (recent u g)
+        (omega (arith, (recent u g), u .medium .master .oldest-low)) (omega (arith, u .state .slots)) (u .medium .sizes .range .pages-high))));
     living = rw old-cs living′;
     opens = rw new-vs opens′;
     phase = rw old-cs (phase-map (s .phase) d m (lg .medium) disk (withCell (withLog disk (g .stored′)) (waitingCell me)) (commitsOf (closed ++ (tail ∷ []))) (commitsOf (closed ++ (tail ∷ [])))
@@ -235,29 +225,33 @@ module _ {l d : ℕ} {m c : List ℕ} {s : State} {b : Book} {disk : Disk} {clos
   not-true false e = refl
 
   -- the record that the call takes is sound by the questions and the types
+  taken : (n key kind i : ℕ) (v : List ℕ) → key < 256 → kind < 2 → length v ≡ 16 → Bytes v → kindForm kind v ≡ true → findActive (s .places) n ≡ At i
+      → s .slots < 15 * d → Sound d (versionRecord (newHead s c n key kind) v)
+  unfolding newHead recordForm
+  taken n key kind i v hk hd size bytes form f room = record {
+    sized = record {
+      slot = omega (arith, u .medium .sizes .range .pages-high);
+      key = hk;
+      kind = omega arith;
+      earlier = earlier-high key;
+      number = omega (arith, active-high u n i f);
+      size = size;
+      bytes = bytes;
+    };
+    form = form;
+    low = active-low u n i f;
+    high = active-high u n i f;
+    placeable = room;
+  }
+
   pub wrote : (n key kind i : ℕ) (v : List ℕ) → key < 256 → kind < 2 → length v ≡ 16 → Bytes v → kindForm kind v ≡ true
       → Passed (writeAsks s m c n key) → findActive (s .places) n ≡ At i
       → Inv l d (after (writeStep s m c i (newHead s c n key kind) v))
       (add b (version (record { number = n; key = key; kind = kind; value = v }))
       (logChanged l m (writeStep s m c i (newHead s c n key kind) v .medium)) (b .opened))
-  unfolding writeStep newHead cellFor recordForm recordSize me
+  unfolding writeStep newHead cellFor recordSize me
   wrote n key kind i v hk hd size bytes form p f =
       let room : s .slots < 15 * d = omega (arith, ltb-true (s .slots) (15 * s .pages) (p .1 .1 .1 .0), u .state .pages) in
-      let r : Record = versionRecord (record { slot = s .slots; key = key; kind = kind; earlier = orNone (newest c key (s .slots)); number = record { 0 = n } }) v in
+      let r : Record = versionRecord (newHead s c n key kind) v in
       running (write-up u n i f key kind (orNone (newest c key (s .slots))) v room refl (not-true (held c (s .places) (s .slots) key n) (p .1 .1 .0)) (logged s m r)
-      (grows u r
-      (record {
-        sized = record {
-          slot = omega (arith, u .medium .sizes .range .pages-high);
-          key = hk;
-          kind = omega arith;
-          earlier = earlier-high key;
-          number = omega (arith, active-high u n i f);
-          size = size;
-          bytes = bytes;
-        };
-        form = form;
-        low = active-low u n i f;
-        high = active-high u n i f;
-        placeable = room;
-      }) (p .1 .1 .1 .1 .0)))
+      (grows u r (taken n key kind i v hk hd size bytes form f room) (p .1 .1 .1 .1 .0)))
