@@ -68,13 +68,6 @@ unfolding areBytes
 bytes-of [] e = bytes-zeros 0
 bytes-of (x ∷ v) e = bytes-cons x v (ltb-true x 256 (and-0 (ltb x 256) (areBytes v) e)) (bytes-of v (and-1 (ltb x 256) (areBytes v) e))
 
-t2-word : (key t1 t2 : ℕ) (y : List ℕ) → callTyped (changes key t1 t2 y) ≡ true → t2 < 2 ^ 64
-unfolding callTyped
-t2-word key t1 t2 y t =
-    let e = and-1 (ltb key 256) _ t in
-    let f = and-1 (ltb t1 (2 ^ 64)) _ e in
-    ltb-true t2 (2 ^ 64) (and-0 (ltb t2 (2 ^ 64)) (areBytes y) f)
-
 -- ---- a call on a running store
 
 abbrev Keeps : ℕ → ℕ → List ℕ → Book → Call → Outcome → Type 0
@@ -135,7 +128,7 @@ module _ {l d : ℕ} {m c : List ℕ} {s : State} {b : Book} {disk : Disk} {clos
   kept-call (commit n a) t = kept refl t (way m c s (commit n a))
   kept-call (abort n) t = kept refl t (way m c s (abort n))
   kept-call (as-of key a) t = (λ e. unfold called seenOf in as-of-answers u key a e, read (as-of key a) refl refl (seenOf l m (called m c s (as-of key a)) [] .refusal))
-  kept-call (changes key t1 t2 y) t = (λ e. unfold called in lists-answer u key t1 t2 y (t2-word key t1 t2 y t) (unfold called seenOf in e), read (changes key t1 t2 y) refl refl (seenOf l m (called m c s (changes key t1 t2 y)) [] .refusal))
+  kept-call (changes key t1 t2 y) t = (λ e. unfold called in lists-answer u key t1 t2 y (unfold called seenOf in e), read (changes key t1 t2 y) refl refl (seenOf l m (called m c s (changes key t1 t2 y)) [] .refusal))
   kept-call store-log t = kept refl t (way m c s store-log)
   kept-call (store-page p) t = kept refl t (way m c s (store-page p))
   kept-call checkpoint t = kept refl t (way m c s checkpoint)

@@ -5,4 +5,5 @@ pub mod Reads
 pub mod Ended
 pub mod Found
 pub mod Since
+pub mod Begun
 pub mod Words

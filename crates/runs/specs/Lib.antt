@@ -2,4 +2,5 @@ pub mod Event
 pub mod Book
 pub mod Machine
 pub mod Demand
+pub mod Moments
 pub mod Plain

@@ -9,12 +9,13 @@ use mathlib.Core.Path.{_≡_, refl, sym, ap, _∙_, subst}
 use lib.Dec.{eqb}
 use borrow.Author.Tests.{eqb-true, ne-eqb}
 use Rattle.layout.proofs.Choose.{and-0, and-1}
+use Rattle.runs.specs.Moments.{begins, Run, worldAfter, bookAt, seenAt, traceAt, Among, anySeen}
 use Rattle.runs.specs.Event.{Call, Event, opening, cut, call, begin, write, erase, current-read, commit, abort, as-of, changes, store-log, store-page, checkpoint, Observation}
 use Rattle.runs.specs.Book.{Row, committed, Opened, Book, timeOf, hasRow, isOpen, close, add, fall, entered, feed}
 use Rattle.runs.specs.Machine.{World, step, trace, formatted}
-use Rattle.runs.specs.Plain.{Run, worldAfter, bookAt, seenAt, traceAt, Among, anySeen, BegunAnew, Known, Aborted, CutOff}
+use Rattle.runs.specs.Plain.{BegunAnew, Known, Aborted, CutOff}
 use Rattle.agreement.proofs.plain.Laws.{either-true, time-other, time-version, none-take, none-among, close-shuts, close-less}
-use Rattle.agreement.proofs.plain.Runs.{begins, Turn, stays, falls, opens, adds, ends, closes, stores, world-append}
+use Rattle.agreement.proofs.plain.Runs.{Turn, stays, falls, opens, adds, ends, closes, stores, world-append}
 use Rattle.agreement.proofs.plain.Times.{since, front-run, book-next, known, orderly}
 use Rattle.agreement.proofs.plain.Reads.{next-fits}
 

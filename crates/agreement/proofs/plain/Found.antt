@@ -11,7 +11,8 @@ use lib.ListN.{length, take, length-take, length-append}
 use borrow.Author.Tests.{ne-eqb}
 use Rattle.runs.specs.Event.{Event, opening, call, store-log, Sight, Observation}
 use Rattle.runs.specs.Book.{Version, Row, version, committed, Book, versions, timeOf, hasRow, isOpen, add, fall, entered, feed, sight, sights}
-use Rattle.runs.specs.Plain.{Run, bookAt, seenAt, traceAt, Openings, Among, rowsFound, Kept, Durable}
+use Rattle.runs.specs.Moments.{Run, bookAt, seenAt, traceAt, Openings, Among}
+use Rattle.runs.specs.Plain.{rowsFound, Kept, Durable}
 use Rattle.agreement.proofs.plain.Laws.{take-past, versions-append, time-front, time-none, rowless-left, version-has, close-less}
 use Rattle.agreement.proofs.plain.Runs.{Turn, stays, falls, opens, adds, ends, closes, stores, never}
 use Rattle.agreement.proofs.plain.Times.{since, front-run, book-next, opened-cases}

@@ -11,7 +11,7 @@ use lib.Dec.{eqb}
 use lib.ListN.{length, take}
 use borrow.Author.Tests.{eqb-true, eq-eqb, ne-eqb}
 use Rattle.runs.specs.Book.{Version, Row, version, committed, Opened, versions, timeOf, hasRow, isOpen, close}
-use Rattle.runs.specs.Plain.{Among, Transaction, transactions}
+use Rattle.runs.specs.Moments.{Among, Transaction, transactions}
 
 -- ---- lists
 

@@ -13,7 +13,8 @@ use Rattle.layout.proofs.Choose.{and-0, and-1}
 use Rattle.runs.specs.Event.{Event, call, current-read, as-of, changes, Strip, missing, Observation}
 use Rattle.runs.specs.Book.{Version, Row, version, committed, Book, blank, versions, timeOf, add, fall, stripOf, isSome, currentOf, Dated, laterOf, datedOf, bestBelow, lastBelow, stripAt, asOf, differs, linesAt, linesBelow, linesOf, Fits}
 use Rattle.runs.specs.Machine.{formatted}
-use Rattle.runs.specs.Plain.{Run, worldAfter, bookAt, seenAt, traceAt, Among, rowsSeen, Written, Committed, CleanAsOf, CleanLists, CleanCurrent}
+use Rattle.runs.specs.Moments.{Run, worldAfter, bookAt, seenAt, traceAt, Among, rowsSeen}
+use Rattle.runs.specs.Plain.{Written, Committed, CleanAsOf, CleanLists, CleanCurrent}
 use Rattle.agreement.proofs.plain.Laws.{either-true, among-left, among-right, among-either, among-take, version-among, time-among}
 use Rattle.agreement.proofs.plain.Runs.{Turn, stays, falls, opens, adds, ends, closes, stores, run-append, after-one, inv-after, started}
 use Rattle.agreement.proofs.plain.Times.{always, front-run}

@@ -2,11 +2,10 @@
 -- keeps it (`along`). An accepted call names an open number because an active place's number is open in the book.
 use Prim.Native.Nat.{ℕ, zero, suc, _<_}
 use native.Mathlib.Omega.{arith}
-use mathlib.Core.Bool.{Bool, true, false, cond, _&&_, false≢true}
+use mathlib.Core.Bool.{Bool, true, false, cond, false≢true}
 use mathlib.Core.List.{List, [], _∷_, _++_, append-assoc, append-nil}
 use mathlib.Core.Option.{some}
 use mathlib.Core.Path.{_≡_, refl, sym, subst}
-use lib.Dec.{eqb}
 use lib.ListN.{length}
 use borrow.Author.Tests.{eq-eqb}
 use Rattle.layout.specs.Journal.{Record}
@@ -17,10 +16,10 @@ use Rattle.store.specs.declared.State.{State}
 use Rattle.store.specs.Answer.{Outcome, answerNumber}
 use Rattle.store.specs.Places.{findActive}
 use Rattle.store.proofs.AskLaws.{Passed}
+use Rattle.runs.specs.Moments.{begins, Run, worldAfter, bookAfter, ifAccepted, commitSeen, rowSeen, eventRow, rowsSeen, anySeen, isBreak, named}
 use Rattle.runs.specs.Event.{Call, Event, opening, cut, call, begin, write, erase, current-read, commit, abort, as-of, changes, store-log, store-page, checkpoint, Observation, typed}
 use Rattle.runs.specs.Book.{Version, Row, version, committed, Book, blank, lastTime, hasRow, isOpen, close, add, commitTime, commits, zeros, fall, entered, unlessRefused, feed, Answers, Fits}
 use Rattle.runs.specs.Machine.{World, up, down, seenOf, step, allowed, isRun, trace, formatted}
-use Rattle.runs.specs.Plain.{Run, worldAfter, bookAfter, ifAccepted, commitSeen, rowSeen, eventRow, rowsSeen, anySeen, isBreak, named}
 use Rattle.runs.proofs.Asks.{isReading, asks, Way, refused, begins as begins-way, writes, erases, looks, commits as commits-way, ends as ends-way, aborts, logs, pages, checks, way, found}
 use Rattle.agreement.proofs.history.Ghost.{Disk}
 use Rattle.agreement.proofs.invariant.Invariant.{Up, Inv, running, fallen}
@@ -47,13 +46,13 @@ module _ {l d : ℕ} {m c : List ℕ} {s : State} {b : Book} {disk : Disk} {clos
   named-open x (looks y a v w r p q g) n e z = looked y r p e
     where
       looked : (y : Call) → isReading y ≡ true → Passed (asks m c s y) → named y ≡ some n → isOpen (b .opened) n ≡ true
-      looked (begin disk) r p e = absurd (none-some e)
+      looked (begin k) r p e = absurd (none-some e)
       looked (write a key v) r p e = absurd (false≢true r)
       looked (erase a key) r p e = absurd (false≢true r)
       looked (current-read a key) r p e =
           let q : a ≡ n = cc in
           found (λ (f : Found). findActive (s .places) a ≡ f → isOpen (b .opened) n ≡ true) (findActive (s .places) a) (p .1 .0) (λ i g h. rw q at (active-open a i h)) refl
-      looked (commit a disk) r p e = absurd (false≢true r)
+      looked (commit a k) r p e = absurd (false≢true r)
       looked (abort a) r p e = absurd (false≢true r)
       looked (as-of key t) r p e = absurd (none-some e)
       looked (changes key t1 t2 buffer) r p e = absurd (none-some e)
@@ -80,26 +79,6 @@ knows l d (up m c s) b (call x) (running u) a = λ n q z. named-open u x (way m 
 knows l d (down m) b (call x) (fallen z) a = absurd (false≢true a)
 
 -- ---- what an event does to the book, and which row it brings
-
--- is the call a begin?
-abbrev pub isBegin : Call → Bool
-isBegin (begin k) = true
-isBegin (write n key v) = false
-isBegin (erase n key) = false
-isBegin (current-read n key) = false
-isBegin (commit n k) = false
-isBegin (abort n) = false
-isBegin (as-of key t) = false
-isBegin (changes key t1 t2 buffer) = false
-isBegin store-log = false
-isBegin (store-page p) = false
-isBegin checkpoint = false
-
--- an accepted begin that answers the number n
-abbrev pub begins : ℕ → Event → Observation → Bool
-begins n (opening c) o = false
-begins n cut o = false
-begins n (call k) o = isBegin k && (eqb (o .refusal) 0 && eqb (o .result) n)
 
 pub data Turn (b : Book) (e : Event) (o : Observation) : Book → List Row → Type 0 where
   stays : Turn b e o b []

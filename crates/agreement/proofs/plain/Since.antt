@@ -19,7 +19,8 @@ use Rattle.store.specs.Format.{freshMedium}
 use Rattle.runs.specs.Event.{Call, Event, opening, cut, call, Sight, Observation}
 use Rattle.runs.specs.Book.{Version, Row, version, committed, Book, blank, versions, timeOf, hasRow, add, fall, unlessRefused, feed, sight, sights}
 use Rattle.runs.specs.Machine.{World, down, mediumOf, openedTo, seenOf, step, isRun, trace, formatted, opens as openStep}
-use Rattle.runs.specs.Plain.{Run, worldAfter, bookAfter, bookAt, traceAt, Openings, Among, eventRow, rowsSeen, anySeen, isOpening, isBreak, Transaction, transactions, rowsFound, First, Found}
+use Rattle.runs.specs.Moments.{Run, worldAfter, bookAfter, bookAt, traceAt, Openings, Among, eventRow, rowsSeen, anySeen, isOpening, isBreak, Transaction, transactions}
+use Rattle.runs.specs.Plain.{rowsFound, First, Found}
 use Rattle.agreement.proofs.invariant.Invariant.{Inv}
 use Rattle.agreement.proofs.plain.Laws.{take-past, neither-true, either-true, transactions-append, transactions-take, row-transaction, transaction-row, time-among}
 use Rattle.agreement.proofs.plain.Runs.{Turn, stays, falls, opens, adds, ends, closes, stores, turn, run-append, first-typed, after-one, inv-after, started, book-append}

@@ -13,7 +13,8 @@ use borrow.Author.Tests.{eqb-true, eq-eqb}
 use Rattle.runs.specs.Event.{Event, call, Observation}
 use Rattle.runs.specs.Book.{Version, Row, version, committed, Opened, Book, blank, timeOf, lastTime, isOpen, close, add, fall, feed}
 use Rattle.runs.specs.Machine.{trace, formatted}
-use Rattle.runs.specs.Plain.{Run, worldAfter, bookAfter, bookAt, seenAt, traceAt, Among, rowsSeen, anySeen, isBreak, transactions, Rises, Known, RisingRows, RisingAnswers, OneTime}
+use Rattle.runs.specs.Moments.{Run, worldAfter, bookAfter, bookAt, seenAt, traceAt, Among, rowsSeen, anySeen, isBreak, transactions}
+use Rattle.runs.specs.Plain.{Rises, Known, RisingRows, RisingAnswers, OneTime}
 use Rattle.agreement.proofs.plain.Laws.{none-some, either-true, transactions-append, time-other, time-version, none-take, rowless-none, close-shuts, close-less}
 use Rattle.agreement.proofs.plain.Runs.{knows, Turn, stays, falls, opens, adds, ends, closes, stores, book-append, run-append, first-typed, inv-after, along, never, started}
 

@@ -2,6 +2,7 @@
 use Rattle.runs.specs.Plain.{PlainWords}
 use Rattle.agreement.proofs.plain.Times.{known, rising-rows, rising-answers, one-time}
 use Rattle.agreement.proofs.plain.Reads.{clean-as-of, clean-lists, clean-current}
+use Rattle.agreement.proofs.plain.Begun.{one-begin}
 use Rattle.agreement.proofs.plain.Ended.{aborted, cut-off}
 use Rattle.agreement.proofs.plain.Found.{kept, durable}
 use Rattle.agreement.proofs.plain.Since.{first, found}
@@ -18,6 +19,7 @@ plain-words = record {
   clean-current = clean-current;
   aborted = aborted;
   cut-off = cut-off;
+  one-begin = one-begin;
   known = known;
   rising-rows = rising-rows;
   rising-answers = rising-answers;

@@ -1,6 +1,6 @@
 -- Current read, read as of and list of changes answer as the book's rows say. A record's versions are found by following
 -- earlier slots from its newest: these are all of them (PagesOn.chain). Each call that is not refused passed its questions.
-use Prim.Native.Nat.{ℕ, suc, _*_, _^_, _<_}
+use Prim.Native.Nat.{ℕ, suc, _*_}
 use native.Mathlib.Omega.{arith}
 use mathlib.Core.List.{List, []}
 use mathlib.Core.Option.{Option}
@@ -46,10 +46,10 @@ module _ {l d : ℕ} {m c : List ℕ} {s : State} {b : Book} {disk : Disk} {clos
       (λ p e. best-strip u (bestOf (newest c key (s .slots)) c (timeUnder (s .places)) t) (lastBelow (b .rows) key (suc t)) (best-found u key t))
 
   -- question 14: the lines fit the buffer
-  pub lists-answer : (key t1 t2 : ℕ) (buffer : List ℕ) → t2 < 2 ^ 64 → answerNumber (changesOf s m c buffer key t1 t2 .answer) ≡ 0
+  pub lists-answer : (key t1 t2 : ℕ) (buffer : List ℕ) → answerNumber (changesOf s m c buffer key t1 t2 .answer) ≡ 0
       → ListsAs (linesOf (b .rows) key t1 t2) buffer (seenOf l m (changesOf s m c buffer key t1 t2) [])
   unfolding changesOf changesIf answerNumber answerValue seenOf
-  lists-answer key t1 t2 buffer h =
+  lists-answer key t1 t2 buffer =
       asked (λ (a : Option Refusal). answerNumber (changesIf a s m c buffer (changeLines s c key t1 t2) .answer) ≡ 0
       → ListsAs (linesOf (b .rows) key t1 t2) buffer (seenOf l m (changesIf a s m c buffer (changeLines s c key t1 t2)) []))
       (changesAsks s m c key t1 t2 (length buffer)) (λ r q e. absurd (omega (arith, positive r)))
