@@ -45,7 +45,7 @@ module _ {l d : ℕ} {m c : List ℕ} {s : State} {b : Book} {disk : Disk} {clos
   cells-split = sym (take-append-drop (length (versionsOf (disk .stored))) (disk .cells))
 
   kept-length : length mine ≡ length (versionsOf (disk .stored))
-  kept-length = length-take-le _ (disk .cells) (omega (arith, fewer-stored (u .medium), u .medium .pages .count))
+  kept-length = length-take-le _ (disk .cells) (omega (arith, fewer-stored (u .medium), u .medium .pages .slots .count))
 
   here-cell : (n : ℕ) → n < length (versionsOf (disk .stored)) → cell mine n ≡ cell (disk .cells) n
   here-cell n h = getD-take _ (disk .cells) n noCell h
@@ -85,46 +85,46 @@ module _ {l d : ℕ} {m c : List ℕ} {s : State} {b : Book} {disk : Disk} {clos
     medium = record {
       sizes = u .medium .sizes;
       master = record {
+        fits = u .medium .master .fits;
         block = u .medium .master .block;
-        oldest-low = u .medium .master .oldest-low;
-        oldest-high = u .medium .master .oldest-high;
-        next-low = u .medium .master .next-low;
-        next-high = u .medium .master .next-high;
-        time-high = u .medium .master .time-high;
       };
       log = record {
-        low = u .medium .log .low;
-        high = u .medium .log .high;
-        front = omega arith;
-        top = omega (arith, u .medium .log .front, u .medium .log .top);
-        sound = u .medium .log .stored;
-        stored = u .medium .log .stored;
+        shape = record {
+          low = u .medium .log .shape .low;
+          high = u .medium .log .shape .high;
+          front = omega arith;
+          top = omega (arith, u .medium .log .shape .front, u .medium .log .shape .top);
+          sound = u .medium .log .shape .stored-sound;
+          stored-sound = u .medium .log .shape .stored-sound;
+          rest = [];
+          split = sym (append-nil _);
+        };
         blocks = u .medium .log .blocks;
         fresh = u .medium .log .fresh;
-        rest = [];
-        split = sym (append-nil _);
       };
       pages = record {
+        slots = record {
+          slot = λ n h. rw (← (version-stored (u .medium) n h)) (u .medium .pages .slots .slot n (omega (arith, fewer-stored (u .medium))));
+          room = omega (arith, u .medium .pages .slots .room, fewer-stored (u .medium));
+          count = kept-length;
+          match = λ n h. rw (← (version-stored (u .medium) n h), here-cell n h) (u .medium .pages .slots .match n (omega (arith, fewer-stored (u .medium))));
+          chain = λ n h. chain′ n h;
+        };
         few = u .medium .pages .few;
         page = λ p h. u .medium .pages .page p h
             ∙ ap (λ (vs : List LoggedVersion). pageWith vs (disk .cells) p (disk .on p)) (versions-split (u .medium))
-            ∙ ap (λ (cs : List Cell). pageWith (versionsOf (disk .stored) ++ versionsIn (u .medium .log .rest)) cs p (disk .on p)) cells-split
-            ∙ pageWith-grow (versionsOf (disk .stored)) (versionsIn (u .medium .log .rest)) mine gone p (disk .on p) kept-length (u .medium .pages .few p .1);
+            ∙ ap (λ (cs : List Cell). pageWith (versionsOf (disk .stored) ++ versionsIn (u .medium .log .shape .rest)) cs p (disk .on p)) cells-split
+            ∙ pageWith-grow (versionsOf (disk .stored)) (versionsIn (u .medium .log .shape .rest)) mine gone p (disk .on p) kept-length (u .medium .pages .few p .1);
         kept = λ n h. rw (← (version-stored (u .medium) n h)) (u .medium .pages .kept n (omega (arith, fewer-stored (u .medium))));
-        slot = λ n h. rw (← (version-stored (u .medium) n h)) (u .medium .pages .slot n (omega (arith, fewer-stored (u .medium))));
-        room = omega (arith, u .medium .pages .room, fewer-stored (u .medium));
-        count = kept-length;
-        match = λ n h. rw (← (version-stored (u .medium) n h), here-cell n h) (u .medium .pages .match n (omega (arith, fewer-stored (u .medium))));
         plain = λ n h. rw (← (version-stored (u .medium) n h), here-cell n h) (u .medium .pages .plain n (omega (arith, fewer-stored (u .medium))));
-        chain = λ n h. chain′ n h;
       };
-      table = record { pair = u .medium .table .pair; vacant = u .medium .table .vacant; apart = u .medium .table .apart };
+      table = u .medium .table;
       numbers = record {
-        below = each-left _ (records (disk .stored)) (u .medium .log .rest) (rw (u .medium .log .split) at (u .medium .numbers .below));
-        early = each-left _ (commitsOf (disk .stored)) (commitsIn (u .medium .log .rest)) (rw (commits-split (u .medium)) at (u .medium .numbers .early));
+        below = each-left _ (records (disk .stored)) (u .medium .log .shape .rest) (rw (u .medium .log .shape .split) at (u .medium .numbers .below));
+        early = each-left _ (commitsOf (disk .stored)) (commitsIn (u .medium .log .shape .rest)) (rw (commits-split (u .medium)) at (u .medium .numbers .early));
         late = u .medium .numbers .late;
-        rising = rising-left 0 (commitsOf (disk .stored)) (commitsIn (u .medium .log .rest)) (rw (commits-split (u .medium)) at (u .medium .numbers .rising));
-        once = once-left (commitsOf (disk .stored)) (commitsIn (u .medium .log .rest)) (rw (commits-split (u .medium)) at (u .medium .numbers .once));
+        rising = rising-left 0 (commitsOf (disk .stored)) (commitsIn (u .medium .log .shape .rest)) (rw (commits-split (u .medium)) at (u .medium .numbers .rising));
+        once = once-left (commitsOf (disk .stored)) (commitsIn (u .medium .log .shape .rest)) (rw (commits-split (u .medium)) at (u .medium .numbers .once));
         steady = steady′;
       };
     };
@@ -133,7 +133,7 @@ module _ {l d : ℕ} {m c : List ℕ} {s : State} {b : Book} {disk : Disk} {clos
     owners = map (λ (p : Place). lifeNum (p .life)) (s .places);
     size = rw length-map (u .living .size);
     owned = λ n w z. let (i, h, e, t) = home-of n w z in (i, h, List·getD-map (λ (p : Place). lifeNum (p .life)) (s .places) i freePlace ∙ e);
-    rows = rw (u .stored, u .rows, u .medium .log .split, rows-append)
+    rows = rw (u .stored, u .rows, u .medium .log .shape .split, rows-append)
         (take-at (rowsIn (records (disk .stored))) _ (length (records (disk .stored))) (length-rows (records (disk .stored))));
     stored = u .stored;
     closed = refl;
@@ -143,10 +143,10 @@ module _ {l d : ℕ} {m c : List ℕ} {s : State} {b : Book} {disk : Disk} {clos
           → at (versionsOf (disk .stored)) n .earlier ≡ orNone (newestOf (versionsOf (disk .stored)) (at (versionsOf (disk .stored)) n .key) n)
       chain′ n h =
           sym (ap (λ (v : LoggedVersion). v .earlier) (version-stored (u .medium) n h))
-          ∙ u .medium .pages .chain n (omega (arith, fewer-stored (u .medium)))
+          ∙ u .medium .pages .slots .chain n (omega (arith, fewer-stored (u .medium)))
           ∙ ap (λ (v : LoggedVersion). orNone (newestOf (versionsOf history) (v .key) n)) (version-stored (u .medium) n h)
           ∙ ap (λ (vs : List LoggedVersion). orNone (newestOf vs (at (versionsOf (disk .stored)) n .key) n)) (versions-split (u .medium))
-          ∙ ap orNone (newest-append (versionsOf (disk .stored)) (versionsIn (u .medium .log .rest)) (at (versionsOf (disk .stored)) n .key) n (omega arith))
+          ∙ ap orNone (newest-append (versionsOf (disk .stored)) (versionsIn (u .medium .log .shape .rest)) (at (versionsOf (disk .stored)) n .key) n (omega arith))
 
 -- the book of a store that is down has nothing to lose
 pub fall-down : {l d : ℕ} {m : List ℕ} {b : Book} {disk : Disk} → Down l d m b disk → fall b ≡ b

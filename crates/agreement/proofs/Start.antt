@@ -87,29 +87,42 @@ module _ (l d : ℕ) (r : inRange l d ≡ true) where
   start = record {
     medium = record {
       sizes = record { range = range; size = length-freshMedium l d };
-      master = record { block = master-block; oldest-low = omega arith; oldest-high = omega arith; next-low = omega arith; next-high = omega arith; time-high = omega arith };
+      master = record {
+        fits = record {
+          oldest-low = omega arith;
+          oldest-high = omega arith;
+          next-low = omega arith;
+          next-high = omega arith;
+          time-high = omega arith;
+        };
+        block = master-block;
+      };
       log = record {
-        low = omega arith;
-        high = omega arith;
-        front = omega arith;
-        top = omega arith;
-        sound = (record { each = tt; fits = omega arith }, tt);
-        stored = (record { each = tt; fits = omega arith }, tt);
+        shape = record {
+          low = omega arith;
+          high = omega arith;
+          front = omega arith;
+          top = omega arith;
+          sound = (record { each = tt; fits = omega arith }, tt);
+          stored-sound = (record { each = tt; fits = omega arith }, tt);
+          rest = [];
+          split = refl;
+        };
         blocks = λ q a e. absurd (omega arith);
         fresh = λ j a. rw (rest-zeros (3 + j) (omega arith) (omega arith)) zero-sequence;
-        rest = [];
-        split = refl;
       };
       pages = record {
+        slots = record {
+          slot = λ n h. absurd (omega arith);
+          room = omega arith;
+          count = refl;
+          match = λ n h. absurd (omega arith);
+          chain = λ n h. absurd (omega arith);
+        };
         few = λ p. (omega arith, omega arith);
         page = λ p a. page-zeros p a;
         kept = λ n h. absurd (omega arith);
-        slot = λ n h. absurd (omega arith);
-        room = omega arith;
-        count = refl;
-        match = λ n h. absurd (omega arith);
         plain = λ n h. absurd (omega arith);
-        chain = λ n h. absurd (omega arith);
       };
       table = record {
         pair = λ i h z. absurd (omega (arith, ap (λ (p : Pair). p .number .0) (no-pair i h)));

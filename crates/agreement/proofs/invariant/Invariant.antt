@@ -38,37 +38,49 @@ abbrev pub masterFields : ℕ → ℕ → Disk → Fields
 masterFields l d k =
     record { blocks = l; pages = d; oldest = k .oldest; next = record { 0 = k .next }; last = record { 0 = k .time } }
 
+-- the master's three numbers fit their fields
+pub record MasterFits (oldest next time : ℕ) : Type 0 where
+  pub oldest-low : 1 ≤ oldest
+  pub oldest-high : oldest < 2 ^ 48
+  pub next-low : 1 ≤ next
+  pub next-high : next < 2 ^ 64
+  pub time-high : time < 2 ^ 64
+
 pub record MasterOn (l d : ℕ) (m : List ℕ) (disk : Disk) : Type 0 where
   pub block : blk m 0 ≡ masterBytes (masterFields l d disk)  -- so oldestOn, nextOn and timeOn are the disk's: MediumFacts
-  pub oldest-low : 1 ≤ disk .oldest
-  pub oldest-high : disk .oldest < 2 ^ 48
-  pub next-low : 1 ≤ disk .next
-  pub next-high : disk .next < 2 ^ 64
-  pub time-high : disk .time < 2 ^ 64
+  pub fits : MasterFits (disk .oldest) (disk .next) (disk .time)
 
-pub record LogOn (l d : ℕ) (m : List ℕ) (disk : Disk) (history : List (List Record)) : Type 0 where
-  pub low : disk .oldest ≤ length (disk .stored)  -- equal: none matches, the tail is empty under the oldest sequence
-  pub high : length (disk .stored) ≤ disk .oldest + l
-  pub front : length (disk .stored) ≤ length history
+-- which blocks of the history are stored
+pub record LogShape (l d oldest : ℕ) (stored history : List (List Record)) : Type 0 where
+  pub low : oldest ≤ length stored  -- equal: none matches, the tail is empty under the oldest sequence
+  pub high : length stored ≤ oldest + l
+  pub front : length stored ≤ length history
   pub top : length history ≤ 2 ^ 48  -- every sequence is below 2^48
   pub sound : Each (BlockSound d) history
-  pub stored : Each (BlockSound d) (disk .stored)
+  pub stored-sound : Each (BlockSound d) stored
+  pub rest : List Placed  -- the records that are not stored
+  pub split : records history ≡ records stored ++ rest
+
+pub record LogOn (l d : ℕ) (m : List ℕ) (disk : Disk) (history : List (List Record)) : Type 0 where
+  pub shape : LogShape l d (disk .oldest) (disk .stored) history
   pub blocks : (q : ℕ) → disk .oldest ≤ q → q < length (disk .stored) → blk m (logBlockAt l q) ≡ logBytes q (getD (disk .stored) q [])
   pub fresh : (j : ℕ) → j < l → sequenceOf (blk m (3 + j)) < length (disk .stored)  -- so reading stops where it should
-  pub rest : List Placed  -- the records that are not stored
-  pub split : records history ≡ records (disk .stored) ++ rest
+
+-- the slots of all versions, whichever pages hold them
+pub record SlotsAre (d : ℕ) (stored history : List (List Record)) (cells : List Cell) : Type 0 where
+  pub slot : (n : ℕ) → n < length (versionsOf history) → at (versionsOf history) n .slot ≡ n
+  pub room : length (versionsOf history) ≤ 15 * d
+  pub count : length cells ≡ length (versionsOf history)
+  pub match : (n : ℕ) → n < length (versionsOf history) → Match (commitsOf stored) (at (versionsOf history) n) (cell cells n)  -- stamps are stored commits' times
+  pub chain : (n : ℕ) → n < length (versionsOf history)
+      → at (versionsOf history) n .earlier ≡ orNone (newestOf (versionsOf history) (at (versionsOf history) n .key) n)  -- earlier slots are true
 
 pub record PagesOn (l d : ℕ) (m : List ℕ) (disk : Disk) (history : List (List Record)) : Type 0 where
+  pub slots : SlotsAre d (disk .stored) history (disk .cells)
   pub few : (p : ℕ) → (disk .on p ≤ 15) × (disk .on p ≤ length (versionsOf (disk .stored)) - 15 * p)  -- pages hold stored versions only
   pub page : (p : ℕ) → p < d → blk m (pageBlockAt l p) ≡ pageWith (versionsOf history) (disk .cells) p (disk .on p)
   pub kept : (n : ℕ) → n < length (versionsOf history) → disk .on (n / 15) ≤ n % 15 → disk .oldest ≤ at (versionsOf history) n .seq  -- what no page has is in the log
-  pub slot : (n : ℕ) → n < length (versionsOf history) → at (versionsOf history) n .slot ≡ n
-  pub room : length (versionsOf history) ≤ 15 * d
-  pub count : length (disk .cells) ≡ length (versionsOf history)
-  pub match : (n : ℕ) → n < length (versionsOf history) → Match (commitsOf (disk .stored)) (at (versionsOf history) n) (cell (disk .cells) n)  -- stamps are stored commits' times
   pub plain : (n : ℕ) → n < length (versionsOf history) → disk .on (n / 15) ≤ n % 15 → cell (disk .cells) n ≡ waitingCell (at (versionsOf history) n)  -- what redo will write
-  pub chain : (n : ℕ) → n < length (versionsOf history)
-      → at (versionsOf history) n .earlier ≡ orNone (newestOf (versionsOf history) (at (versionsOf history) n .key) n)  -- earlier slots are true
 
 abbrev pub tableNum : List ℕ → ℕ → ℕ
 tableNum m i = tablePair m i .number .0
@@ -76,15 +88,15 @@ tableNum m i = tablePair m i .number .0
 abbrev pub tableTime : List ℕ → ℕ → ℕ
 tableTime m i = tablePair m i .time .0
 
-pub record TableOn (m : List ℕ) (disk : Disk) : Type 0 where
-  pub pair : (i : ℕ) → i < 64 → 0 < tableNum m i → (0 < tableTime m i) × (find (commitsOf (disk .stored)) (tableNum m i) .time ≡ tableTime m i)  -- a true pair of a stored commit
+pub record TableOn (m : List ℕ) (stored : List (List Record)) : Type 0 where
+  pub pair : (i : ℕ) → i < 64 → 0 < tableNum m i → (0 < tableTime m i) × (find (commitsOf stored) (tableNum m i) .time ≡ tableTime m i)  -- a true pair of a stored commit
   pub vacant : (i : ℕ) → i < 64 → tableNum m i ≡ 0 → tableTime m i ≡ 0
   pub apart : (i j : ℕ) → i < 64 → j < 64 → 0 < tableNum m i → tableNum m i ≡ tableNum m j → i ≡ j  -- dead pairs too
 
-pub record NumbersOn (disk : Disk) (history : List (List Record)) : Type 0 where
-  pub below : Each (λ (x : Placed). x .seq < disk .oldest → numberIn (x .rec) < disk .next) (records history)  -- what the log has lost, the master knows
-  pub early : Each (λ (c : LoggedCommit). c .seq < disk .oldest → c .time ≤ disk .time) (commitsOf history)
-  pub late : disk .time ≤ lastOf (commitsOf (disk .stored))
+pub record NumbersOn (oldest next time : ℕ) (stored history : List (List Record)) : Type 0 where
+  pub below : Each (λ (x : Placed). x .seq < oldest → numberIn (x .rec) < next) (records history)  -- what the log has lost, the master knows
+  pub early : Each (λ (c : LoggedCommit). c .seq < oldest → c .time ≤ time) (commitsOf history)
+  pub late : time ≤ lastOf (commitsOf stored)
   pub rising : Rising 0 (commitsOf history)
   pub once : Once (commitsOf history)
   -- a record's times never fall
@@ -97,8 +109,8 @@ pub record OnMedium (l d : ℕ) (m : List ℕ) (disk : Disk) (history : List (Li
   pub master : MasterOn l d m disk
   pub log : LogOn l d m disk history
   pub pages : PagesOn l d m disk history
-  pub table : TableOn m disk
-  pub numbers : NumbersOn disk history
+  pub table : TableOn m (disk .stored)
+  pub numbers : NumbersOn (disk .oldest) (disk .next) (disk .time) (disk .stored) history
 
 -- ==== the state
 
@@ -107,19 +119,20 @@ pub data Stored (closed : List (List Record)) (tail : List Record) : List (List 
   nothing : (e : ℕ) → e ≤ endPlace (length closed) 10 → Stored closed tail closed e
   upTo : (n : ℕ) → n ≤ length tail → Stored closed tail (closed ++ (take n tail ∷ [])) (endPlace (length closed) (10 + sizeOf (take n tail)))
 
-pub record StateIs (l d : ℕ) (s : State) (disk : Disk) (closed : List (List Record)) (tail : List Record) : Type 0 where
-  pub blocks : s .blocks ≡ l
-  pub pages : s .pages ≡ d
-  pub slots : s .slots ≡ length (versionsOf (closed ++ (tail ∷ [])))
-  pub tail-block : s .tail ≡ logBytes (length closed) tail
-  pub ring-low : disk .oldest ≤ length closed
-  pub ring-high : length closed < disk .oldest + l
-  pub mark : Stored closed tail (disk .stored) (s .end .0)
-  pub last : s .last .0 ≡ lastOf (commitsOf (closed ++ (tail ∷ [])))
-  pub saved : s .saved .0 ≡ lastOf (commitsOf (disk .stored))
-  pub next-low : 1 ≤ s .next .0
-  pub next-high : s .next .0 < 2 ^ 64
-  pub numbers : Each (λ (x : Placed). numberIn (x .rec) < s .next .0) (records (closed ++ (tail ∷ [])))
+-- what the state has of sizes, next slot, tail block, stored end place, last time given, last time stored and next number
+pub record StateIs (l d blocksIn pagesIn slotsIn : ℕ) (tailIn : List ℕ) (endIn lastIn savedIn nextIn oldest : ℕ) (stored closed : List (List Record)) (tail : List Record) : Type 0 where
+  pub blocks : blocksIn ≡ l
+  pub pages : pagesIn ≡ d
+  pub slots : slotsIn ≡ length (versionsOf (closed ++ (tail ∷ [])))
+  pub tail-block : tailIn ≡ logBytes (length closed) tail
+  pub ring-low : oldest ≤ length closed
+  pub ring-high : length closed < oldest + l
+  pub mark : Stored closed tail stored endIn
+  pub last : lastIn ≡ lastOf (commitsOf (closed ++ (tail ∷ [])))
+  pub saved : savedIn ≡ lastOf (commitsOf stored)
+  pub next-low : 1 ≤ nextIn
+  pub next-high : nextIn < 2 ^ 64
+  pub numbers : Each (λ (x : Placed). numberIn (x .rec) < nextIn) (records (closed ++ (tail ∷ [])))
 
 pub record CacheIs (d : ℕ) (c : List ℕ) (vs : List LoggedVersion) (cs : List Cell) : Type 0 where
   pub size : length c ≡ cacheLength d
@@ -213,15 +226,15 @@ pub record Pending (d : ℕ) (m : List ℕ) (disk : Disk) (cs : List LoggedCommi
   pub covered : Covered m cs ps o n
 
 abbrev pub PhaseIs : Phase → ℕ → List ℕ → Disk → List LoggedCommit → List Place → List ℕ → ℕ → Type 0
-PhaseIs Idle d m k cs ps first q = Unit {0}
-PhaseIs (FirstStored o t) d m k cs ps first q = Pending d m k cs ps first q o (t .0) 32
-PhaseIs (SecondStored o t) d m k cs ps first q = Pending d m k cs ps first q o (t .0) 64
+PhaseIs Idle d m disk cs ps first q = Unit {0}
+PhaseIs (FirstStored o t) d m disk cs ps first q = Pending d m disk cs ps first q o (t .0) 32
+PhaseIs (SecondStored o t) d m disk cs ps first q = Pending d m disk cs ps first q o (t .0) 64
 
 -- ==== a running store: its closed blocks, and the records of its tail
 
 pub record Up (l d : ℕ) (m c : List ℕ) (s : State) (b : Book) (disk : Disk) (closed : List (List Record)) (tail : List Record) : Type 0 where
   pub medium : OnMedium l d m disk (closed ++ (tail ∷ []))
-  pub state : StateIs l d s disk closed tail
+  pub state : StateIs l d (s .blocks) (s .pages) (s .slots) (s .tail) (s .end .0) (s .last .0) (s .saved .0) (s .next .0) (disk .oldest) (disk .stored) closed tail
   pub cache : CacheIs d c (versionsOf (closed ++ (tail ∷ []))) (disk .cells)
   pub firsts : Firsts d (versionsOf (closed ++ (tail ∷ []))) (disk .on) (length (versionsOf (closed ++ (tail ∷ [])))) (disk .oldest) (length closed) (s .first)
   pub living : Living m (commitsOf (closed ++ (tail ∷ []))) (disk .cells) (disk .oldest) (s .next .0) (s .places)

@@ -93,9 +93,9 @@ module _ {l d : ℕ} {m : List ℕ} {disk : Disk} {history : List (List Record)}
   fields-sized = record {
     blocks = omega (arith, medium .sizes .range .blocks-high);
     pages = omega (arith, medium .sizes .range .pages-high);
-    oldest = omega (arith, medium .master .oldest-high);
-    next = medium .master .next-high;
-    last = medium .master .time-high;
+    oldest = omega (arith, medium .master .fits .oldest-high);
+    next = medium .master .fits .next-high;
+    last = medium .master .fits .time-high;
   }
 
   parts : MasterParts (masterBytes (masterFields l d disk)) (masterFields l d disk)
@@ -117,23 +117,23 @@ module _ {l d : ℕ} {m : List ℕ} {disk : Disk} {history : List (List Record)}
   time-is = sym (part-is 35 (omega arith)) ∙ ap (λ (x : List ℕ). dec (part x 35 8)) (medium .master .block) ∙ sym (parts .last)
 
   pub sound-at : (n : ℕ) → n < length (versionsOf history) → VersionSound d (at (versionsOf history) n)
-  sound-at n h = each-at (VersionSound d) (versionsOf history) n noVersion (versions-sound d history (medium .log .sound)) h
+  sound-at n h = each-at (VersionSound d) (versionsOf history) n noVersion (versions-sound d history (medium .log .shape .sound)) h
 
-  pub versions-split : versionsOf history ≡ versionsOf (disk .stored) ++ versionsIn (medium .log .rest)
-  versions-split = ap versionsIn (medium .log .split) ∙ versions-append (records (disk .stored)) (medium .log .rest)
+  pub versions-split : versionsOf history ≡ versionsOf (disk .stored) ++ versionsIn (medium .log .shape .rest)
+  versions-split = ap versionsIn (medium .log .shape .split) ∙ versions-append (records (disk .stored)) (medium .log .shape .rest)
 
-  pub commits-split : commitsOf history ≡ commitsOf (disk .stored) ++ commitsIn (medium .log .rest)
-  commits-split = ap commitsIn (medium .log .split) ∙ commits-append (records (disk .stored)) (medium .log .rest)
+  pub commits-split : commitsOf history ≡ commitsOf (disk .stored) ++ commitsIn (medium .log .shape .rest)
+  commits-split = ap commitsIn (medium .log .shape .split) ∙ commits-append (records (disk .stored)) (medium .log .shape .rest)
 
   -- each slot's fields fit their widths and it holds a version: by `match`, the records' soundness and the commits' times
   pub cells-sized : Each SlotSized (disk .cells)
   unfolding sharedField
-  cells-sized = each-from SlotSized (disk .cells) noCell (λ i h. go (at (versionsOf history) i) (cell (disk .cells) i) (sound-at i (rw (medium .pages .count) at h)) (medium .pages .match i (rw (medium .pages .count) at h)))
+  cells-sized = each-from SlotSized (disk .cells) noCell (λ i h. go (at (versionsOf history) i) (cell (disk .cells) i) (sound-at i (rw (medium .pages .slots .count) at h)) (medium .pages .slots .match i (rw (medium .pages .slots .count) at h)))
     where
       go : (v : LoggedVersion) (x : Cell) → VersionSound d v → Match (commitsOf (disk .stored)) v x → SlotSized x
       go v x f still = record { shared = omega (arith, f .high); key = f .key; kind = f .kind; earlier = f .earlier; size = f .size; bytes = f .bytes }
       go v x f (marked t z e) = record {
-        shared = omega (arith, e, find-each (v .num) CommitSound (commitsOf (disk .stored)) (commits-sound d (disk .stored) (medium .log .stored)) (omega arith) .time-high);
+        shared = omega (arith, e, find-each (v .num) CommitSound (commitsOf (disk .stored)) (commits-sound d (disk .stored) (medium .log .shape .stored-sound)) (omega arith) .time-high);
         key = f .key;
         kind = f .kind;
         earlier = f .earlier;
@@ -143,7 +143,7 @@ module _ {l d : ℕ} {m : List ℕ} {disk : Disk} {history : List (List Record)}
 
   pub cells-hold : Each SlotHolds (disk .cells)
   unfolding codeOf
-  cells-hold = each-from SlotHolds (disk .cells) noCell (λ i h. go (at (versionsOf history) i) (cell (disk .cells) i) (sound-at i (rw (medium .pages .count) at h)) (medium .pages .match i (rw (medium .pages .count) at h)))
+  cells-hold = each-from SlotHolds (disk .cells) noCell (λ i h. go (at (versionsOf history) i) (cell (disk .cells) i) (sound-at i (rw (medium .pages .slots .count) at h)) (medium .pages .slots .match i (rw (medium .pages .slots .count) at h)))
     where
       go : (v : LoggedVersion) (x : Cell) → VersionSound d v → Match (commitsOf (disk .stored)) v x → SlotHolds x
       go v x f still = record { held = omega arith; form = f .form }
@@ -151,29 +151,29 @@ module _ {l d : ℕ} {m : List ℕ} {disk : Disk} {history : List (List Record)}
 
   -- a stored commit is the same in the whole history
   pub find-stored : (n : ℕ) → 0 < find (commitsOf (disk .stored)) n .time → find (commitsOf history) n ≡ find (commitsOf (disk .stored)) n
-  find-stored n h = rw commits-split (find-left n (commitsOf (disk .stored)) (commitsIn (medium .log .rest)) h)
+  find-stored n h = rw commits-split (find-left n (commitsOf (disk .stored)) (commitsIn (medium .log .shape .rest)) h)
 
   -- a stored version is the same in the whole history
   pub version-stored : (n : ℕ) → n < length (versionsOf (disk .stored)) → at (versionsOf history) n ≡ at (versionsOf (disk .stored)) n
-  version-stored n h = rw versions-split (List·getD-append (versionsOf (disk .stored)) (versionsIn (medium .log .rest)) noVersion n h)
+  version-stored n h = rw versions-split (List·getD-append (versionsOf (disk .stored)) (versionsIn (medium .log .shape .rest)) noVersion n h)
 
   pub fewer-stored : length (versionsOf (disk .stored)) ≤ length (versionsOf history)
   fewer-stored = rw (versions-split, length-append) (omega arith)
 
   -- every commit is at least 1 and below 2^64, every number below 2^64 - 1
   pub last-high : lastOf (commitsOf history) < 2 ^ 64
-  last-high = last-below (commitsOf history) (commits-sound d history (medium .log .sound))
+  last-high = last-below (commitsOf history) (commits-sound d history (medium .log .shape .sound))
 
   -- every stored commit has a time
   pub times-low : Each (λ (c : LoggedCommit). 0 < c .time) (commitsOf (disk .stored))
-  times-low = each-map CommitSound (λ (c : LoggedCommit). 0 < c .time) (commitsOf (disk .stored)) (λ c f. f .time-low) (commits-sound d (disk .stored) (medium .log .stored))
+  times-low = each-map CommitSound (λ (c : LoggedCommit). 0 < c .time) (commitsOf (disk .stored)) (λ c f. f .time-low) (commits-sound d (disk .stored) (medium .log .shape .stored-sound))
 
   -- a slot waits under a number just if its version is that number's and is not stamped
   pub waiting-slot : (n : ℕ) → 0 < count n (disk .cells) → (j : ℕ) × (j < length (versionsOf history)) × (at (versionsOf history) j .num ≡ n) × (cell (disk .cells) j ≡ waitingCell (at (versionsOf history) j))
   waiting-slot n h =
       let (j, g, w) = count-some n (disk .cells) h in
-      let lt : j < length (versionsOf history) = rw (medium .pages .count) at g in
-      let (e, f) = go (at (versionsOf history) j) (cell (disk .cells) j) w (medium .pages .match j lt) in (j, lt, e, f)
+      let lt : j < length (versionsOf history) = rw (medium .pages .slots .count) at g in
+      let (e, f) = go (at (versionsOf history) j) (cell (disk .cells) j) w (medium .pages .slots .match j lt) in (j, lt, e, f)
     where
       go : (v : LoggedVersion) (x : Cell) → waitsUnder (x .state) n ≡ true → Match (commitsOf (disk .stored)) v x → (v .num ≡ n) × (x ≡ waitingCell v)
       go v x w still = (eqb-true (v .num) n w, refl)
@@ -181,14 +181,14 @@ module _ {l d : ℕ} {m : List ℕ} {disk : Disk} {history : List (List Record)}
 
   pub counted : (n j : ℕ) → j < length (versionsOf history) → at (versionsOf history) j .num ≡ n → cell (disk .cells) j ≡ waitingCell (at (versionsOf history) j) → 0 < count n (disk .cells)
   counted n j h e w =
-      count-at n j (disk .cells) (rw (medium .pages .count) h)
+      count-at n j (disk .cells) (rw (medium .pages .slots .count) h)
       (ap (λ (x : Cell). waitsUnder (x .state) n) w ∙ eq-eqb (at (versionsOf history) j .num) n e)
 
   -- a slot holds a version, with its version's fields
   pub cell-fields : (n : ℕ) → n < length (versionsOf history)
       → (isVersion (cell (disk .cells) n .state) ≡ true) × (cell (disk .cells) n .key ≡ at (versionsOf history) n .key) × (cell (disk .cells) n .kind ≡ at (versionsOf history) n .kind)
       × (cell (disk .cells) n .earlier ≡ at (versionsOf history) n .earlier) × (cell (disk .cells) n .value ≡ at (versionsOf history) n .value)
-  cell-fields n h = go (at (versionsOf history) n) (cell (disk .cells) n) (medium .pages .match n h)
+  cell-fields n h = go (at (versionsOf history) n) (cell (disk .cells) n) (medium .pages .slots .match n h)
     where
       go : (v : LoggedVersion) (x : Cell) → Match (commitsOf (disk .stored)) v x
           → (isVersion (x .state) ≡ true) × (x .key ≡ v .key) × (x .kind ≡ v .kind) × (x .earlier ≡ v .earlier) × (x .value ≡ v .value)
@@ -204,9 +204,9 @@ module _ {l d : ℕ} {m : List ℕ} {disk : Disk} {history : List (List Record)}
     unfolding cellAt pageOf
     cell-cached n h =
         ap cellOf (cache-slot c n
-        ∙ ap (λ (x : List ℕ). pageSlot x (n % 15)) (cache .pages (n / 15) (omega (arith, medium .pages .room)))
-        ∙ slot-page (versionsOf history) (disk .cells) (n / 15) (full (length (versionsOf history)) (n / 15)) (n % 15) cells-sized (omega (arith, medium .pages .count)) (omega arith))
-        ∙ cell-slotBytes (cell (disk .cells) (15 * (n / 15) + n % 15)) (each-at SlotSized (disk .cells) (15 * (n / 15) + n % 15) noCell cells-sized (omega (arith, medium .pages .count)))
+        ∙ ap (λ (x : List ℕ). pageSlot x (n % 15)) (cache .pages (n / 15) (omega (arith, medium .pages .slots .room)))
+        ∙ slot-page (versionsOf history) (disk .cells) (n / 15) (full (length (versionsOf history)) (n / 15)) (n % 15) cells-sized (omega (arith, medium .pages .slots .count)) (omega arith))
+        ∙ cell-slotBytes (cell (disk .cells) (15 * (n / 15) + n % 15)) (each-at SlotSized (disk .cells) (15 * (n / 15) + n % 15) noCell cells-sized (omega (arith, medium .pages .slots .count)))
         ∙ ap (λ (i : ℕ). cell (disk .cells) i) whole
       where
         whole : 15 * (n / 15) + n % 15 ≡ n
@@ -220,7 +220,7 @@ module _ {l d : ℕ} {m : List ℕ} {disk : Disk} {history : List (List Record)}
         ∙ ap (λ (x : List ℕ). pageSlot x (n % 15)) (cache .pages (n / 15) (omega arith))
         ∙ free-pageBytes (endOfPage (versionsOf history) (n / 15) (full (length (versionsOf history)) (n / 15))) (take (full (length (versionsOf history)) (n / 15)) (drop (15 * (n / 15)) (disk .cells))) (n % 15)
         (each-take SlotSized (full (length (versionsOf history)) (n / 15)) (drop (15 * (n / 15)) (disk .cells)) (each-drop SlotSized (15 * (n / 15)) (disk .cells) cells-sized))
-        (simp (length-take, length-drop) (omega (arith, medium .pages .count))) (omega arith))
+        (simp (length-take, length-drop) (omega (arith, medium .pages .slots .count))) (omega arith))
 
     pub newest-cached : (key n : ℕ) → n ≤ length (versionsOf history) → newest c key n ≡ newestOf (versionsOf history) key n
     unfolding newest newestOf versionOf
@@ -232,11 +232,11 @@ module _ {l d : ℕ} {m : List ℕ} {disk : Disk} {history : List (List Record)}
         → countWaiting c n j + cond (waitsUnder (cellAt c j .state) n) 1 0 ≡ count n (take (suc j) (disk .cells))
     unfolding count
     count-step n j h e (inl a) =
-        let t : take (suc j) (disk .cells) ≡ take j (disk .cells) ++ (cell (disk .cells) j ∷ []) = take-suc (disk .cells) j noCell (omega (arith, medium .pages .count)) in
+        let t : take (suc j) (disk .cells) ≡ take j (disk .cells) ++ (cell (disk .cells) j ∷ []) = take-suc (disk .cells) j noCell (omega (arith, medium .pages .slots .count)) in
         let x : count n (take (suc j) (disk .cells)) ≡ count n (take j (disk .cells)) + count n (cell (disk .cells) j ∷ []) = ap (count n) t ∙ count-append n (take j (disk .cells)) (cell (disk .cells) j ∷ []) in
         rw (cell-cached j a) (omega (arith, e, x))
     count-step n j h e (inr a) =
-        let x : take (suc j) (disk .cells) ≡ take j (disk .cells) = take-all (suc j) (disk .cells) (omega (arith, medium .pages .count)) ∙ sym (take-all j (disk .cells) (omega (arith, medium .pages .count))) in
+        let x : take (suc j) (disk .cells) ≡ take j (disk .cells) = take-all (suc j) (disk .cells) (omega (arith, medium .pages .slots .count)) ∙ sym (take-all j (disk .cells) (omega (arith, medium .pages .slots .count))) in
         rw (cell-free j a h, x) (omega (arith, e))
 
     count-upto : (n j : ℕ) → j ≤ 15 * d → countWaiting c n j ≡ count n (take j (disk .cells))
@@ -245,4 +245,4 @@ module _ {l d : ℕ} {m : List ℕ} {disk : Disk} {history : List (List Record)}
     count-upto n (suc j) h = count-step n j h (count-upto n j (omega arith)) (split j (length (versionsOf history)))
 
     pub count-cached : (n : ℕ) → countWaiting c n (15 * d) ≡ count n (disk .cells)
-    count-cached n = count-upto n (15 * d) (omega arith) ∙ ap (count n) (take-all (15 * d) (disk .cells) (omega (arith, medium .pages .count, medium .pages .room)))
+    count-cached n = count-upto n (15 * d) (omega arith) ∙ ap (count n) (take-all (15 * d) (disk .cells) (omega (arith, medium .pages .slots .count, medium .pages .slots .room)))

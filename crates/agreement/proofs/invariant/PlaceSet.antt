@@ -7,6 +7,7 @@ use mathlib.Core.Logic.{_⊎_, inl, inr, _≢_}
 use mathlib.Core.Path.{_≡_, sym, ap, _∙_}
 use lib.ListN.{length, set, length-set}
 use lib.Seq.{getD-set-same, getD-set-other}
+use Rattle.layout.specs.Journal.{Record}
 use Rattle.layout.specs.Slot.{Cell}
 use Rattle.layout.specs.Table.{tablePair}
 use Rattle.layout.specs.declared.item.Pair.{Pair}
@@ -101,9 +102,9 @@ module _ (m m′ : List ℕ) (same : (i : ℕ) → i < 64 → tablePair m′ i �
   pub time-same : (i : ℕ) → i < 64 → tableTime m′ i ≡ tableTime m i
   time-same i h = ap (λ (p : Pair). p .time .0) (same i h)
 
-  pub table-same : (disk disk′ : Disk) → disk′ .stored ≡ disk .stored → TableOn m disk → TableOn m′ disk′
-  table-same disk disk′ e t = record {
-    pair = λ i h. rw (num-same i h, time-same i h, e) (t .pair i h);
+  pub table-same : {stored : List (List Record)} → TableOn m stored → TableOn m′ stored
+  table-same t = record {
+    pair = λ i h. rw (num-same i h, time-same i h) (t .pair i h);
     vacant = λ i h. rw (num-same i h, time-same i h) (t .vacant i h);
     apart = λ i j h g. rw (num-same i h, num-same j g) (t .apart i j h g);
   }

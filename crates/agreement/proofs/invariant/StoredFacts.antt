@@ -48,17 +48,17 @@ rest-after d closed tail f stored e (upTo j h) rest q =
 
 module _ {l d : ℕ} {m : List ℕ} {disk : Disk} {closed : List (List Record)} {tail : List Record} {e : ℕ}
     (medium : OnMedium l d m disk (closed ++ (tail ∷ []))) (mark : Stored closed tail (disk .stored) e) where
-  pub rest-above : Each (λ (x : Placed). (e < x .end) × (length closed ≤ x .seq)) (medium .log .rest)
-  rest-above = rest-after d closed tail tail-fits (disk .stored) e mark (medium .log .rest) (medium .log .split)
+  pub rest-above : Each (λ (x : Placed). (e < x .end) × (length closed ≤ x .seq)) (medium .log .shape .rest)
+  rest-above = rest-after d closed tail tail-fits (disk .stored) e mark (medium .log .shape .rest) (medium .log .shape .split)
     where
       tail-fits : sizeOf tail ≤ 502
-      tail-fits = each-right (BlockSound d) closed (tail ∷ []) (medium .log .sound) .0 .fits
+      tail-fits = each-right (BlockSound d) closed (tail ∷ []) (medium .log .shape .sound) .0 .fits
 
-  commits-above : Each (λ (c : LoggedCommit). (e < c .end) × (length closed ≤ c .seq)) (commitsIn (medium .log .rest))
-  commits-above = place-commits (λ a q. (e < a) × (length closed ≤ q)) (medium .log .rest) rest-above
+  commits-above : Each (λ (c : LoggedCommit). (e < c .end) × (length closed ≤ c .seq)) (commitsIn (medium .log .shape .rest))
+  commits-above = place-commits (λ a q. (e < a) × (length closed ≤ q)) (medium .log .shape .rest) rest-above
 
-  versions-above : Each (λ (v : LoggedVersion). (e < v .end) × (length closed ≤ v .seq)) (versionsIn (medium .log .rest))
-  versions-above = place-versions (λ a q. (e < a) × (length closed ≤ q)) (medium .log .rest) rest-above
+  versions-above : Each (λ (v : LoggedVersion). (e < v .end) × (length closed ≤ v .seq)) (versionsIn (medium .log .shape .rest))
+  versions-above = place-versions (λ a q. (e < a) × (length closed ≤ q)) (medium .log .shape .rest) rest-above
 
   -- a commit that is not among the stored ones is among the rest
   commit-stored : (n : ℕ) → 0 < find (commitsOf (closed ++ (tail ∷ []))) n .time
@@ -69,8 +69,8 @@ module _ {l d : ℕ} {m : List ℕ} {disk : Disk} {closed : List (List Record)} 
       go : (find (commitsOf (disk .stored)) n .time ≡ 0) ⊎ (find (commitsOf (disk .stored)) n .time ≢ 0) → find (commitsOf (disk .stored)) n ≡ find (commitsOf (closed ++ (tail ∷ []))) n
       go (inr z) = sym (find-stored medium n (omega arith))
       go (inl z) =
-          let g : find (commitsOf (closed ++ (tail ∷ []))) n ≡ find (commitsIn (medium .log .rest)) n = rw (commits-split medium) (find-right n (commitsOf (disk .stored)) (commitsIn (medium .log .rest)) (times-low medium) z) in
-          absurd (f (rw g (find-each n (λ (c : LoggedCommit). (e < c .end) × (length closed ≤ c .seq)) (commitsIn (medium .log .rest)) commits-above (rw g at h))))
+          let g : find (commitsOf (closed ++ (tail ∷ []))) n ≡ find (commitsIn (medium .log .shape .rest)) n = rw (commits-split medium) (find-right n (commitsOf (disk .stored)) (commitsIn (medium .log .shape .rest)) (times-low medium) z) in
+          absurd (f (rw g (find-each n (λ (c : LoggedCommit). (e < c .end) × (length closed ≤ c .seq)) (commitsIn (medium .log .shape .rest)) commits-above (rw g at h))))
 
   -- a version, a commit that ends at or before the stored end place is stored
   pub version-marked : (n : ℕ) → n < length (versionsOf (closed ++ (tail ∷ []))) → at (versionsOf (closed ++ (tail ∷ []))) n .end ≤ e → n < length (versionsOf (disk .stored))
@@ -81,12 +81,12 @@ module _ {l d : ℕ} {m : List ℕ} {disk : Disk} {closed : List (List Record)} 
       go (inr a) =
           let i = n - length (versionsOf (disk .stored)) in
           let b : length (versionsOf (disk .stored)) + i ≡ n = omega arith in
-          let l : i < length (versionsIn (medium .log .rest)) = omega (arith, ap length (versions-split medium), length-append (versionsOf (disk .stored)) (versionsIn (medium .log .rest))) in
-          let g : at (versionsOf (closed ++ (tail ∷ []))) n ≡ at (versionsIn (medium .log .rest)) i =
+          let l : i < length (versionsIn (medium .log .shape .rest)) = omega (arith, ap length (versions-split medium), length-append (versionsOf (disk .stored)) (versionsIn (medium .log .shape .rest))) in
+          let g : at (versionsOf (closed ++ (tail ∷ []))) n ≡ at (versionsIn (medium .log .shape .rest)) i =
           ap (λ (x : List LoggedVersion). at x n) (versions-split medium)
-          ∙ ap (λ (j : ℕ). at (versionsOf (disk .stored) ++ versionsIn (medium .log .rest)) j) (sym b)
-          ∙ getD-append-add (versionsOf (disk .stored)) (versionsIn (medium .log .rest)) i noVersion in
-          absurd (omega (arith, ap (λ (v : LoggedVersion). v .end) g, each-at (λ (v : LoggedVersion). (e < v .end) × (length closed ≤ v .seq)) (versionsIn (medium .log .rest)) i noVersion versions-above l .0))
+          ∙ ap (λ (j : ℕ). at (versionsOf (disk .stored) ++ versionsIn (medium .log .shape .rest)) j) (sym b)
+          ∙ getD-append-add (versionsOf (disk .stored)) (versionsIn (medium .log .shape .rest)) i noVersion in
+          absurd (omega (arith, ap (λ (v : LoggedVersion). v .end) g, each-at (λ (v : LoggedVersion). (e < v .end) × (length closed ≤ v .seq)) (versionsIn (medium .log .shape .rest)) i noVersion versions-above l .0))
 
   pub commit-marked : (n : ℕ) → 0 < find (commitsOf (closed ++ (tail ∷ []))) n .time → find (commitsOf (closed ++ (tail ∷ []))) n .end ≤ e
       → find (commitsOf (disk .stored)) n ≡ find (commitsOf (closed ++ (tail ∷ []))) n

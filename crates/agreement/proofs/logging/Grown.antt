@@ -29,8 +29,8 @@ abbrev pub withCell : Disk → Cell → Disk
 withCell k x = record { oldest = k .oldest; next = k .next; time = k .time; stored = k .stored; cells = k .cells ++ (x ∷ []); on = k .on }
 
 module _ {l d : ℕ} {m : List ℕ} {disk : Disk} {history : List (List Record)} (bl : List (List Record)) (medium : OnMedium l d m disk history) (x : Placed) (grown : records bl ≡ records history ++ (x ∷ [])) where
-  longer : records bl ≡ records (disk .stored) ++ (medium .log .rest ++ (x ∷ []))
-  longer = grown ∙ ap (λ (ps : List Placed). ps ++ (x ∷ [])) (medium .log .split) ∙ append-assoc (records (disk .stored)) (medium .log .rest) (x ∷ [])
+  longer : records bl ≡ records (disk .stored) ++ (medium .log .shape .rest ++ (x ∷ []))
+  longer = grown ∙ ap (λ (ps : List Placed). ps ++ (x ∷ [])) (medium .log .shape .split) ∙ append-assoc (records (disk .stored)) (medium .log .shape .rest) (x ∷ [])
 
   known : disk .oldest ≤ x .seq → Each (λ (y : Placed). y .seq < disk .oldest → numberIn (y .rec) < disk .next) (records bl)
   known recent = rw grown (each-append (λ (y : Placed). y .seq < disk .oldest → numberIn (y .rec) < disk .next) (records history) (x ∷ []) (medium .numbers .below) ((λ a. absurd (omega arith)), tt))
@@ -46,43 +46,43 @@ module _ {l d : ℕ} {m : List ℕ} {disk : Disk} {history bl : List (List Recor
   grow-version h v e slot room earlier free = subst (λ (y : Cell). OnMedium l d m (withCell disk y) bl) (sym (ap waitingCell last)) (record {
     sizes = medium .sizes;
     master = record {
+      fits = medium .master .fits;
       block = medium .master .block;
-      oldest-low = medium .master .oldest-low;
-      oldest-high = medium .master .oldest-high;
-      next-low = medium .master .next-low;
-      next-high = medium .master .next-high;
-      time-high = medium .master .time-high;
     };
     log = record {
-      low = medium .log .low;
-      high = medium .log .high;
-      front = front;
-      top = top;
-      sound = sound;
-      stored = medium .log .stored;
+      shape = record {
+        low = medium .log .shape .low;
+        high = medium .log .shape .high;
+        front = front;
+        top = top;
+        sound = sound;
+        stored-sound = medium .log .shape .stored-sound;
+        rest = medium .log .shape .rest ++ (x ∷ []);
+        split = longer bl medium x grown;
+      };
       blocks = medium .log .blocks;
       fresh = medium .log .fresh;
-      rest = medium .log .rest ++ (x ∷ []);
-      split = longer bl medium x grown;
     };
     pages = record {
+      slots = record {
+        slot = rw new (snoc-each noVersion (λ i a. a .slot ≡ i) (versionsOf history) w (medium .pages .slots .slot) slot);
+        room = rw (new, length-append) (omega arith);
+        count = rw new (length-append (disk .cells) (y ∷ []) ∙ ap (λ (n : ℕ). n + 1) (medium .pages .slots .count) ∙ sym (length-append (versionsOf history) (w ∷ [])));
+        match = rw new (snoc-each noVersion (λ i a. Match (commitsOf (disk .stored)) a (cell (disk .cells ++ (y ∷ [])) i)) (versionsOf history) w
+            (λ i a. rw (left i a) (medium .pages .slots .match i a)) (rw here still));
+        chain = rw new (snoc-each noVersion (λ i a. a .earlier ≡ orNone (newestOf (versionsOf history ++ (w ∷ [])) (a .key) i)) (versionsOf history) w
+            (λ i a. medium .pages .slots .chain i a ∙ ap orNone (sym (newest-append (versionsOf history) (w ∷ []) (at (versionsOf history) i .key) i (omega arith))))
+            (earlier ∙ ap orNone (sym (newest-append (versionsOf history) (w ∷ []) (h .key) (length (versionsOf history)) (omega arith)))));
+      };
       few = medium .pages .few;
       page = λ p a. medium .pages .page p a
           ∙ sym (ap (λ (vs : List LoggedVersion). pageWith vs (disk .cells ++ (y ∷ [])) p (disk .on p)) new
-          ∙ pageWith-grow (versionsOf history) (w ∷ []) (disk .cells) (y ∷ []) p (disk .on p) (medium .pages .count) (omega (arith, medium .pages .few p .1, fewer-stored medium)));
+          ∙ pageWith-grow (versionsOf history) (w ∷ []) (disk .cells) (y ∷ []) p (disk .on p) (medium .pages .slots .count) (omega (arith, medium .pages .few p .1, fewer-stored medium)));
       kept = rw new (snoc-each noVersion (λ i a. disk .on (i / 15) ≤ i % 15 → disk .oldest ≤ a .seq) (versionsOf history) w (medium .pages .kept) (λ _. recent));
-      slot = rw new (snoc-each noVersion (λ i a. a .slot ≡ i) (versionsOf history) w (medium .pages .slot) slot);
-      room = rw (new, length-append) (omega arith);
-      count = rw new (length-append (disk .cells) (y ∷ []) ∙ ap (λ (n : ℕ). n + 1) (medium .pages .count) ∙ sym (length-append (versionsOf history) (w ∷ [])));
-      match = rw new (snoc-each noVersion (λ i a. Match (commitsOf (disk .stored)) a (cell (disk .cells ++ (y ∷ [])) i)) (versionsOf history) w
-          (λ i a. rw (left i a) (medium .pages .match i a)) (rw here still));
       plain = rw new (snoc-each noVersion (λ i a. disk .on (i / 15) ≤ i % 15 → cell (disk .cells ++ (y ∷ [])) i ≡ waitingCell a) (versionsOf history) w
           (λ i a. rw (left i a) (medium .pages .plain i a)) (λ _. here));
-      chain = rw new (snoc-each noVersion (λ i a. a .earlier ≡ orNone (newestOf (versionsOf history ++ (w ∷ [])) (a .key) i)) (versionsOf history) w
-          (λ i a. medium .pages .chain i a ∙ ap orNone (sym (newest-append (versionsOf history) (w ∷ []) (at (versionsOf history) i .key) i (omega arith))))
-          (earlier ∙ ap orNone (sym (newest-append (versionsOf history) (w ∷ []) (h .key) (length (versionsOf history)) (omega arith)))));
     };
-    table = record { pair = medium .table .pair; vacant = medium .table .vacant; apart = medium .table .apart };
+    table = medium .table;
     numbers = record {
       below = known bl medium x grown recent;
       early = rw old (medium .numbers .early);
@@ -109,10 +109,10 @@ module _ {l d : ℕ} {m : List ℕ} {disk : Disk} {history bl : List (List Recor
       last = ap (λ (vs : List LoggedVersion). at vs (length (versionsOf history))) new ∙ getD-append-seam (versionsOf history) w [] noVersion
 
       here : cell (disk .cells ++ (y ∷ [])) (length (versionsOf history)) ≡ y
-      here = ap (λ (n : ℕ). cell (disk .cells ++ (y ∷ [])) n) (sym (medium .pages .count)) ∙ getD-append-seam (disk .cells) y [] noCell
+      here = ap (λ (n : ℕ). cell (disk .cells ++ (y ∷ [])) n) (sym (medium .pages .slots .count)) ∙ getD-append-seam (disk .cells) y [] noCell
 
       left : (i : ℕ) → i < length (versionsOf history) → cell (disk .cells ++ (y ∷ [])) i ≡ cell (disk .cells) i
-      left i a = List·getD-append (disk .cells) (y ∷ []) noCell i (omega (arith, medium .pages .count))
+      left i a = List·getD-append (disk .cells) (y ∷ []) noCell i (omega (arith, medium .pages .slots .count))
 
       -- the new version has no commit
       steady′ : (i j : ℕ) → i < j → j < length (versionsOf history) + 1 → (j ≡ length (versionsOf history)) ⊎ (j ≢ length (versionsOf history))
@@ -133,27 +133,31 @@ module _ {l d : ℕ} {m : List ℕ} {disk : Disk} {history bl : List (List Recor
     sizes = medium .sizes;
     master = medium .master;
     log = record {
-      low = medium .log .low;
-      high = medium .log .high;
-      front = front;
-      top = top;
-      sound = sound;
-      stored = medium .log .stored;
+      shape = record {
+        low = medium .log .shape .low;
+        high = medium .log .shape .high;
+        front = front;
+        top = top;
+        sound = sound;
+        stored-sound = medium .log .shape .stored-sound;
+        rest = medium .log .shape .rest ++ (x ∷ []);
+        split = longer bl medium x grown;
+      };
       blocks = medium .log .blocks;
       fresh = medium .log .fresh;
-      rest = medium .log .rest ++ (x ∷ []);
-      split = longer bl medium x grown;
     };
     pages = record {
+      slots = record {
+        slot = rw old (medium .pages .slots .slot);
+        room = rw old (medium .pages .slots .room);
+        count = rw old (medium .pages .slots .count);
+        match = rw old (medium .pages .slots .match);
+        chain = rw old (medium .pages .slots .chain);
+      };
       few = medium .pages .few;
       page = rw old (medium .pages .page);
       kept = rw old (medium .pages .kept);
-      slot = rw old (medium .pages .slot);
-      room = rw old (medium .pages .room);
-      count = rw old (medium .pages .count);
-      match = rw old (medium .pages .match);
       plain = rw old (medium .pages .plain);
-      chain = rw old (medium .pages .chain);
     };
     table = medium .table;
     numbers = record {

@@ -66,35 +66,35 @@ module _ {l d : ℕ} {m : List ℕ} {disk : Disk} {closed : List (List Record)} 
   storing = record {
     sizes = record { range = medium .sizes .range; size = length-put m place new ∙ medium .sizes .size };
     master = record {
+      fits = medium .master .fits;
       block = blk-other m place new 0 size (λ e. log-not-first l (length closed) 0 (omega arith) (sym e)) ∙ medium .master .block;
-      oldest-low = medium .master .oldest-low;
-      oldest-high = medium .master .oldest-high;
-      next-low = medium .master .next-low;
-      next-high = medium .master .next-high;
-      time-high = medium .master .time-high;
     };
     log = record {
-      low = rw length-append (omega arith);
-      high = rw length-append (omega arith);
-      front = omega arith;
-      top = medium .log .top;
-      sound = medium .log .sound;
-      stored = medium .log .sound;
+      shape = record {
+        low = rw length-append (omega arith);
+        high = rw length-append (omega arith);
+        front = omega arith;
+        top = medium .log .shape .top;
+        sound = medium .log .shape .sound;
+        stored-sound = medium .log .shape .sound;
+        rest = [];
+        split = sym (append-nil (records (closed ++ (tail ∷ []))));
+      };
       blocks = λ q a b. blocks′ q (same? q (length closed)) a (rw length-append at b);
       fresh = λ j a. fresh′ j (same? j (length closed % l)) a;
-      rest = [];
-      split = sym (append-nil (records (closed ++ (tail ∷ []))));
     };
     pages = record {
+      slots = record {
+        slot = medium .pages .slots .slot;
+        room = medium .pages .slots .room;
+        count = medium .pages .slots .count;
+        match = λ n h. rw (commits-split medium) (match-more (commitsOf (disk .stored)) (commitsIn (medium .log .shape .rest)) _ _ (medium .pages .slots .match n h));
+        chain = medium .pages .slots .chain;
+      };
       few = λ p. (medium .pages .few p .0, omega (arith, medium .pages .few p .1, fewer-stored medium));
       page = λ p a. blk-other m place new (pageBlockAt l p) size (λ e. log-page-apart l (length closed) p (omega (arith, medium .sizes .range .blocks-low)) (sym e)) ∙ medium .pages .page p a;
       kept = medium .pages .kept;
-      slot = medium .pages .slot;
-      room = medium .pages .room;
-      count = medium .pages .count;
-      match = λ n h. rw (commits-split medium) (match-more (commitsOf (disk .stored)) (commitsIn (medium .log .rest)) _ _ (medium .pages .match n h));
       plain = medium .pages .plain;
-      chain = medium .pages .chain;
     };
     table = record {
       pair = λ i h. rw (num i h, time i h) (pair′ i h);
@@ -129,7 +129,7 @@ module _ {l d : ℕ} {m : List ℕ} {disk : Disk} {closed : List (List Record)} 
       pair′ : (i : ℕ) → i < 64 → 0 < tableNum m i → (0 < tableTime m i) × (find (commitsOf (closed ++ (tail ∷ []))) (tableNum m i) .time ≡ tableTime m i)
       pair′ i h z =
           let t = medium .table .pair i h z in
-          (t .0, rw (commits-split medium) (ap (λ (c : LoggedCommit). c .time) (find-left (tableNum m i) (commitsOf (disk .stored)) (commitsIn (medium .log .rest)) (omega (arith, t))) ∙ t .1))
+          (t .0, rw (commits-split medium) (ap (λ (c : LoggedCommit). c .time) (find-left (tableNum m i) (commitsOf (disk .stored)) (commitsIn (medium .log .shape .rest)) (omega (arith, t))) ∙ t .1))
 
       blocks′ : (q : ℕ) → (q ≡ length closed) ⊎ (q ≢ length closed) → disk .oldest ≤ q → q < length closed + 1
           → blk (put m (logBlockAt l (length closed)) (logBytes (length closed) tail)) (logBlockAt l q) ≡ logBytes q (getD (closed ++ (tail ∷ [])) q [])
@@ -161,7 +161,7 @@ module _ {l d : ℕ} {m : List ℕ} {disk : Disk} {closed : List (List Record)} 
       there q stored a w (upTo n h) =
           let b = medium .log .blocks (length closed) low (rw (w, length-append) (omega arith)) in
           let c : getD (disk .stored) (length closed) [] ≡ take n tail = ap (λ (x : List (List Record)). getD x (length closed) []) w ∙ getD-append-seam closed (take n tail) [] [] in
-          let f : BlockSound d (take n tail) = each-right (BlockSound d) closed (take n tail ∷ []) (subst (λ (x : List (List Record)). Each (BlockSound d) x) w (medium .log .stored)) .0 in
+          let f : BlockSound d (take n tail) = each-right (BlockSound d) closed (take n tail ∷ []) (subst (λ (x : List (List Record)). Each (BlockSound d) x) w (medium .log .shape .stored-sound)) .0 in
           let g : usedOf (logBytes (length closed) (take n tail)) ≡ usedOf (logBytes (length closed) tail) = ap usedOf (sym (b ∙ ap (logBytes (length closed)) c) ∙ q) in
           ap (λ (rs : List Record). closed ++ (rs ∷ [])) (take-size n tail (omega (arith, g, block-used d (length closed) (take n tail) f, tail-used closed tail medium)))
 
@@ -225,7 +225,7 @@ module _ {l d : ℕ} {m c : List ℕ} {s : State} {b : Book} {disk : Disk} {clos
     stored′ = disk .stored;
     medium = u .medium;
     grown = records-more closed tail r ∙ ap (λ (a : ℕ). records (closed ++ (tail ∷ [])) ++ (record { seq = length closed; end = a; rec = r } ∷ [])) end-is;
-    sound = each-append (BlockSound d) closed ((tail ++ (r ∷ [])) ∷ []) (each-left (BlockSound d) closed (tail ∷ []) (u .medium .log .sound)) (new, tt);
+    sound = each-append (BlockSound d) closed ((tail ++ (r ∷ [])) ∷ []) (each-left (BlockSound d) closed (tail ∷ []) (u .medium .log .shape .sound)) (new, tt);
     top = rw length-append (omega (arith, tail-low closed tail (u .medium)));
     front = rw length-append (omega (arith, stored-length (u .state .mark)));
     tail-block = tail′;
@@ -261,7 +261,7 @@ module _ {l d : ℕ} {m c : List ℕ} {s : State} {b : Book} {disk : Disk} {clos
     stored′ = closed ++ (tail ∷ []);
     medium = subst (λ (x : List ℕ). OnMedium l d x (withLog disk (closed ++ (tail ∷ []))) (closed ++ (tail ∷ []))) (sym medium′) (storing (u .medium) (u .state .ring-low) (u .state .ring-high) (u .state .mark));
     grown = records-next (closed ++ (tail ∷ [])) r ∙ ap (λ (a : ℕ). records (closed ++ (tail ∷ [])) ++ (record { seq = length (closed ++ (tail ∷ [])); end = a; rec = r } ∷ [])) end-is;
-    sound = each-append (BlockSound d) (closed ++ (tail ∷ [])) ((r ∷ []) ∷ []) (u .medium .log .sound) (new, tt);
+    sound = each-append (BlockSound d) (closed ++ (tail ∷ [])) ((r ∷ []) ∷ []) (u .medium .log .shape .sound) (new, tt);
     top = rw (length-append (closed ++ (tail ∷ [])) ((r ∷ []) ∷ []), length-append closed (tail ∷ [])) (omega arith);
     front = rw (length-append (closed ++ (tail ∷ [])) ((r ∷ []) ∷ [])) (omega arith);
     tail-block = tail′;
@@ -270,8 +270,8 @@ module _ {l d : ℕ} {m c : List ℕ} {s : State} {b : Book} {disk : Disk} {clos
     mark = nothing (tailEnd (s .tail) .0) place′;
     saved = u .state .last;
     rows = ap (λ (x : List ℕ). cond (logChanged l m x) (length (records (closed ++ (tail ∷ [])))) (length (records (disk .stored)))) medium′ ∙ moved (u .medium) (u .state .ring-low) (u .state .ring-high) (u .state .mark);
-    more = u .medium .log .rest;
-    longer = u .medium .log .split;
+    more = u .medium .log .shape .rest;
+    longer = u .medium .log .shape .split;
     pairs = λ i h. ap (λ (x : List ℕ). tablePair x i) medium′ ∙ pairs-stay (u .medium) (u .state .ring-low) (u .state .ring-high) (u .state .mark) i h;
   }
     where

@@ -105,13 +105,13 @@ sound-snoc d rs r z s h = record {
 
 module _ {l d : ℕ} {m : List ℕ} {disk : Disk} (closed : List (List Record)) (tail : List Record) (medium : OnMedium l d m disk (closed ++ (tail ∷ []))) where
   pub tail-sound : BlockSound d tail
-  tail-sound = each-right (BlockSound d) closed (tail ∷ []) (medium .log .sound) .0
+  tail-sound = each-right (BlockSound d) closed (tail ∷ []) (medium .log .shape .sound) .0
 
   pub tail-length : length (logBytes (length closed) tail) ≡ 512
   tail-length = block-length d (length closed) tail tail-sound
 
   pub tail-low : length closed < 2 ^ 48
-  tail-low = omega (arith, rw length-append at (medium .log .top))
+  tail-low = omega (arith, rw length-append at (medium .log .shape .top))
 
   pub tail-seq : sequenceOf (logBytes (length closed) tail) ≡ length closed
   tail-seq = sequence-logBytes (length closed) tail (omega (arith, tail-low))

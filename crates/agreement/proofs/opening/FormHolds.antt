@@ -64,7 +64,7 @@ module _ {l d : ℕ} {m : List ℕ} {disk : Disk} (medium : OnMedium l d m disk 
   -- ---- the blocks that are read
 
   read-high : (q : ℕ) → q < oldestOn m + readCount m l → q < length (disk .stored)
-  read-high q h = omega (arith, oldest-is medium, count-is medium, medium .log .low)
+  read-high q h = omega (arith, oldest-is medium, count-is medium, medium .log .shape .low)
 
   parsed-is : (q : ℕ) → disk .oldest ≤ q → q < length (disk .stored) → parsed (blockOf m l q) ≡ record { records = getD (disk .stored) q []; whole = true }
   parsed-is q a h = ap parsed (block-is medium q a h) ∙ parsed-logBytes q (getD (disk .stored) q []) (sound-sized d (getD (disk .stored) q []) (sound-block medium q h .each)) (small-block medium q h)
@@ -112,9 +112,9 @@ module _ {l d : ℕ} {m : List ℕ} {disk : Disk} (medium : OnMedium l d m disk 
   pub sequences-in-range : holds (sequencesInRange m l d) ≡ true
   unfolding sequencesInRange
   sequences-in-range =
-      first-holds _ 0 _ (both (leb 1 (oldestOn m)) (ltb (oldestOn m) (2 ^ 48)) (le-leb 1 (oldestOn m) (omega (arith, oldest-is medium, medium .master .oldest-low))) (lt-ltb (oldestOn m) (2 ^ 48) (omega (arith, oldest-is medium, medium .master .oldest-high))))
-      (blocks-hold m l d (λ s. leb 1 s && ltb s (2 ^ 48)) (λ q a b. both (leb 1 q) (ltb q (2 ^ 48)) (le-leb 1 q (omega (arith, oldest-is medium, medium .master .oldest-low)))
-      (lt-ltb q (2 ^ 48) (omega (arith, read-high q b, medium .log .top)))))
+      first-holds _ 0 _ (both (leb 1 (oldestOn m)) (ltb (oldestOn m) (2 ^ 48)) (le-leb 1 (oldestOn m) (omega (arith, oldest-is medium, medium .master .fits .oldest-low))) (lt-ltb (oldestOn m) (2 ^ 48) (omega (arith, oldest-is medium, medium .master .fits .oldest-high))))
+      (blocks-hold m l d (λ s. leb 1 s && ltb s (2 ^ 48)) (λ q a b. both (leb 1 q) (ltb q (2 ^ 48)) (le-leb 1 q (omega (arith, oldest-is medium, medium .master .fits .oldest-low)))
+      (lt-ltb q (2 ^ 48) (omega (arith, read-high q b, medium .log .shape .top)))))
 
   -- ---- condition 3
 
@@ -132,7 +132,7 @@ module _ {l d : ℕ} {m : List ℕ} {disk : Disk} (medium : OnMedium l d m disk 
   unfolding recordsWhole
   records-whole =
       rw (oldest-is medium, count-is medium)
-      (records-from (length (disk .stored) - disk .oldest) 0 0 (disk .oldest) (omega (arith, medium .log .low)) (omega arith) (omega arith)
+      (records-from (length (disk .stored) - disk .oldest) 0 0 (disk .oldest) (omega (arith, medium .log .shape .low)) (omega arith) (omega arith)
       (rw (log-is medium) at (rising-right 0 (commitsIn (placeAll 0 (take (disk .oldest) (disk .stored)))) _ (rw (log-split medium, commits-append) at (medium .numbers .rising)))))
 
   -- ---- condition 4
@@ -142,7 +142,7 @@ module _ {l d : ℕ} {m : List ℕ} {disk : Disk} (medium : OnMedium l d m disk 
   page-end p (suc c) h =
       let lt : 15 * p + c < length (versionsOf (disk .stored)) = omega arith in (
         each-at (λ (v : LoggedVersion). v .end ≤ logEnd m l) (versionsOf (disk .stored)) (15 * p + c) noVersion (place-versions (λ e q. e ≤ logEnd m l) (records (disk .stored)) (ends-below medium)) lt,
-        omega (arith, near d (disk .stored) (medium .log .stored) (15 * p + c) lt, medium .log .top),
+        omega (arith, near d (disk .stored) (medium .log .shape .stored-sound) (15 * p + c) lt, medium .log .shape .top),
       )
 
   pub ends-logged : holds (endsLogged m l d) ≡ true

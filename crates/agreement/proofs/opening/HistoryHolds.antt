@@ -59,7 +59,7 @@ module _ {l d : ℕ} {m : List ℕ} {disk : Disk} (medium : OnMedium l d m disk 
   -- ---- the pages
 
   used-is : (p : ℕ) → p < d → pageUsed (blk cache p) ≡ full (length vs) p
-  used-is p h = ap pageUsed (redone-cache medium .pages p h) ∙ used-page vs (disk .cells) p (full (length vs) p) (omega (arith, medium .pages .count))
+  used-is p h = ap pageUsed (redone-cache medium .pages p h) ∙ used-page vs (disk .cells) p (full (length vs) p) (omega (arith, medium .pages .slots .count))
 
   full-before : (p : ℕ) → p < d → fullBefore m l d cache p ≡ true
   unfolding fullBefore
@@ -77,12 +77,12 @@ module _ {l d : ℕ} {m : List ℕ} {disk : Disk} (medium : OnMedium l d m disk 
   earlier-true n h =
       let q = cell-fields medium n h in
       eq-eqb (cellAt cache n .earlier) (orNone (newest cache (cellAt cache n .key) n))
-      (rw (cell-cached medium (redone-cache medium) n h, q .1, q .3, newest-cached medium (redone-cache medium) (at vs n .key) n (omega arith)) (medium .pages .chain n h))
+      (rw (cell-cached medium (redone-cache medium) n h, q .1, q .3, newest-cached medium (redone-cache medium) (at vs n .key) n (omega arith)) (medium .pages .slots .chain n h))
 
   in-bounds : (n : ℕ) → n < length vs → slotInBounds (cellAt cache n .state) (nextNumber m l) (lastTime m l) ≡ true
   in-bounds n h =
       ap (λ (x : Cell). slotInBounds (x .state) (nextNumber m l) (lastTime m l)) (cell-cached medium (redone-cache medium) n h)
-      ∙ go (at vs n) (cell (disk .cells) n) (each-at (λ (v : LoggedVersion). v .num < nextNumber m l) vs n noVersion (num-versions (λ i. i < nextNumber m l) (records (disk .stored)) (numbers-below medium)) h) (medium .pages .match n h)
+      ∙ go (at vs n) (cell (disk .cells) n) (each-at (λ (v : LoggedVersion). v .num < nextNumber m l) vs n noVersion (num-versions (λ i. i < nextNumber m l) (records (disk .stored)) (numbers-below medium)) h) (medium .pages .slots .match n h)
     where
       go : (v : LoggedVersion) (x : Cell) → v .num < nextNumber m l → Match cs v x → slotInBounds (x .state) (nextNumber m l) (lastTime m l) ≡ true
       go v x g still = lt-ltb (v .num) (nextNumber m l) g
@@ -110,7 +110,7 @@ module _ {l d : ℕ} {m : List ℕ} {b : Book} {disk : Disk} (x : Down l d m b d
   version-time : (n : ℕ) → n < length (versionsOf (disk .stored))
       → versionTime (pairTime m (readLog m l)) (cellAt (redone m l d .cache) n .state) ≡ timing (find (commitsOf (disk .stored)) (at (versionsOf (disk .stored)) n .num) .time)
   unfolding versionTime
-  version-time n h = rw (cell-cached (x .medium) (redone-cache (x .medium)) n h) (go (cell (disk .cells) n) refl (x .medium .pages .match n h))
+  version-time n h = rw (cell-cached (x .medium) (redone-cache (x .medium)) n h) (go (cell (disk .cells) n) refl (x .medium .pages .slots .match n h))
     where
       is-timed : (t : ℕ) → 0 < t → Timed (record { 0 = t }) ≡ timing t
       is-timed zero z = absurd (omega arith)

@@ -66,7 +66,7 @@ none-last xs ys n h e = go (same? (find xs n .time) 0)
 
 module _ {l d : ℕ} {m : List ℕ} {disk : Disk} (medium : OnMedium l d m disk (disk .stored)) where
   log-sound : Each (λ (x : Placed). Sound d (x .rec)) (readLog m l)
-  log-sound = each-right (λ (x : Placed). Sound d (x .rec)) (placeAll 0 (take (disk .oldest) (disk .stored))) (readLog m l) (rw (log-split medium) at (sound-all d 0 (disk .stored) (medium .log .stored)))
+  log-sound = each-right (λ (x : Placed). Sound d (x .rec)) (placeAll 0 (take (disk .oldest) (disk .stored))) (readLog m l) (rw (log-split medium) at (sound-all d 0 (disk .stored) (medium .log .shape .stored-sound)))
 
   -- ---- condition 7
 
@@ -80,13 +80,13 @@ module _ {l d : ℕ} {m : List ℕ} {disk : Disk} (medium : OnMedium l d m disk 
       go : (n < length (versionsOf (disk .stored))) ⊎ (length (versionsOf (disk .stored)) ≤ n) → slotAtLeastOne (cellAt (redone m l d .cache) n .state) ≡ true
       go (inl a) =
           ap (λ (x : Cell). slotAtLeastOne (x .state)) (cell-cached medium (redone-cache medium) n a)
-          ∙ by (at (versionsOf (disk .stored)) n) (cell (disk .cells) n) (sound-at medium n a .low) (medium .pages .match n a)
+          ∙ by (at (versionsOf (disk .stored)) n) (cell (disk .cells) n) (sound-at medium n a .low) (medium .pages .slots .match n a)
       go (inr a) = ap slotAtLeastOne (cell-free medium (redone-cache medium) n a h)
 
   pub from-one : holds (fromOne m l d (redone m l d .cache)) ≡ true
   unfolding fromOne
   from-one =
-      first-holds _ 0 _ (le-leb 1 (nextOn m) (omega (arith, next-is medium, medium .master .next-low)))
+      first-holds _ 0 _ (le-leb 1 (nextOn m) (omega (arith, next-is medium, medium .master .fits .next-low)))
       (append-holds _ _ (table-holds (λ i. eqb (tablePair m i .number .0) 0 || leb 1 (tablePair m i .time .0)) (λ i h. zero-or (tablePair m i .number .0) (leb 1 (tablePair m i .time .0))
       (λ e. le-leb 1 (tablePair m i .time .0) (medium .table .pair i h (omega arith) .0))))
       (append-holds _ _ (log-holds l atLeastOne (readLog m l) (each-map (λ (x : Placed). Sound d (x .rec)) (λ (x : Placed). atLeastOne (x .rec) ≡ true) (readLog m l) (λ x s. at-least-one d (x .rec) s) log-sound))

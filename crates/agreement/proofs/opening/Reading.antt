@@ -47,7 +47,7 @@ module _ {l d : ℕ} {m : List ℕ} {disk : Disk} (medium : OnMedium l d m disk 
   -- ---- a block of the log
 
   pub sound-block : (q : ℕ) → q < length (disk .stored) → BlockSound d (getD (disk .stored) q [])
-  sound-block q h = each-at (BlockSound d) (disk .stored) q [] (medium .log .stored) h
+  sound-block q h = each-at (BlockSound d) (disk .stored) q [] (medium .log .shape .stored-sound) h
 
   pub small-block : (q : ℕ) → q < length (disk .stored) → length (flat recordBytes (getD (disk .stored) q [])) ≤ 502
   small-block q h = omega (arith, block-size d (getD (disk .stored) q []) (sound-block q h), sound-block q h .fits)
@@ -57,7 +57,7 @@ module _ {l d : ℕ} {m : List ℕ} {disk : Disk} (medium : OnMedium l d m disk 
   block-is q a h = medium .log .blocks q a h
 
   pub block-sequence : (q : ℕ) → disk .oldest ≤ q → q < length (disk .stored) → sequenceOf (blockOf m l q) ≡ q
-  block-sequence q a h = ap sequenceOf (block-is q a h) ∙ sequence-logBytes q _ (omega (arith, medium .log .top))
+  block-sequence q a h = ap sequenceOf (block-is q a h) ∙ sequence-logBytes q _ (omega (arith, medium .log .shape .top))
 
   pub block-records : (q : ℕ) → disk .oldest ≤ q → q < length (disk .stored) → parsed (blockOf m l q) .records ≡ getD (disk .stored) q []
   block-records q a h =
@@ -82,7 +82,7 @@ module _ {l d : ℕ} {m : List ℕ} {disk : Disk} (medium : OnMedium l d m disk 
 
   pub count-is : readCount m l ≡ length (disk .stored) - disk .oldest
   unfolding readCount
-  count-is = rw (oldest-is medium) (match-is l (disk .oldest) (omega arith) (medium .log .low) (medium .log .high))
+  count-is = rw (oldest-is medium) (match-is l (disk .oldest) (omega arith) (medium .log .shape .low) (medium .log .shape .high))
 
   logged-is : (n s : ℕ) → disk .oldest ≤ s → s + n ≡ length (disk .stored) → loggedFrom m l s n ≡ placeAll s (drop s (disk .stored))
   unfolding loggedFrom placeAll
@@ -92,10 +92,10 @@ module _ {l d : ℕ} {m : List ℕ} {disk : Disk} (medium : OnMedium l d m disk 
 
   pub log-is : readLog m l ≡ placeAll (disk .oldest) (drop (disk .oldest) (disk .stored))
   unfolding readLog
-  log-is = rw (count-is, oldest-is medium) (logged-is (length (disk .stored) - disk .oldest) (disk .oldest) (omega arith) (omega (arith, medium .log .low)))
+  log-is = rw (count-is, oldest-is medium) (logged-is (length (disk .stored) - disk .oldest) (disk .oldest) (omega arith) (omega (arith, medium .log .shape .low)))
 
   early-length : length (take (disk .oldest) (disk .stored)) ≡ disk .oldest
-  early-length = length-take-le (disk .oldest) (disk .stored) (medium .log .low)
+  early-length = length-take-le (disk .oldest) (disk .stored) (medium .log .shape .low)
 
   pub log-split : records (disk .stored) ≡ placeAll 0 (take (disk .oldest) (disk .stored)) ++ readLog m l
   log-split =
@@ -107,14 +107,14 @@ module _ {l d : ℕ} {m : List ℕ} {disk : Disk} (medium : OnMedium l d m disk 
   pub log-before : Each (λ (x : Placed). x .seq < disk .oldest) (placeAll 0 (take (disk .oldest) (disk .stored)))
   log-before =
       each-map (Near 0 (disk .oldest)) (λ (x : Placed). x .seq < disk .oldest) (placeAll 0 (take (disk .oldest) (disk .stored))) (λ x n. n .high)
-      (near-all d 0 (take (disk .oldest) (disk .stored)) 0 (disk .oldest) (each-take (BlockSound d) (disk .oldest) (disk .stored) (medium .log .stored)) (omega arith) (omega (arith, early-length)))
+      (near-all d 0 (take (disk .oldest) (disk .stored)) 0 (disk .oldest) (each-take (BlockSound d) (disk .oldest) (disk .stored) (medium .log .shape .stored-sound)) (omega arith) (omega (arith, early-length)))
 
   pub log-recent : Each (λ (x : Placed). disk .oldest ≤ x .seq) (readLog m l)
   log-recent =
       rw log-is
       (each-map (Near (disk .oldest) (length (disk .stored))) (λ (x : Placed). disk .oldest ≤ x .seq) (placeAll (disk .oldest) (drop (disk .oldest) (disk .stored))) (λ x n. n .low)
-      (near-all d (disk .oldest) (drop (disk .oldest) (disk .stored)) (disk .oldest) (length (disk .stored)) (each-drop (BlockSound d) (disk .oldest) (disk .stored) (medium .log .stored)) (omega arith)
-      (omega (arith, length-drop (disk .oldest) (disk .stored), medium .log .low))))
+      (near-all d (disk .oldest) (drop (disk .oldest) (disk .stored)) (disk .oldest) (length (disk .stored)) (each-drop (BlockSound d) (disk .oldest) (disk .stored) (medium .log .shape .stored-sound)) (omega arith)
+      (omega (arith, length-drop (disk .oldest) (disk .stored), medium .log .shape .low))))
 
   -- ---- the tail
 
@@ -125,7 +125,7 @@ module _ {l d : ℕ} {m : List ℕ} {disk : Disk} (medium : OnMedium l d m disk 
   tail = tailOf (disk .oldest) (disk .stored)
 
   how : Taking (disk .oldest) (disk .stored) closed tail
-  how = taking (disk .oldest) (disk .stored) (medium .log .low)
+  how = taking (disk .oldest) (disk .stored) (medium .log .shape .low)
 
   pub tail-is : readTail m l ≡ logBytes (length (closedOf (disk .oldest) (disk .stored))) (tailOf (disk .oldest) (disk .stored))
   unfolding readTail emptyBlock
@@ -160,27 +160,31 @@ module _ {l d : ℕ} {m : List ℕ} {disk : Disk} (medium : OnMedium l d m disk 
             sizes = medium .sizes;
             master = medium .master;
             log = record {
-              low = medium .log .low;
-              high = medium .log .high;
-              front = omega arith;
-              top = omega (arith, medium .master .oldest-high);
-              sound = each-append (BlockSound d) (disk .stored) ([] ∷ []) (medium .log .stored) (empty-sound d, tt);
-              stored = medium .log .stored;
+              shape = record {
+                low = medium .log .shape .low;
+                high = medium .log .shape .high;
+                front = omega arith;
+                top = omega (arith, medium .master .fits .oldest-high);
+                sound = each-append (BlockSound d) (disk .stored) ([] ∷ []) (medium .log .shape .stored-sound) (empty-sound d, tt);
+                stored-sound = medium .log .shape .stored-sound;
+                rest = [];
+                split = s ∙ sym (append-nil _);
+              };
               blocks = medium .log .blocks;
               fresh = medium .log .fresh;
-              rest = [];
-              split = s ∙ sym (append-nil _);
             };
             pages = record {
+              slots = record {
+                slot = rw s (medium .pages .slots .slot);
+                room = rw s (medium .pages .slots .room);
+                count = rw s (medium .pages .slots .count);
+                match = rw s (medium .pages .slots .match);
+                chain = rw s (medium .pages .slots .chain);
+              };
               few = medium .pages .few;
               page = rw s (medium .pages .page);
               kept = rw s (medium .pages .kept);
-              slot = rw s (medium .pages .slot);
-              room = rw s (medium .pages .room);
-              count = rw s (medium .pages .count);
-              match = rw s (medium .pages .match);
               plain = rw s (medium .pages .plain);
-              chain = rw s (medium .pages .chain);
             };
             table = medium .table;
             numbers = record {
@@ -199,7 +203,7 @@ module _ {l d : ℕ} {m : List ℕ} {disk : Disk} (medium : OnMedium l d m disk 
     where
       go : (closed : List (List Record)) (tail : List Record) → Taking (disk .oldest) (disk .stored) closed tail → BlockSound d tail
       go closed tail (none-read e) = empty-sound d
-      go closed tail (last-read _ _ a e) = each-right (BlockSound d) closed (tail ∷ []) (rw e at (medium .log .stored)) .0
+      go closed tail (last-read _ _ a e) = each-right (BlockSound d) closed (tail ∷ []) (rw e at (medium .log .shape .stored-sound)) .0
 
   -- ---- where the log ends
 
@@ -207,8 +211,8 @@ module _ {l d : ℕ} {m : List ℕ} {disk : Disk} (medium : OnMedium l d m disk 
   closed-length = go closed tail how
     where
       go : (closed : List (List Record)) (tail : List Record) → Taking (disk .oldest) (disk .stored) closed tail → length closed < 2 ^ 48
-      go closed tail (none-read e) = omega (arith, medium .master .oldest-high)
-      go closed tail (last-read _ _ a e) = omega (arith, medium .log .top, ap length e, length-append closed (tail ∷ []))
+      go closed tail (none-read e) = omega (arith, medium .master .fits .oldest-high)
+      go closed tail (last-read _ _ a e) = omega (arith, medium .log .shape .top, ap length e, length-append closed (tail ∷ []))
 
   end-is : logEnd m l ≡ endPlace (length closed) (10 + sizeOf tail)
   unfolding logEnd
@@ -239,10 +243,10 @@ module _ {l d : ℕ} {m : List ℕ} {disk : Disk} (medium : OnMedium l d m disk 
     where
       go : (closed : List (List Record)) (tail : List Record) → Taking (disk .oldest) (disk .stored) closed tail → length closed < disk .oldest + l
       go closed tail (none-read e) = omega (arith, medium .sizes .range .blocks-low)
-      go closed tail (last-read _ _ a e) = omega (arith, medium .log .high, ap length e, length-append closed (tail ∷ []))
+      go closed tail (last-read _ _ a e) = omega (arith, medium .log .shape .high, ap length e, length-append closed (tail ∷ []))
 
   closed-sound : Each (BlockSound d) closed
-  closed-sound = each-left (BlockSound d) closed (tail ∷ []) (medium-taken .log .sound)
+  closed-sound = each-left (BlockSound d) closed (tail ∷ []) (medium-taken .log .shape .sound)
 
   pub ends-below : Each (λ (x : Placed). x .end ≤ logEnd m l) (records (disk .stored))
   unfolding endPlace
@@ -271,17 +275,17 @@ module _ {l d : ℕ} {m : List ℕ} {disk : Disk} (medium : OnMedium l d m disk 
       (λ x h. omega (arith, next-found)) (above-each (readLog m l))))
 
   pub next-low : 1 ≤ nextNumber m l
-  next-low = omega (arith, next-found, medium .master .next-low)
+  next-low = omega (arith, next-found, medium .master .fits .next-low)
 
   pub next-high : nextNumber m l < 2 ^ 64
-  next-high = omega (arith, next-found, medium .master .next-high, logged-high)
+  next-high = omega (arith, next-found, medium .master .fits .next-high, logged-high)
     where
       logged-high : aboveAll (readLog m l) ≤ 2 ^ 64 - 1
       logged-high =
           rw log-is
           (above-below (placeAll (disk .oldest) (drop (disk .oldest) (disk .stored))) (2 ^ 64 - 1)
           (each-map (λ (x : Placed). Sound d (x .rec)) (λ (x : Placed). numberIn (x .rec) < 2 ^ 64 - 1) (placeAll (disk .oldest) (drop (disk .oldest) (disk .stored))) (λ x s. s .high)
-          (sound-all d (disk .oldest) (drop (disk .oldest) (disk .stored)) (each-drop (BlockSound d) (disk .oldest) (disk .stored) (medium .log .stored)))))
+          (sound-all d (disk .oldest) (drop (disk .oldest) (disk .stored)) (each-drop (BlockSound d) (disk .oldest) (disk .stored) (medium .log .shape .stored-sound)))))
 
   pub last-is : lastTime m l ≡ lastOf (commitsOf (disk .stored))
   unfolding lastTime

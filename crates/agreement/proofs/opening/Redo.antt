@@ -72,8 +72,8 @@ module _ {l d : ℕ} {m : List ℕ} {disk : Disk} (medium : OnMedium l d m disk 
 
   module _ (a : ℕ) (h : a < length vs) where
     pend-lt : (c : ℕ) → c ≡ a % 15 → endOfPage vs (a / 15) c < at vs a .end
-    pend-lt zero e = omega (arith, near d (disk .stored) (medium .log .stored) a h)
-    pend-lt (suc c) e = rise d (disk .stored) (medium .log .stored) (15 * (a / 15) + c) a (omega arith) h
+    pend-lt zero e = omega (arith, near d (disk .stored) (medium .log .shape .stored-sound) a h)
+    pend-lt (suc c) e = rise d (disk .stored) (medium .log .shape .stored-sound) (15 * (a / 15) + c) a (omega arith) h
 
     pend-ge : (c : ℕ) → a % 15 < c → c ≤ length vs - 15 * (a / 15) → at vs a .end ≤ endOfPage vs (a / 15) c
     pend-ge zero e z = absurd (not-suc-le-zero e)
@@ -81,22 +81,22 @@ module _ {l d : ℕ} {m : List ℕ} {disk : Disk} (medium : OnMedium l d m disk 
       where
         go : (15 * (a / 15) + c ≡ a) ⊎ (15 * (a / 15) + c ≢ a) → at vs a .end ≤ at vs (15 * (a / 15) + c) .end
         go (inl i) = rw i (omega arith)
-        go (inr i) = omega (arith, rise d (disk .stored) (medium .log .stored) a (15 * (a / 15) + c) (omega arith) (omega arith))
+        go (inr i) = omega (arith, rise d (disk .stored) (medium .log .shape .stored-sound) a (15 * (a / 15) + c) (omega arith) (omega arith))
 
     pend-small : (c : ℕ) → c ≤ length vs - 15 * (a / 15) → endOfPage vs (a / 15) c < 2 ^ 64
     pend-small zero z = omega arith
-    pend-small (suc c) z = omega (arith, near d (disk .stored) (medium .log .stored) (15 * (a / 15) + c) (omega arith), medium .log .top)
+    pend-small (suc c) z = omega (arith, near d (disk .stored) (medium .log .shape .stored-sound) (15 * (a / 15) + c) (omega arith), medium .log .shape .top)
 
     step : (q : ℕ) (r : Redone) → q ≤ at vs a .seq → disk .oldest ≤ at vs a .seq → Replayed a q r
         → Replayed (suc a) (at vs a .seq) (redoVer (isApplied r (at vs a)) r (at vs a)) × (isNext r (at vs a) ≡ true)
     unfolding pageOf
-    step q r hq ho f = rw (medium .pages .slot a h) (go (split (a % 15) (disk .on (a / 15))))
+    step q r hq ho f = rw (medium .pages .slots .slot a h) (go (split (a % 15) (disk .on (a / 15))))
       where
         c : ℕ
         c = max (disk .on (a / 15)) (full a (a / 15))
 
         room : a < 15 * d
-        room = omega (arith, medium .pages .room)
+        room = omega (arith, medium .pages .slots .room)
 
         here : a / 15 < d
         here = omega arith
@@ -108,7 +108,7 @@ module _ {l d : ℕ} {m : List ℕ} {disk : Disk} (medium : OnMedium l d m disk 
         end-is = ap pageEnd (f .pages (a / 15) here) ∙ end-page vs (disk .cells) (a / 15) c (pend-small c fewer)
 
         used-is : pageUsed (blk (r .cache) (a / 15)) ≡ c
-        used-is = ap pageUsed (f .pages (a / 15) here) ∙ used-page vs (disk .cells) (a / 15) c (omega (arith, fewer, medium .pages .count))
+        used-is = ap pageUsed (f .pages (a / 15) here) ∙ used-page vs (disk .cells) (a / 15) c (omega (arith, fewer, medium .pages .slots .count))
 
         go : (a % 15 < disk .on (a / 15)) ⊎ (disk .on (a / 15) ≤ a % 15)
             → Replayed (suc a) (at vs a .seq) (redoVer (ltb (pageEnd (blk (r .cache) (a / 15))) (at vs a .end)) r (at vs a))
@@ -128,11 +128,11 @@ module _ {l d : ℕ} {m : List ℕ} {disk : Disk} (medium : OnMedium l d m disk 
             same p (inr e) = rw (full-other a p e)
         go (inr z) =
             rw (lt-ltb (pageEnd (blk (r .cache) (a / 15))) (at vs a .end) (omega (arith, end-is, pend-lt c now))) (
-              rw (medium .pages .slot a h, ← (medium .pages .plain a h z)) (record {
+              rw (medium .pages .slots .slot a h, ← (medium .pages .plain a h z)) (record {
                 size = length-putVersion (r .cache) a _ _ ∙ f .size;
-                pages = cached-put d (r .cache) vs (disk .cells) a (f .size) room (medium .pages .count) (cells-sized medium) h _ (f .pages) now
+                pages = cached-put d (r .cache) vs (disk .cells) a (f .size) room (medium .pages .slots .count) (cells-sized medium) h _ (f .pages) now
                     (λ p. max (disk .on p) (full (suc a) p)) (rw full-suc (omega arith)) (λ p e. rw (full-other a p e));
-                firsts = firsts-touched d vs (disk .on) a (disk .oldest) q (r .first) (f .firsts) (at vs a .seq) refl hq ho (omega (arith, medium .master .oldest-low)) room (medium .sizes .range .pages-high);
+                firsts = firsts-touched d vs (disk .on) a (disk .oldest) q (r .first) (f .firsts) (at vs a .seq) refl hq ho (omega (arith, medium .master .fits .oldest-low)) room (medium .sizes .range .pages-high);
               }),
               eq-eqb (a % 15) _ (sym (used-is ∙ now)),
             )
@@ -196,7 +196,7 @@ module _ {l d : ℕ} {m : List ℕ} {disk : Disk} (medium : OnMedium l d m disk 
           after : Replayed (length vs) Q (redo (redoIf (applies (r .cache) y (x .end)) r y v x) xs) × (holds (redoChecks l (redoIf (applies (r .cache) y (x .end)) r y v x) xs) ≡ true)
           after =
               ih (suc a) (at vs a .seq) (redoIf (applies (r .cache) y (x .end)) r y v x) Q tail lt
-              (λ n i j. (seqs d (disk .stored) (medium .log .stored) a n i j, f n (omega arith) j .1, f n (omega arith) j .2))
+              (λ n i j. (seqs d (disk .stored) (medium .log .shape .stored-sound) a n i j, f n (omega arith) j .1, f n (omega arith) j .2))
               (f a (omega arith) lt .2)
               (subst (Replayed (suc a) (at vs a .seq)) (same (isApplied r w)) (turned .0))
 
@@ -233,7 +233,7 @@ module _ {l d : ℕ} {m : List ℕ} {disk : Disk} (medium : OnMedium l d m disk 
 
   last-block : (n : ℕ) → n < length vs → at vs n .seq ≤ length (closedOf (disk .oldest) (disk .stored))
   last-block n h =
-      let r = rw (records-taken medium) at (near d (taken disk) (medium-taken medium .log .sound) n) in
+      let r = rw (records-taken medium) at (near d (taken disk) (medium-taken medium .log .shape .sound) n) in
       omega (arith, r h, length-append (closedOf (disk .oldest) (disk .stored)) (tailOf (disk .oldest) (disk .stored) ∷ []))
 
   page-copied : (p : ℕ) → p < d → blk (pagesOn m l d) p ≡ blk m (pageBlockAt l p)
@@ -304,4 +304,4 @@ module _ {l d : ℕ} {m : List ℕ} {disk : Disk} (medium : OnMedium l d m disk 
   applied-next = done .1
 
   pub redone-used : usedIn (redone m l d .cache) d ≡ length (versionsOf (disk .stored))
-  redone-used = used-all d (redone m l d .cache) vs (disk .cells) (medium .pages .count) (medium .pages .room) redone-cache
+  redone-used = used-all d (redone m l d .cache) vs (disk .cells) (medium .pages .slots .count) (medium .pages .slots .room) redone-cache

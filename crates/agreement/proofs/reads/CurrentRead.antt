@@ -82,7 +82,7 @@ module _ {l d : ℕ} {m c : List ℕ} {s : State} {b : Book} {disk : Disk} {clos
       let q = cell-cached (u .medium) (u .cache) j h in
       let e = ap (λ (x : Cell). versionTime (timeUnder (s .places)) (x .state)) (sym q) ∙ version-time u j h in
       ap (λ (x : Cell). visible (x .state) (timeUnder (s .places)) n) q
-      ∙ seen-by (commitsOf (disk .stored)) (at (versionsOf (closed ++ (tail ∷ []))) j) (cell (disk .cells) j) (timeUnder (s .places)) n (find (commitsOf (closed ++ (tail ∷ []))) (at (versionsOf (closed ++ (tail ∷ []))) j .num) .time) (u .medium .pages .match j h) e
+      ∙ seen-by (commitsOf (disk .stored)) (at (versionsOf (closed ++ (tail ∷ []))) j) (cell (disk .cells) j) (timeUnder (s .places)) n (find (commitsOf (closed ++ (tail ∷ []))) (at (versionsOf (closed ++ (tail ∷ []))) j .num) .time) (u .medium .pages .slots .match j h) e
       ∙ ap (λ (x : Option ℕ). eqb (at (versionsOf (closed ++ (tail ∷ []))) j .num) n || isSome x) (sym (row-time u (at (versionsOf (closed ++ (tail ∷ []))) j .num)))
 
   showing-is : (n j : ℕ) (rest : Found) → j < length (versionsOf (closed ++ (tail ∷ [])))

@@ -65,7 +65,7 @@ module _ {l d : ℕ} {m c : List ℕ} {s : State} {b : Book} {disk : Disk} {clos
   -- earlier slots in the cache are true
   pub chain-cached : (n : ℕ) → n < length (versionsOf (closed ++ (tail ∷ [])))
       → cellAt c n .earlier ≡ orNone (newestOf (versionsOf (closed ++ (tail ∷ []))) (at (versionsOf (closed ++ (tail ∷ []))) n .key) n)
-  chain-cached n h = ap (λ (x : Cell). x .earlier) (cell-cached (u .medium) (u .cache) n h) ∙ cell-fields (u .medium) n h .3 ∙ u .medium .pages .chain n h
+  chain-cached n h = ap (λ (x : Cell). x .earlier) (cell-cached (u .medium) (u .cache) n h) ∙ cell-fields (u .medium) n h .3 ∙ u .medium .pages .slots .chain n h
 
   pub kind-cached : (n : ℕ) → n < length (versionsOf (closed ++ (tail ∷ []))) → cellAt c n .kind ≡ at (versionsOf (closed ++ (tail ∷ []))) n .kind
   kind-cached n h = ap (λ (x : Cell). x .kind) (cell-cached (u .medium) (u .cache) n h) ∙ cell-fields (u .medium) n h .2
@@ -74,4 +74,4 @@ module _ {l d : ℕ} {m c : List ℕ} {s : State} {b : Book} {disk : Disk} {clos
   value-cached n h = ap (λ (x : Cell). x .value) (cell-cached (u .medium) (u .cache) n h) ∙ cell-fields (u .medium) n h .4
 
   pub few-slots : length (versionsOf (closed ++ (tail ∷ []))) ≤ 65535
-  few-slots = omega (arith, u .medium .pages .room, u .medium .sizes .range .pages-high)
+  few-slots = omega (arith, u .medium .pages .slots .room, u .medium .sizes .range .pages-high)

@@ -27,7 +27,7 @@ module _ {l d : ℕ} {m c : List ℕ} {s : State} {b : Book} {disk : Disk} {clos
   pub version-time : (n : ℕ) → n < length (versionsOf (closed ++ (tail ∷ [])))
       → versionTime (timeUnder (s .places)) (cellAt c n .state) ≡ timing (find (commitsOf (closed ++ (tail ∷ []))) (at (versionsOf (closed ++ (tail ∷ []))) n .num) .time)
   unfolding versionTime
-  version-time n h = rw (cell-cached (u .medium) (u .cache) n h) (go (cell (disk .cells) n) refl (u .medium .pages .match n h))
+  version-time n h = rw (cell-cached (u .medium) (u .cache) n h) (go (cell (disk .cells) n) refl (u .medium .pages .slots .match n h))
     where
       v : LoggedVersion
       v = at (versionsOf (closed ++ (tail ∷ []))) n

@@ -30,7 +30,7 @@ use Rattle.store.specs.Checkpoint.{newOldest, leastOr, tableBlock, checkpointSt
 use Rattle.runs.specs.Book.{Book}
 use Rattle.runs.specs.Machine.{after}
 use Rattle.agreement.proofs.logging.GrowthLaws.{stored-length, tail-sequence}
-use Rattle.agreement.proofs.history.Ghost.{commitsOf, Disk, records, LoggedCommit, commitsIn, find, lastOf, count}
+use Rattle.agreement.proofs.history.Ghost.{commitsOf, Disk, records, LoggedCommit, commitsIn, find, lastOf}
 use Rattle.agreement.proofs.history.ListLaws.{split}
 use Rattle.agreement.proofs.history.CommitLaws.{last-each}
 use Rattle.agreement.proofs.history.VersionLaws.{place-commits}
@@ -101,10 +101,10 @@ module _ {l d : ℕ} {m c : List ℕ} {s : State} {b : Book} {disk : Disk} {clos
     below = oldest-high;
     pages = oldest-pages;
     early = rw (commits-split (u .medium))
-        (each-append (λ (x : LoggedCommit). x .seq < newOldest s → x .time ≤ s .saved .0) (commitsOf (disk .stored)) (commitsIn (u .medium .log .rest))
+        (each-append (λ (x : LoggedCommit). x .seq < newOldest s → x .time ≤ s .saved .0) (commitsOf (disk .stored)) (commitsIn (u .medium .log .shape .rest))
         (each-map (λ (x : LoggedCommit). x .time ≤ lastOf (commitsOf (disk .stored))) (λ (x : LoggedCommit). x .seq < newOldest s → x .time ≤ s .saved .0) (commitsOf (disk .stored)) (λ x a z. omega (arith, a, u .state .saved)) (last-each (commitsOf (disk .stored))))
-        (each-map (λ (x : LoggedCommit). (s .end .0 < x .end) × (length closed ≤ x .seq)) (λ (x : LoggedCommit). x .seq < newOldest s → x .time ≤ s .saved .0) (commitsIn (u .medium .log .rest)) (λ x a z. absurd (omega (arith, a .1, oldest-high)))
-        (place-commits (λ a q. (s .end .0 < a) × (length closed ≤ q)) (u .medium .log .rest) (rest-above (u .medium) (u .state .mark)))));
+        (each-map (λ (x : LoggedCommit). (s .end .0 < x .end) × (length closed ≤ x .seq)) (λ (x : LoggedCommit). x .seq < newOldest s → x .time ≤ s .saved .0) (commitsIn (u .medium .log .shape .rest)) (λ x a z. absurd (omega (arith, a .1, oldest-high)))
+        (place-commits (λ a q. (s .end .0 < a) × (length closed ≤ q)) (u .medium .log .shape .rest) (rest-above (u .medium) (u .state .mark)))));
     late = omega (arith, u .state .saved);
     covered = λ i h. covered-now u 0 (omega arith) (newOldest s) oldest-low oldest-high i (omega arith) (omega arith);
   }))
@@ -135,38 +135,38 @@ module _ {l d : ℕ} {m c : List ℕ} {s : State} {b : Book} {disk : Disk} {clos
         medium = record {
           sizes = record { range = u .medium .sizes .range; size = length-put m 0 master ∙ u .medium .sizes .size };
           master = record {
+            fits = record {
+              oldest-low = omega (arith, p .above, u .medium .master .fits .oldest-low);
+              oldest-high = omega (arith, p .below, u .medium .log .shape .top, length-append closed (tail ∷ []));
+              next-low = u .state .next-low;
+              next-high = u .state .next-high;
+              time-high = omega (arith, p .late, last-below (commitsOf (disk .stored)) (commits-sound d (disk .stored) (u .medium .log .shape .stored-sound)));
+            };
             block = blk-same m 0 master (length-masterBytes _) inside ∙ rw (u .state .blocks, u .state .pages);
-            oldest-low = omega (arith, p .above, u .medium .master .oldest-low);
-            oldest-high = omega (arith, p .below, u .medium .log .top, length-append closed (tail ∷ []));
-            next-low = u .state .next-low;
-            next-high = u .state .next-high;
-            time-high = omega (arith, p .late, last-below (commitsOf (disk .stored)) (commits-sound d (disk .stored) (u .medium .log .stored)));
           };
           log = record {
-            low = omega (arith, p .below, stored-length (u .state .mark));
-            high = omega (arith, p .above, u .medium .log .high);
-            front = u .medium .log .front;
-            top = u .medium .log .top;
-            sound = u .medium .log .sound;
-            stored = u .medium .log .stored;
+            shape = record {
+              low = omega (arith, p .below, stored-length (u .state .mark));
+              high = omega (arith, p .above, u .medium .log .shape .high);
+              front = u .medium .log .shape .front;
+              top = u .medium .log .shape .top;
+              sound = u .medium .log .shape .sound;
+              stored-sound = u .medium .log .shape .stored-sound;
+              rest = u .medium .log .shape .rest;
+              split = u .medium .log .shape .split;
+            };
             blocks = λ q a w. blk-other m 0 master (logBlockAt l q) (length-masterBytes _) (log-not-first l q 0 (omega arith)) ∙ u .medium .log .blocks q (omega (arith, p .above)) w;
             fresh = λ j a. rw (blk-other m 0 master (3 + j) (length-masterBytes _) (omega arith)) (u .medium .log .fresh j a);
-            rest = u .medium .log .rest;
-            split = u .medium .log .split;
           };
           pages = record {
+            slots = u .medium .pages .slots;
             few = u .medium .pages .few;
             page = λ j a. blk-other m 0 master (pageBlockAt l j) (length-masterBytes _) (page-not-first l j 0 (omega arith)) ∙ u .medium .pages .page j a;
             kept = λ n h w. let f = u .firsts .noted n h w in
-                omega (arith, f, p .pages (n / 15) (omega (arith, u .medium .pages .room)) (f .0));
-            slot = u .medium .pages .slot;
-            room = u .medium .pages .room;
-            count = u .medium .pages .count;
-            match = u .medium .pages .match;
+                omega (arith, f, p .pages (n / 15) (omega (arith, u .medium .pages .slots .room)) (f .0));
             plain = u .medium .pages .plain;
-            chain = u .medium .pages .chain;
           };
-          table = table-same m (put m 0 master) same-pair disk _ refl (u .medium .table);
+          table = table-same m (put m 0 master) same-pair (u .medium .table);
           numbers = record {
             below = each-map (λ (x : Placed). numberIn (x .rec) < s .next .0) (λ (x : Placed). x .seq < o → numberIn (x .rec) < s .next .0) (records (closed ++ (tail ∷ []))) (λ x h z. h) (u .state .numbers);
             early = p .early;

@@ -58,7 +58,7 @@ match-sized {l} {d} {m} {disk} {history} medium cells size match =
     go : (v : LoggedVersion) (x : Cell) → VersionSound d v → Match (commitsOf (disk .stored)) v x → SlotSized x
     go v x f still = record { shared = omega (arith, f .high); key = f .key; kind = f .kind; earlier = f .earlier; size = f .size; bytes = f .bytes }
     go v x f (marked t z e) = record {
-      shared = omega (arith, e, find-each (v .num) CommitSound (commitsOf (disk .stored)) (commits-sound d (disk .stored) (medium .log .stored)) (omega arith) .time-high);
+      shared = omega (arith, e, find-each (v .num) CommitSound (commitsOf (disk .stored)) (commits-sound d (disk .stored) (medium .log .shape .stored-sound)) (omega arith) .time-high);
       key = f .key;
       kind = f .kind;
       earlier = f .earlier;
@@ -303,7 +303,7 @@ module _ {l d : ℕ} {m c : List ℕ} {s : State} {b : Book} {disk : Disk} {clos
     old-state : (i : ℕ) → i < 15 → slotState (pageSlot (blk c p) i) ≡ cell (disk .cells) (15 * p + i) .state
     old-state i h =
         ap (λ (x : List ℕ). slotState (pageSlot x i)) (u .cache .pages p inside)
-        ∙ state-page (versionsOf history) (disk .cells) p i (match-sized (u .medium) (disk .cells) (u .medium .pages .count) (u .medium .pages .match)) (u .medium .pages .count) h
+        ∙ state-page (versionsOf history) (disk .cells) p i (match-sized (u .medium) (disk .cells) (u .medium .pages .slots .count) (u .medium .pages .slots .match)) (u .medium .pages .slots .count) h
 
     new-state : (i : ℕ) (page : List ℕ) (ps : List Place) → i < 15 → Here i page ps → slotState (pageSlot page i) ≡ cell (disk .cells) (15 * p + i) .state
     new-state i page ps h t =
@@ -340,11 +340,11 @@ module _ {l d : ℕ} {m c : List ℕ} {s : State} {b : Book} {disk : Disk} {clos
     unfolding stampedPage settled
     page-turned = turns 15 0 (blk c p) (s .places) (omega arith) (record {
       cells = disk .cells;
-      size = u .medium .pages .count;
+      size = u .medium .pages .slots .count;
       bytes = u .cache .pages p inside;
       off = λ n h. refl;
       ahead = λ n h. refl;
-      match = u .medium .pages .match;
+      match = u .medium .pages .slots .match;
       living = u .living;
       kept = λ i h. same;
     })

@@ -38,10 +38,10 @@ module _ {l d : ℕ} {m c : List ℕ} {s : State} {b : Book} {disk : Disk} {clos
   newDisk = withLog disk history
 
   tail-size : length (flat recordBytes tail) ≡ sizeOf tail
-  tail-size = size-flat tail (sound-sized d tail (each-right (BlockSound d) closed (tail ∷ []) (u .medium .log .sound) .0 .each))
+  tail-size = size-flat tail (sound-sized d tail (each-right (BlockSound d) closed (tail ∷ []) (u .medium .log .shape .sound) .0 .each))
 
   tail-fits : length (flat recordBytes tail) ≤ 502
-  tail-fits = omega (arith, tail-size, each-right (BlockSound d) closed (tail ∷ []) (u .medium .log .sound) .0 .fits)
+  tail-fits = omega (arith, tail-size, each-right (BlockSound d) closed (tail ∷ []) (u .medium .log .shape .sound) .0 .fits)
 
   medium-is : storedTail (s .blocks) m (s .tail) ≡ medium
   unfolding storedTail
@@ -63,7 +63,7 @@ module _ {l d : ℕ} {m c : List ℕ} {s : State} {b : Book} {disk : Disk} {clos
   pairs = pairs-stay (u .medium) (u .state .ring-low) (u .state .ring-high) (u .state .mark)
 
   later : lastOf (commitsOf (disk .stored)) ≤ lastOf (commitsOf history)
-  later = omega (arith, ap lastOf (commits-split (u .medium)), last-append (commitsOf (disk .stored)) (commitsIn (u .medium .log .rest)))
+  later = omega (arith, ap lastOf (commits-split (u .medium)), last-append (commitsOf (disk .stored)) (commitsIn (u .medium .log .shape .rest)))
 
   log-up : Up l d medium c (logStored s) (record { opened = b .opened; rows = b .rows; stored = length (b .rows) }) newDisk closed tail
   unfolding logStored

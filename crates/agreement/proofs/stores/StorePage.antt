@@ -85,7 +85,7 @@ module _ {l d : ℕ} {m c : List ℕ} {s : State} {b : Book} {disk : Disk} {clos
             let lt : 15 * p + x < length (versionsOf history) = omega (arith, e) in
             let z : pageEnd (blk c p) ≡ at (versionsOf history) (15 * p + x) .end =
             ap pageEnd (u .cache .pages p inside ∙ ap (λ (y : ℕ). pageWith (versionsOf history) (disk .cells) p y) e)
-            ∙ end-page (versionsOf history) (disk .cells) p (suc x) (omega (arith, near d history (u .medium .log .sound) (15 * p + x) lt, u .medium .log .top)) in
+            ∙ end-page (versionsOf history) (disk .cells) p (suc x) (omega (arith, near d history (u .medium .log .shape .sound) (15 * p + x) lt, u .medium .log .shape .top)) in
             omega (arith, version-marked (u .medium) (u .state .mark) (15 * p + x) lt (omega (arith, z, ended)))
 
     abbrev page : List ℕ
@@ -128,7 +128,7 @@ module _ {l d : ℕ} {m c : List ℕ} {s : State} {b : Book} {disk : Disk} {clos
 
     other-page : (q x : ℕ) → q ≢ p → x ≤ 15 → pageWith (versionsOf history) (disk .cells) q x ≡ pageWith (versionsOf history) (turned .cells) q x
     other-page q x e h =
-        pageWith-ext (versionsOf history) (disk .cells) (turned .cells) q x (u .medium .pages .count ∙ sym (turned .size))
+        pageWith-ext (versionsOf history) (disk .cells) (turned .cells) q x (u .medium .pages .slots .count ∙ sym (turned .size))
         (λ i a. sym (turned .off (15 * q + i) (omega arith)))
 
     few′ : (q : ℕ) → (q ≡ p) ⊎ (q ≢ p) → (on q ≤ 15) × (on q ≤ length (versionsOf (disk .stored)) - 15 * q)
@@ -165,60 +165,31 @@ module _ {l d : ℕ} {m c : List ℕ} {s : State} {b : Book} {disk : Disk} {clos
       medium = record {
         sizes = record { range = u .medium .sizes .range; size = length-put m place page ∙ u .medium .sizes .size };
         master = record {
+          fits = u .medium .master .fits;
           block = blk-other m place page 0 page-length (λ e. omega (arith, page-block-low l p)) ∙ u .medium .master .block;
-          oldest-low = u .medium .master .oldest-low;
-          oldest-high = u .medium .master .oldest-high;
-          next-low = u .medium .master .next-low;
-          next-high = u .medium .master .next-high;
-          time-high = u .medium .master .time-high;
         };
         log = record {
-          low = u .medium .log .low;
-          high = u .medium .log .high;
-          front = u .medium .log .front;
-          top = u .medium .log .top;
-          sound = u .medium .log .sound;
-          stored = u .medium .log .stored;
+          shape = u .medium .log .shape;
           blocks = λ q a h. blk-other m place page (logBlockAt l q) page-length (log-page-apart l q p (omega (arith, u .medium .sizes .range .blocks-low))) ∙ u .medium .log .blocks q a h;
           fresh = λ j h. rw (blk-other m place page (3 + j) page-length (λ e. omega (arith, page-block-low l p))) (u .medium .log .fresh j h);
-          rest = u .medium .log .rest;
-          split = u .medium .log .split;
         };
         pages = record {
+          slots = record {
+            slot = u .medium .pages .slots .slot;
+            room = u .medium .pages .slots .room;
+            count = turned .size;
+            match = turned .match;
+            chain = u .medium .pages .slots .chain;
+          };
           few = λ q. few′ q (same? q p);
           page = λ q h. page′ q h (same? q p);
           kept = λ n h z. u .medium .pages .kept n h (absent n h z .1);
-          slot = u .medium .pages .slot;
-          room = u .medium .pages .room;
-          count = turned .size;
-          match = turned .match;
           plain = λ n h z. turned .off n (absent n h z .0) ∙ u .medium .pages .plain n h (absent n h z .1);
-          chain = u .medium .pages .chain;
         };
-        table = table-same m newMedium pairs disk newDisk refl (u .medium .table);
-        numbers = record {
-          below = u .medium .numbers .below;
-          early = u .medium .numbers .early;
-          late = u .medium .numbers .late;
-          rising = u .medium .numbers .rising;
-          once = u .medium .numbers .once;
-          steady = u .medium .numbers .steady;
-        };
+        table = table-same m newMedium pairs (u .medium .table);
+        numbers = u .medium .numbers;
       };
-      state = record {
-        blocks = u .state .blocks;
-        pages = u .state .pages;
-        slots = u .state .slots;
-        tail-block = u .state .tail-block;
-        ring-low = u .state .ring-low;
-        ring-high = u .state .ring-high;
-        mark = u .state .mark;
-        last = u .state .last;
-        saved = u .state .saved;
-        next-low = u .state .next-low;
-        next-high = u .state .next-high;
-        numbers = u .state .numbers;
-      };
+      state = u .state;
       cache = record { size = length-put c p page ∙ u .cache .size; pages = λ q h. cache′ q h (same? q p) };
       firsts = firsts-cleared (u .firsts) p (omega (arith, inside, u .medium .sizes .range .pages-high));
       living = living-same m newMedium pairs (turned .living);

@@ -29,7 +29,7 @@ use Rattle.store.specs.Checkpoint.{noPair, pairBelow, pairsFrom, tableBlock}
 use Rattle.runs.proofs.OneBlock.{length-pairsFrom}
 use Rattle.runs.specs.Book.{Book}
 use Rattle.agreement.proofs.history.Ghost.{commitsOf, Disk, LoggedCommit, find, count}
-use Rattle.agreement.proofs.history.ListLaws.{split, same?}
+use Rattle.agreement.proofs.history.ListLaws.{same?}
 use Rattle.agreement.proofs.history.CommitLaws.{find-each, find-last}
 use Rattle.agreement.proofs.history.VersionLaws.{near-commits}
 use Rattle.agreement.proofs.invariant.MediumFacts.{last-high}
@@ -84,7 +84,7 @@ module _ {l d : ℕ} {m c : List ℕ} {s : State} {b : Book} {disk : Disk} {clos
       near-find : (512 * find cs (numAt (s .places) i) .seq + 10 < find cs (numAt (s .places) i) .end) × (find cs (numAt (s .places) i) .end ≤ 512 * find cs (numAt (s .places) i) .seq + 512) × (find cs (numAt (s .places) i) .seq < length (closed ++ (tail ∷ [])))
       near-find =
           find-each (numAt (s .places) i) (λ (x : LoggedCommit). (512 * x .seq + 10 < x .end) × (x .end ≤ 512 * x .seq + 512) × (x .seq < length (closed ++ (tail ∷ [])))) cs
-          (near-commits d (closed ++ (tail ∷ [])) (u .medium .log .sound)) (omega (arith, u .living .each i h .over z))
+          (near-commits d (closed ++ (tail ∷ [])) (u .medium .log .shape .sound)) (omega (arith, u .living .each i h .over z))
 
       go : (lifeEnd (placeAt (s .places) i .life) ≡ find cs (numAt (s .places) i) .end) ⊎ ((lifeEnd (placeAt (s .places) i .life) ≡ 0) × (find cs (numAt (s .places) i) .seq < disk .oldest))
           → (lifeEnd (placeAt (s .places) i .life) ≤ 512 * o → find cs (numAt (s .places) i) .seq < o) × (find cs (numAt (s .places) i) .seq < o → lifeEnd (placeAt (s .places) i .life) ≤ 512 * o)
@@ -139,7 +139,7 @@ module _ {l d : ℕ} {m c : List ℕ} {s : State} {b : Book} {disk : Disk} {clos
       num-low : (i : ℕ) → i < 64 → 0 < timeAt (s .places) i → 0 < numAt (s .places) i
       num-low i h z = life-low (placeAt (s .places) i .life) (u .living .each i h .formed) z
 
-  pub table-on : TableOn m′ disk
+  pub table-on : TableOn m′ (disk .stored)
   table-on = record {
     pair = λ i h. pair′ i h (case i h);
     vacant = λ i h. vacant′ i h (case i h);
@@ -175,35 +175,20 @@ module _ {l d : ℕ} {m c : List ℕ} {s : State} {b : Book} {disk : Disk} {clos
   medium-tabled = record {
     sizes = record { range = u .medium .sizes .range; size = length-put m (1 + t) new ∙ u .medium .sizes .size };
     master = record {
+      fits = u .medium .master .fits;
       block = blk-other m (1 + t) new 0 length-new (omega arith) ∙ u .medium .master .block;
-      oldest-low = u .medium .master .oldest-low;
-      oldest-high = u .medium .master .oldest-high;
-      next-low = u .medium .master .next-low;
-      next-high = u .medium .master .next-high;
-      time-high = u .medium .master .time-high;
     };
     log = record {
-      low = u .medium .log .low;
-      high = u .medium .log .high;
-      front = u .medium .log .front;
-      top = u .medium .log .top;
-      sound = u .medium .log .sound;
-      stored = u .medium .log .stored;
+      shape = u .medium .log .shape;
       blocks = λ q a e. blk-other m (1 + t) new (logBlockAt l q) length-new (log-not-first l q (1 + t) (omega arith)) ∙ u .medium .log .blocks q a e;
       fresh = λ j a. rw (blk-other m (1 + t) new (3 + j) length-new (omega arith)) (u .medium .log .fresh j a);
-      rest = u .medium .log .rest;
-      split = u .medium .log .split;
     };
     pages = record {
+      slots = u .medium .pages .slots;
       few = u .medium .pages .few;
       page = λ p a. blk-other m (1 + t) new (pageBlockAt l p) length-new (page-not-first l p (1 + t) (omega arith)) ∙ u .medium .pages .page p a;
       kept = u .medium .pages .kept;
-      slot = u .medium .pages .slot;
-      room = u .medium .pages .room;
-      count = u .medium .pages .count;
-      match = u .medium .pages .match;
       plain = u .medium .pages .plain;
-      chain = u .medium .pages .chain;
     };
     table = table-on;
     numbers = u .medium .numbers;
@@ -247,20 +232,7 @@ module _ {l d : ℕ} {m c : List ℕ} {s : State} {b : Book} {disk : Disk} {clos
   unfolding withPhase
   tabled-up ph p = record {
     medium = medium-tabled;
-    state = record {
-      blocks = u .state .blocks;
-      pages = u .state .pages;
-      slots = u .state .slots;
-      tail-block = u .state .tail-block;
-      ring-low = u .state .ring-low;
-      ring-high = u .state .ring-high;
-      mark = u .state .mark;
-      last = u .state .last;
-      saved = u .state .saved;
-      next-low = u .state .next-low;
-      next-high = u .state .next-high;
-      numbers = u .state .numbers;
-    };
+    state = u .state;
     cache = u .cache;
     firsts = u .firsts;
     living = living-tabled;

@@ -57,7 +57,7 @@ module _ {l d : ℕ} {m c : List ℕ} {s : State} {b : Book} {disk : Disk} {clos
   -- all its versions wait
   pub all-wait : (j : ℕ) → j < length (versionsOf (closed ++ (tail ∷ []))) → at (versionsOf (closed ++ (tail ∷ []))) j .num ≡ n
       → cell (disk .cells) j ≡ waitingCell (at (versionsOf (closed ++ (tail ∷ []))) j)
-  all-wait j h e = go (at (versionsOf (closed ++ (tail ∷ []))) j) (cell (disk .cells) j) e (u .medium .pages .match j h)
+  all-wait j h e = go (at (versionsOf (closed ++ (tail ∷ []))) j) (cell (disk .cells) j) e (u .medium .pages .slots .match j h)
     where
       go : (v : LoggedVersion) (x : Cell) → v .num ≡ n → Match (commitsOf (disk .stored)) v x → x ≡ waitingCell v
       go v x e still = refl

@@ -167,7 +167,7 @@ module _ {l d : ℕ} {m c : List ℕ} {s : State} {b : Book} {disk : Disk} {clos
       -- a committed number is not 0, so it is at another place
       elsewhere : (x j : ℕ) → 0 < find (commitsOf history) x .time → numAt (s .places) j ≡ x → j ≡ i → ⊥
       elsewhere x j z e y =
-          let low : 1 ≤ find (commitsOf history) x .num = find-each x CommitSound (commitsOf history) (commits-sound d history (u .medium .log .sound)) z .low in
+          let low : 1 ≤ find (commitsOf history) x .num = find-each x CommitSound (commitsOf history) (commits-sound d history (u .medium .log .shape .sound)) z .low in
           let q : numAt (s .places) j ≡ numAt (s .places) i = ap (numAt (s .places)) y in
           omega (arith, low, find-num x (commitsOf history) z, q, vacant, e)
 
@@ -205,20 +205,7 @@ module _ {l d : ℕ} {m c : List ℕ} {s : State} {b : Book} {disk : Disk} {clos
       let lone : find (commitsOf (closed ++ (tail ∷ []))) n .time ≡ 0 = rw (a .2) at (u .living .each i h .unended (omega (arith, a .2, a .1)) (a .3)) in
       running (record {
         medium = u .medium;
-        state = record {
-          blocks = u .state .blocks;
-          pages = u .state .pages;
-          slots = u .state .slots;
-          tail-block = u .state .tail-block;
-          ring-low = u .state .ring-low;
-          ring-high = u .state .ring-high;
-          mark = u .state .mark;
-          last = u .state .last;
-          saved = u .state .saved;
-          next-low = u .state .next-low;
-          next-high = u .state .next-high;
-          numbers = u .state .numbers;
-        };
+        state = u .state;
         cache = u .cache;
         firsts = u .firsts;
         living = living-set (u .living) m _ _ _ _ i h freePlace

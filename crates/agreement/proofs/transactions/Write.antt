@@ -91,7 +91,7 @@ module _ {l d : ℕ} {m c : List ℕ} {s : State} {b : Book} {disk : Disk} {clos
         place = own .place;
         unended = own .unended;
         waits = λ z. rw (active-num u n i f, count-same me (disk .cells), active-waits u n i f)
-            (omega (arith, count-small n (disk .cells), u .medium .pages .count, u .medium .pages .room, u .medium .sizes .range .pages-high));
+            (omega (arith, count-small n (disk .cells), u .medium .pages .slots .count, u .medium .pages .slots .room, u .medium .sizes .range .pages-high));
         busy = λ z. omega arith;
       })
       (λ j h e. other j h (elsewhere u n i f j h e) (u .living .each j h))
@@ -194,10 +194,10 @@ module _ {l d : ℕ} {m c : List ℕ} {s : State} {b : Book} {disk : Disk} {clos
       numbers = rw (g .grown) (each-append (λ (y : Placed). numberIn (y .rec) < s .next .0) (records (closed ++ (tail ∷ []))) _ (u .state .numbers) (active-next u n i f, tt));
     };
     cache = rw new-vs (subst (λ (x : ℕ). CacheIs d (putVersion c x (tailEnd (lg .tail) .0) (waitingCell me)) (versionsOf (closed ++ (tail ∷ [])) ++ (me ∷ [])) (disk .cells ++ (waitingCell me ∷ []))) (sym (u .state .slots))
-        (cache-more d c (versionsOf (closed ++ (tail ∷ []))) (disk .cells) me (waitingCell me) (u .cache) (u .medium .pages .count) (omega (arith, u .state .slots)) (cells-sized medium′)));
+        (cache-more d c (versionsOf (closed ++ (tail ∷ []))) (disk .cells) me (waitingCell me) (u .cache) (u .medium .pages .slots .count) (omega (arith, u .state .slots)) (cells-sized medium′)));
     firsts = rw new-vs (subst (λ (x : ℕ). Firsts d (versionsOf (closed ++ (tail ∷ [])) ++ (me ∷ [])) (disk .on) (length (versionsOf (closed ++ (tail ∷ [])) ++ (me ∷ []))) (disk .oldest) (length (g .closed′)) (touched (s .first) (pageOf x) (sequenceOf (lg .tail))))
         (sym (u .state .slots)) (rw tail-is (firsts-more d (versionsOf (closed ++ (tail ∷ []))) me (disk .on) (disk .oldest) (length closed) (length (g .closed′)) (s .first) (u .firsts) refl (g .below) (recent u g)
-        (omega (arith, (recent u g), u .medium .master .oldest-low)) (omega (arith, u .state .slots)) (u .medium .sizes .range .pages-high))));
+        (omega (arith, (recent u g), u .medium .master .fits .oldest-low)) (omega (arith, u .state .slots)) (u .medium .sizes .range .pages-high))));
     living = rw old-cs living′;
     opens = rw new-vs opens′;
     phase = rw old-cs (phase-map (s .phase) d m (lg .medium) disk (withCell (withLog disk (g .stored′)) (waitingCell me)) (commitsOf (closed ++ (tail ∷ []))) (commitsOf (closed ++ (tail ∷ [])))
@@ -217,7 +217,7 @@ module _ {l d : ℕ} {m c : List ℕ} {s : State} {b : Book} {disk : Disk} {clos
   earlier-high key = rw (newest-is u key) (go (newestOf (versionsOf (closed ++ (tail ∷ []))) key (length (versionsOf (closed ++ (tail ∷ []))))) refl)
     where
       go : (x : Found) → newestOf (versionsOf (closed ++ (tail ∷ []))) key (length (versionsOf (closed ++ (tail ∷ [])))) ≡ x → orNone x < 65536
-      go (At j) e = omega (arith, newest-at (versionsOf (closed ++ (tail ∷ []))) key (length (versionsOf (closed ++ (tail ∷ [])))) j e .below, u .medium .pages .room, u .medium .sizes .range .pages-high)
+      go (At j) e = omega (arith, newest-at (versionsOf (closed ++ (tail ∷ []))) key (length (versionsOf (closed ++ (tail ∷ [])))) j e .below, u .medium .pages .slots .room, u .medium .sizes .range .pages-high)
       go Nothing e = omega arith
 
   not-true : (x : Bool) → not x ≡ true → x ≡ false
