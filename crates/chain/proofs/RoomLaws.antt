@@ -1,5 +1,7 @@
--- A slot below the room lies within the cache, and its fields lie at fixed places in it. Assumes nothing.
+-- A slot below the room lies within the cache, and its fields lie at fixed places in it; a state that fits has room for
+-- its slots. Assumes nothing.
 use mathlib.Core.Path.{_≡_, ap, subst}
+use mathlib.Core.Bool.{true}
 use Prim.Native.Nat.{ℕ, suc, _+_, _-_, _≤_, _<_}
 use native.Mathlib.Omega.{arith}
 use mathlib.Core.List.{List}
@@ -7,20 +9,30 @@ use lib.ListN.{take, drop, getD}
 use lib.Seq.{getD-take, getD-drop}
 use Rattle.layout.specs.Field.{dec}
 use Rattle.layout.specs.Part.{part}
-use Rattle.layout.specs.Block.{slotAt}
+use Rattle.layout.specs.Block.{slotAt, cacheLength}
 use Rattle.layout.specs.Page.{cacheSlot}
 use Rattle.layout.specs.Slot.{slotState, cellOf}
 use Rattle.layout.specs.declared.slot.Slot.{Slot}
 use Rattle.layout.proofs.PartLaws.{lent-part, part-part}
 use Rattle.store.specs.declared.Found.{Found}
 use Rattle.store.specs.declared.Found.the-variants.{At}
+use Rattle.store.specs.declared.State.{State}
 use Rattle.store.specs.Chain.{cellAt}
+use Rattle.store.specs.State.{fits}
+use Rattle.store.proofs.FitLaws.{fit-of}
 use Rattle.chain.specs.Room.{Room, Head}
 
 -- the bytes of a slot end within the cache
 pub slot-room : (l n : ℕ) → Room l (suc n) → slotAt n + 32 ≤ l
 unfolding slotAt
 slot-room l n r = omega arith
+
+-- a state that fits has room for its slots
+pub fit-room : (s : State) (m c : ℕ) → fits s m c ≡ true → Room c (s .slots)
+unfolding cacheLength
+fit-room s m c e =
+    let f = fit-of s m c e in
+    record { pages = s .pages; few = f .range .pages-high; size = f .cache; below = f .slots }
 
 -- room for a slot is room for a lower one
 pub room-lower : (l n m : ℕ) → Room l n → m ≤ n → Room l m

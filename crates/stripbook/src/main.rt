@@ -89,8 +89,8 @@ fn read_some(run: Run, medium: &mut [u8], cache: &mut [u8]) -> Run {
 fn main() {
     let mut medium = [0u8; 4608];
     let mut cache = [0u8; 1024];
-    calls::format::format(&mut medium, 4, 2);
-    let opened = calls::open::open(&medium, &mut cache, 4, 2);
+    media::format::format(&mut medium, 4, 2);
+    let opened = media::open::open(&medium, &mut cache, 4, 2);
     let state = opened.state;
     let mut run = Run {
         line: line::empty(),

@@ -94,13 +94,13 @@ fn put_result(out: &mut [u8], n: usize, s: Shown) -> usize {
 pub fn change(line: Line, s: State, medium: &mut [u8], cache: &mut [u8]) -> Ended {
     let letter = line.letter;
     match letter {
-        b'B' => calls::begin::begin(s, medium, cache, line.last),
+        b'B' => transactions::begin::begin(s, medium, cache, line.last),
         b'W' => {
             let value = [(line.last % 256) as u8; 16];
             let record = (line.second_last % 256) as u8;
-            calls::write::write(s, medium, cache, line.third_last, record, value)
+            transactions::write::write(s, medium, cache, line.third_last, record, value)
         }
-        b'C' => calls::commit::commit(s, medium, cache, line.second_last, line.last),
+        b'C' => transactions::commit::commit(s, medium, cache, line.second_last, line.last),
         _ => cut(medium, cache),
     }
 }
@@ -108,13 +108,13 @@ pub fn change(line: Line, s: State, medium: &mut [u8], cache: &mut [u8]) -> Ende
 // A power cut, and opening again: state and cache are lost.
 fn cut(medium: &[u8], cache: &mut [u8]) -> Ended {
     layout::block::clear(cache);
-    calls::open::open(medium, cache, 4, 2)
+    media::open::open(medium, cache, 4, 2)
 }
 
 // Makes a query, which leaves the state as it is, and prints what it answers.
 pub fn query(line: Line, s: State, medium: &[u8], cache: &[u8], out: &mut [u8], n: usize) -> usize {
     let record = (line.second_last % 256) as u8;
-    let r = calls::as_of::as_of(s, medium, cache, record, line.last);
+    let r = reads::as_of::as_of(s, medium, cache, record, line.last);
     let answer = r.answer;
     put(out, n, b'Q', answer, r.value[0])
 }

@@ -1,24 +1,25 @@
 -- What the functions of the tail need of its definitions: the bounds of its numbers, what may be logged, and what a fitting
 -- state gives. Assumes nothing.
-use mathlib.Core.Path.{_≡_, ap, _∙_}
-use mathlib.Core.Bool.{true, false, _&&_}
+use mathlib.Core.Path.{_≡_, refl, ap, _∙_}
+use mathlib.Core.Bool.{Bool, true, false, _&&_}
 use mathlib.Core.List.{List}
 use Prim.Native.Nat.{ℕ, _+_, _*_, _^_, _≤_, _<_}
 use native.Mathlib.Omega.{arith}
 use lib.ListN.{length, drop, length-take}
-use lib.Dec.{eqb, leb, ltb}
-use borrow.Author.Tests.{ltb-true, leb-true, eqb-true, lt-ltb, le-ltb}
-use Rattle.layout.specs.Block.{mediumLength, cacheLength, endPlace}
+use lib.Dec.{ltb}
+use borrow.Author.Tests.{ltb-true, leb-true, lt-ltb, le-ltb}
+use Rattle.layout.specs.Block.{endPlace}
 use Rattle.layout.specs.Part.{part}
-use Rattle.layout.specs.Journal.{Record, recordSize, sequenceOf, usedOf, addRecord}
+use Rattle.layout.specs.Journal.{Record, recordSize, sequenceOf, usedOf, emptyBlock, addRecord}
 use Rattle.layout.specs.Master.{oldestOn}
-use Rattle.layout.proofs.Choose.{and-0, and-1}
+use Rattle.layout.proofs.Choose.{and-1}
 use Rattle.layout.proofs.FieldLaws.{Bytes, bytes-take, bytes-drop, dec-lt}
-use Rattle.layout.proofs.JournalLaws.{length-emptyBlock, used-emptyBlock}
+use Rattle.layout.proofs.JournalLaws.{length-emptyBlock, sequence-emptyBlock, used-emptyBlock, sequence-addRecord}
 use Rattle.layout.specs.declared.EndPlace.{EndPlace}
 use Rattle.store.specs.declared.State.{State}
-use Rattle.store.specs.State.{inRange, fits}
+use Rattle.store.specs.State.{fits}
 use Rattle.store.specs.Tail.{tailFits, mayLog, tailEnd, storedTail, logged, loggedIf}
+use Rattle.store.proofs.FitLaws.{fit-of}
 use Rattle.tail.specs.Taken.{Ready, taken, begun}
 
 -- a number of two bytes
@@ -96,31 +97,35 @@ pub took-behind : (s u : State) (m n : List ℕ) (r : Record) (t : List ℕ) →
 unfolding taken logged loggedIf begun
 took-behind s u m n r t f eu en et = (simp (f, et, eu), simp (f, en))
 
+-- ---- the sequence of a tail that took a record is one that an end place can hold
+
+pub sequence-logged : (s t : State) (m : List ℕ) (c k : ℕ) (r : Record) → fits s k c ≡ true → mayLog s m (recordSize r) ≡ true
+    → t ≡ taken s (logged s m r) → sequenceOf (t .tail) < 2 ^ 48
+unfolding taken logged loggedIf
+sequence-logged s t m c k r f w e = rw e (by (tailFits (s .tail) (recordSize r)) refl)
+  where
+    by : (b : Bool) → tailFits (s .tail) (recordSize r) ≡ b → sequenceOf (loggedIf b s m r .tail) < 2 ^ 48
+    by true x =
+        let h = fit-of s k c f in
+        let u = h .tail .used-low in
+        rw (sequence-addRecord (s .tail) r (omega arith)) (h .tail .sequence-high)
+    by false x =
+        let n = sequenceOf (s .tail) + 1 in
+        let l : n < 2 ^ 48 = may-begin s m (recordSize r) w x in
+        let u : 8 ≤ usedOf (emptyBlock n) = rw (used-emptyBlock n) (omega arith) in
+        rw (sequence-addRecord (emptyBlock n) r u, sequence-emptyBlock n (omega arith)) l
+
 -- ---- what a fitting state gives
 
 pub ready : (s : State) (m c : ℕ) → fits s m c ≡ true → Ready s m
-unfolding fits inRange
 ready s m c e =
-    let u = usedOf (s .tail) in
-    let q = sequenceOf (s .tail) in
-    let l = s .blocks in
-    let d = s .pages in
-    let r = and-0 (leb 2 l && (leb l 32 && (leb 1 d && leb d 64))) _ e in
-    let r₁ = and-1 (leb 2 l) _ r in
-    let r₂ = and-1 (leb l 32) _ r₁ in
-    let e₁ = and-1 (leb 2 l && (leb l 32 && (leb 1 d && leb d 64))) _ e in
-    let e₂ = and-1 (eqb m (mediumLength l d)) _ e₁ in
-    let e₃ = and-1 (eqb c (cacheLength d)) _ e₂ in
-    let e₄ = and-1 (leb (s .slots) (15 * d)) _ e₃ in
-    let e₅ = and-1 (leb 10 u) _ e₄ in
-    let e₆ = and-1 (leb u 512) _ e₅ in
-    let e₇ = and-1 (leb 1 q) _ e₆ in
+    let f = fit-of s m c e in
     record {
-      low = leb-true 2 l (and-0 (leb 2 l) _ r);
-      high = leb-true l 32 (and-0 (leb l 32) _ r₁);
-      pages = leb-true d 64 (and-1 (leb 1 d) _ r₂);
-      medium = eqb-true m _ (and-0 (eqb m (mediumLength l d)) _ e₁);
-      used = leb-true 10 u (and-0 (leb 10 u) _ e₄);
-      room = leb-true u 512 (and-0 (leb u 512) _ e₅);
-      sequence = ltb-true q (2 ^ 48) (and-0 (ltb q (2 ^ 48)) _ e₇);
+      low = f .range .blocks-low;
+      high = f .range .blocks-high;
+      pages = f .range .pages-high;
+      medium = f .medium;
+      used = f .tail .used-low;
+      room = f .tail .used-high;
+      sequence = f .tail .sequence-high;
     }
