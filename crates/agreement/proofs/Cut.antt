@@ -84,10 +84,7 @@ module _ {l d : ℕ} {m c : List ℕ} {s : State} {b : Book} {disk : Disk} {clos
   cut-down = record {
     medium = record {
       sizes = u .medium .sizes;
-      master = record {
-        fits = u .medium .master .fits;
-        block = u .medium .master .block;
-      };
+      master = u .medium .master;
       log = record {
         shape = record {
           low = u .medium .log .shape .low;

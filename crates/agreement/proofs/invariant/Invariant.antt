@@ -26,7 +26,7 @@ use Rattle.store.specs.OpenLog.{Placed, numberIn}
 use Rattle.store.proofs.FitLaws.{InRange}
 use Rattle.runs.specs.Book.{Book, Opened, isOpen, clockOf as clockIn}
 use Rattle.runs.specs.Machine.{World, up, down}
-use Rattle.agreement.proofs.history.Ghost.{versionsOf, commitsOf, sizeOf, BlockSound, records, LoggedVersion, at, newestOf, LoggedCommit, find, lastOf, Rising, Once, cell, waitingCell, Match, count, pageWith, full, rowsIn, Disk}
+use Rattle.agreement.proofs.history.Ghost.{commitsIn, versionsIn, versionsOf, commitsOf, sizeOf, BlockSound, records, LoggedVersion, at, newestOf, LoggedCommit, find, lastOf, Rising, Once, cell, waitingCell, Match, count, pageWith, full, rowsIn, Disk}
 
 -- ==== the medium
 
@@ -34,9 +34,9 @@ pub record SizesOn (l d : ℕ) (m : List ℕ) : Type 0 where
   pub range : InRange l d
   pub size : length m ≡ mediumLength l d
 
-abbrev pub masterFields : ℕ → ℕ → Disk → Fields
-masterFields l d k =
-    record { blocks = l; pages = d; oldest = k .oldest; next = record { 0 = k .next }; last = record { 0 = k .time } }
+abbrev pub masterFields : ℕ → ℕ → ℕ → ℕ → ℕ → Fields
+masterFields l d oldest next time =
+    record { blocks = l; pages = d; oldest = oldest; next = record { 0 = next }; last = record { 0 = time } }
 
 -- the master's three numbers fit their fields
 pub record MasterFits (oldest next time : ℕ) : Type 0 where
@@ -46,9 +46,9 @@ pub record MasterFits (oldest next time : ℕ) : Type 0 where
   pub next-high : next < 2 ^ 64
   pub time-high : time < 2 ^ 64
 
-pub record MasterOn (l d : ℕ) (m : List ℕ) (disk : Disk) : Type 0 where
-  pub block : blk m 0 ≡ masterBytes (masterFields l d disk)  -- so oldestOn, nextOn and timeOn are the disk's: MediumFacts
-  pub fits : MasterFits (disk .oldest) (disk .next) (disk .time)
+pub record MasterOn (l d : ℕ) (m : List ℕ) (oldest next time : ℕ) : Type 0 where
+  pub block : blk m 0 ≡ masterBytes (masterFields l d oldest next time)  -- so oldestOn, nextOn and timeOn are these: MediumFacts
+  pub fits : MasterFits oldest next time
 
 -- which blocks of the history are stored
 pub record LogShape (l d oldest : ℕ) (stored history : List (List Record)) : Type 0 where
@@ -61,26 +61,26 @@ pub record LogShape (l d oldest : ℕ) (stored history : List (List Record)) : T
   pub rest : List Placed  -- the records that are not stored
   pub split : records history ≡ records stored ++ rest
 
-pub record LogOn (l d : ℕ) (m : List ℕ) (disk : Disk) (history : List (List Record)) : Type 0 where
-  pub shape : LogShape l d (disk .oldest) (disk .stored) history
-  pub blocks : (q : ℕ) → disk .oldest ≤ q → q < length (disk .stored) → blk m (logBlockAt l q) ≡ logBytes q (getD (disk .stored) q [])
-  pub fresh : (j : ℕ) → j < l → sequenceOf (blk m (3 + j)) < length (disk .stored)  -- so reading stops where it should
+pub record LogOn (l d : ℕ) (m : List ℕ) (oldest : ℕ) (stored history : List (List Record)) : Type 0 where
+  pub shape : LogShape l d oldest stored history
+  pub blocks : (q : ℕ) → oldest ≤ q → q < length stored → blk m (logBlockAt l q) ≡ logBytes q (getD stored q [])
+  pub fresh : (j : ℕ) → j < l → sequenceOf (blk m (3 + j)) < length stored  -- so reading stops where it should
 
--- the slots of all versions, whichever pages hold them
-pub record SlotsAre (d : ℕ) (stored history : List (List Record)) (cells : List Cell) : Type 0 where
-  pub slot : (n : ℕ) → n < length (versionsOf history) → at (versionsOf history) n .slot ≡ n
-  pub room : length (versionsOf history) ≤ 15 * d
-  pub count : length cells ≡ length (versionsOf history)
-  pub match : (n : ℕ) → n < length (versionsOf history) → Match (commitsOf stored) (at (versionsOf history) n) (cell cells n)  -- stamps are stored commits' times
-  pub chain : (n : ℕ) → n < length (versionsOf history)
-      → at (versionsOf history) n .earlier ≡ orNone (newestOf (versionsOf history) (at (versionsOf history) n .key) n)  -- earlier slots are true
+-- the slots of the versions vs, whichever pages hold them; cs are the stored commits
+pub record SlotsAre (d : ℕ) (cs : List LoggedCommit) (vs : List LoggedVersion) (cells : List Cell) : Type 0 where
+  pub slot : (n : ℕ) → n < length vs → at vs n .slot ≡ n
+  pub room : length vs ≤ 15 * d
+  pub count : length cells ≡ length vs
+  pub match : (n : ℕ) → n < length vs → Match cs (at vs n) (cell cells n)  -- stamps are stored commits' times
+  pub chain : (n : ℕ) → n < length vs
+      → at vs n .earlier ≡ orNone (newestOf vs (at vs n .key) n)  -- earlier slots are true
 
-pub record PagesOn (l d : ℕ) (m : List ℕ) (disk : Disk) (history : List (List Record)) : Type 0 where
-  pub slots : SlotsAre d (disk .stored) history (disk .cells)
-  pub few : (p : ℕ) → (disk .on p ≤ 15) × (disk .on p ≤ length (versionsOf (disk .stored)) - 15 * p)  -- pages hold stored versions only
-  pub page : (p : ℕ) → p < d → blk m (pageBlockAt l p) ≡ pageWith (versionsOf history) (disk .cells) p (disk .on p)
-  pub kept : (n : ℕ) → n < length (versionsOf history) → disk .on (n / 15) ≤ n % 15 → disk .oldest ≤ at (versionsOf history) n .seq  -- what no page has is in the log
-  pub plain : (n : ℕ) → n < length (versionsOf history) → disk .on (n / 15) ≤ n % 15 → cell (disk .cells) n ≡ waitingCell (at (versionsOf history) n)  -- what redo will write
+pub record PagesOn (l d : ℕ) (m : List ℕ) (oldest : ℕ) (stored : List (List Record)) (vs : List LoggedVersion) (cells : List Cell) (on : ℕ → ℕ) : Type 0 where
+  pub slots : SlotsAre d (commitsOf stored) vs cells
+  pub few : (p : ℕ) → (on p ≤ 15) × (on p ≤ length (versionsOf stored) - 15 * p)  -- pages hold stored versions only
+  pub page : (p : ℕ) → p < d → blk m (pageBlockAt l p) ≡ pageWith vs cells p (on p)
+  pub kept : (n : ℕ) → n < length vs → on (n / 15) ≤ n % 15 → oldest ≤ at vs n .seq  -- what no page has is in the log
+  pub plain : (n : ℕ) → n < length vs → on (n / 15) ≤ n % 15 → cell cells n ≡ waitingCell (at vs n)  -- what redo will write
 
 abbrev pub tableNum : List ℕ → ℕ → ℕ
 tableNum m i = tablePair m i .number .0
@@ -93,24 +93,25 @@ pub record TableOn (m : List ℕ) (stored : List (List Record)) : Type 0 where
   pub vacant : (i : ℕ) → i < 64 → tableNum m i ≡ 0 → tableTime m i ≡ 0
   pub apart : (i j : ℕ) → i < 64 → j < 64 → 0 < tableNum m i → tableNum m i ≡ tableNum m j → i ≡ j  -- dead pairs too
 
-pub record NumbersOn (oldest next time : ℕ) (stored history : List (List Record)) : Type 0 where
-  pub below : Each (λ (x : Placed). x .seq < oldest → numberIn (x .rec) < next) (records history)  -- what the log has lost, the master knows
-  pub early : Each (λ (c : LoggedCommit). c .seq < oldest → c .time ≤ time) (commitsOf history)
-  pub late : time ≤ lastOf (commitsOf stored)
-  pub rising : Rising 0 (commitsOf history)
-  pub once : Once (commitsOf history)
+-- of all records ps; cs are the stored commits
+pub record NumbersOn (oldest next time : ℕ) (cs : List LoggedCommit) (ps : List Placed) : Type 0 where
+  pub below : Each (λ (x : Placed). x .seq < oldest → numberIn (x .rec) < next) ps  -- what the log has lost, the master knows
+  pub early : Each (λ (c : LoggedCommit). c .seq < oldest → c .time ≤ time) (commitsIn ps)
+  pub late : time ≤ lastOf cs
+  pub rising : Rising 0 (commitsIn ps)
+  pub once : Once (commitsIn ps)
   -- a record's times never fall
-  pub steady : (i j : ℕ) → i < j → j < length (versionsOf history) → at (versionsOf history) i .key ≡ at (versionsOf history) j .key
-      → 0 < find (commitsOf history) (at (versionsOf history) i .num) .time → 0 < find (commitsOf history) (at (versionsOf history) j .num) .time
-      → find (commitsOf history) (at (versionsOf history) i .num) .time ≤ find (commitsOf history) (at (versionsOf history) j .num) .time
+  pub steady : (i j : ℕ) → i < j → j < length (versionsIn ps) → at (versionsIn ps) i .key ≡ at (versionsIn ps) j .key
+      → 0 < find (commitsIn ps) (at (versionsIn ps) i .num) .time → 0 < find (commitsIn ps) (at (versionsIn ps) j .num) .time
+      → find (commitsIn ps) (at (versionsIn ps) i .num) .time ≤ find (commitsIn ps) (at (versionsIn ps) j .num) .time
 
 pub record OnMedium (l d : ℕ) (m : List ℕ) (disk : Disk) (history : List (List Record)) : Type 0 where
   pub sizes : SizesOn l d m
-  pub master : MasterOn l d m disk
-  pub log : LogOn l d m disk history
-  pub pages : PagesOn l d m disk history
+  pub master : MasterOn l d m (disk .oldest) (disk .next) (disk .time)
+  pub log : LogOn l d m (disk .oldest) (disk .stored) history
+  pub pages : PagesOn l d m (disk .oldest) (disk .stored) (versionsOf history) (disk .cells) (disk .on)
   pub table : TableOn m (disk .stored)
-  pub numbers : NumbersOn (disk .oldest) (disk .next) (disk .time) (disk .stored) history
+  pub numbers : NumbersOn (disk .oldest) (disk .next) (disk .time) (commitsOf (disk .stored)) (records history)
 
 -- ==== the state
 

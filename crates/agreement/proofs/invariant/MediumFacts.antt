@@ -89,7 +89,7 @@ last-below (c ∷ cs) h = omega (arith, h .0 .time-high, last-below cs (h .1))
 -- ---- of the medium
 
 module _ {l d : ℕ} {m : List ℕ} {disk : Disk} {history : List (List Record)} (medium : OnMedium l d m disk history) where
-  pub fields-sized : FieldsSized (masterFields l d disk)
+  pub fields-sized : FieldsSized (masterFields l d (disk .oldest) (disk .next) (disk .time))
   fields-sized = record {
     blocks = omega (arith, medium .sizes .range .blocks-high);
     pages = omega (arith, medium .sizes .range .pages-high);
@@ -98,8 +98,8 @@ module _ {l d : ℕ} {m : List ℕ} {disk : Disk} {history : List (List Record)}
     last = medium .master .fits .time-high;
   }
 
-  parts : MasterParts (masterBytes (masterFields l d disk)) (masterFields l d disk)
-  parts = master-parts (masterBytes (masterFields l d disk)) (masterFields l d disk) (master-back (masterFields l d disk) fields-sized)
+  parts : MasterParts (masterBytes (masterFields l d (disk .oldest) (disk .next) (disk .time))) (masterFields l d (disk .oldest) (disk .next) (disk .time))
+  parts = master-parts (masterBytes (masterFields l d (disk .oldest) (disk .next) (disk .time))) (masterFields l d (disk .oldest) (disk .next) (disk .time)) (master-back (masterFields l d (disk .oldest) (disk .next) (disk .time)) fields-sized)
 
   part-is : (at : ℕ) → at + 8 ≤ 512 → dec (part (blk m 0) at 8) ≡ dec (part m at 8)
   part-is at h = ap dec (rw zero-add at (part-blk m 0 at 8 h))
@@ -125,10 +125,12 @@ module _ {l d : ℕ} {m : List ℕ} {disk : Disk} {history : List (List Record)}
   pub commits-split : commitsOf history ≡ commitsOf (disk .stored) ++ commitsIn (medium .log .shape .rest)
   commits-split = ap commitsIn (medium .log .shape .split) ∙ commits-append (records (disk .stored)) (medium .log .shape .rest)
 
-  -- each slot's fields fit their widths and it holds a version: by `match`, the records' soundness and the commits' times
-  pub cells-sized : Each SlotSized (disk .cells)
+  -- slots that match their versions have fields that fit their widths, by the records' soundness and the commits' times
+  pub match-sized : (cells : List Cell) → length cells ≡ length (versionsOf history)
+      → ((n : ℕ) → n < length (versionsOf history) → Match (commitsOf (disk .stored)) (at (versionsOf history) n) (cell cells n)) → Each SlotSized cells
   unfolding sharedField
-  cells-sized = each-from SlotSized (disk .cells) noCell (λ i h. go (at (versionsOf history) i) (cell (disk .cells) i) (sound-at i (rw (medium .pages .slots .count) at h)) (medium .pages .slots .match i (rw (medium .pages .slots .count) at h)))
+  match-sized cells size match =
+      each-from SlotSized cells noCell (λ i h. go (at (versionsOf history) i) (cell cells i) (sound-at i (omega arith)) (match i (omega arith)))
     where
       go : (v : LoggedVersion) (x : Cell) → VersionSound d v → Match (commitsOf (disk .stored)) v x → SlotSized x
       go v x f still = record { shared = omega (arith, f .high); key = f .key; kind = f .kind; earlier = f .earlier; size = f .size; bytes = f .bytes }
@@ -140,6 +142,9 @@ module _ {l d : ℕ} {m : List ℕ} {disk : Disk} {history : List (List Record)}
         size = f .size;
         bytes = f .bytes;
       }
+
+  pub cells-sized : Each SlotSized (disk .cells)
+  cells-sized = match-sized (disk .cells) (medium .pages .slots .count) (medium .pages .slots .match)
 
   pub cells-hold : Each SlotHolds (disk .cells)
   unfolding codeOf

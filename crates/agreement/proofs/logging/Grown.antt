@@ -22,7 +22,7 @@ use Rattle.agreement.proofs.history.VersionLaws.{newest-append}
 use Rattle.agreement.proofs.history.SlotLaws.{pageWith-grow}
 use Rattle.agreement.proofs.invariant.MediumFacts.{fewer-stored}
 use Rattle.agreement.proofs.logging.GrowthLaws.{new-ver, old-commits, old-versions, new-com, find-new, find-old, snoc-each}
-use Rattle.agreement.proofs.invariant.Invariant.{OnMedium}
+use Rattle.agreement.proofs.invariant.Invariant.{OnMedium, LogOn}
 
 -- the disk with one more slot
 abbrev pub withCell : Disk → Cell → Disk
@@ -38,6 +38,22 @@ module _ {l d : ℕ} {m : List ℕ} {disk : Disk} {history : List (List Record)}
 module _ {l d : ℕ} {m : List ℕ} {disk : Disk} {history bl : List (List Record)} (medium : OnMedium l d m disk history) (x : Placed)
     (grown : records bl ≡ records history ++ (x ∷ [])) (sound : Each (BlockSound d) bl) (top : length bl ≤ 2 ^ 48) (front : length (disk .stored) ≤ length bl)
     (recent : disk .oldest ≤ x .seq) where
+  log-grown : LogOn l d m (disk .oldest) (disk .stored) bl
+  log-grown = record {
+    shape = record {
+      low = medium .log .shape .low;
+      high = medium .log .shape .high;
+      front = front;
+      top = top;
+      sound = sound;
+      stored-sound = medium .log .shape .stored-sound;
+      rest = medium .log .shape .rest ++ (x ∷ []);
+      split = longer bl medium x grown;
+    };
+    blocks = medium .log .blocks;
+    fresh = medium .log .fresh;
+  }
+
   pub grow-version : (h : VersionHead) (v : List ℕ) → x .rec ≡ version h v
       → h .slot ≡ length (versionsOf history) → length (versionsOf history) < 15 * d
       → h .earlier ≡ orNone (newestOf (versionsOf history) (h .key) (length (versionsOf history)))
@@ -45,24 +61,8 @@ module _ {l d : ℕ} {m : List ℕ} {disk : Disk} {history bl : List (List Recor
       → OnMedium l d m (withCell disk (waitingCell (at (versionsOf bl) (length (versionsOf history))))) bl
   grow-version h v e slot room earlier free = subst (λ (y : Cell). OnMedium l d m (withCell disk y) bl) (sym (ap waitingCell last)) (record {
     sizes = medium .sizes;
-    master = record {
-      fits = medium .master .fits;
-      block = medium .master .block;
-    };
-    log = record {
-      shape = record {
-        low = medium .log .shape .low;
-        high = medium .log .shape .high;
-        front = front;
-        top = top;
-        sound = sound;
-        stored-sound = medium .log .shape .stored-sound;
-        rest = medium .log .shape .rest ++ (x ∷ []);
-        split = longer bl medium x grown;
-      };
-      blocks = medium .log .blocks;
-      fresh = medium .log .fresh;
-    };
+    master = medium .master;
+    log = log-grown;
     pages = record {
       slots = record {
         slot = rw new (snoc-each noVersion (λ i a. a .slot ≡ i) (versionsOf history) w (medium .pages .slots .slot) slot);
@@ -132,33 +132,8 @@ module _ {l d : ℕ} {m : List ℕ} {disk : Disk} {history bl : List (List Recor
   grow-commit p e late free held = record {
     sizes = medium .sizes;
     master = medium .master;
-    log = record {
-      shape = record {
-        low = medium .log .shape .low;
-        high = medium .log .shape .high;
-        front = front;
-        top = top;
-        sound = sound;
-        stored-sound = medium .log .shape .stored-sound;
-        rest = medium .log .shape .rest ++ (x ∷ []);
-        split = longer bl medium x grown;
-      };
-      blocks = medium .log .blocks;
-      fresh = medium .log .fresh;
-    };
-    pages = record {
-      slots = record {
-        slot = rw old (medium .pages .slots .slot);
-        room = rw old (medium .pages .slots .room);
-        count = rw old (medium .pages .slots .count);
-        match = rw old (medium .pages .slots .match);
-        chain = rw old (medium .pages .slots .chain);
-      };
-      few = medium .pages .few;
-      page = rw old (medium .pages .page);
-      kept = rw old (medium .pages .kept);
-      plain = rw old (medium .pages .plain);
-    };
+    log = log-grown;
+    pages = rw old (medium .pages);
     table = medium .table;
     numbers = record {
       below = known bl medium x grown recent;

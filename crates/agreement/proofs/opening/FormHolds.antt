@@ -72,7 +72,7 @@ module _ {l d : ℕ} {m : List ℕ} {disk : Disk} (medium : OnMedium l d m disk 
   -- ---- condition 1
 
   sizes-are : sizesAre (masterOf (blk m 0)) l d ≡ true
-  sizes-are = ap (λ (f : MasterFound). sizesAre f l d) (ap masterOf (medium .master .block) ∙ master-back (masterFields l d disk) (fields-sized medium)) ∙ both (eqb l l) (eqb d d) (eq-eqb l l refl) (eq-eqb d d refl)
+  sizes-are = ap (λ (f : MasterFound). sizesAre f l d) (ap masterOf (medium .master .block) ∙ master-back (masterFields l d (disk .oldest) (disk .next) (disk .time)) (fields-sized medium)) ∙ both (eqb l l) (eqb d d) (eq-eqb l l refl) (eq-eqb d d refl)
 
   pair-form : (i : ℕ) → i < 64 → pairForm (tablePair m i) ≡ true
   unfolding pairForm

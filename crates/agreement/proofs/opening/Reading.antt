@@ -173,28 +173,9 @@ module _ {l d : ℕ} {m : List ℕ} {disk : Disk} (medium : OnMedium l d m disk 
               blocks = medium .log .blocks;
               fresh = medium .log .fresh;
             };
-            pages = record {
-              slots = record {
-                slot = rw s (medium .pages .slots .slot);
-                room = rw s (medium .pages .slots .room);
-                count = rw s (medium .pages .slots .count);
-                match = rw s (medium .pages .slots .match);
-                chain = rw s (medium .pages .slots .chain);
-              };
-              few = medium .pages .few;
-              page = rw s (medium .pages .page);
-              kept = rw s (medium .pages .kept);
-              plain = rw s (medium .pages .plain);
-            };
+            pages = rw s (medium .pages);
             table = medium .table;
-            numbers = record {
-              below = rw s (medium .numbers .below);
-              early = rw s (medium .numbers .early);
-              late = medium .numbers .late;
-              rising = rw s (medium .numbers .rising);
-              once = rw s (medium .numbers .once);
-              steady = rw s (medium .numbers .steady);
-            };
+            numbers = rw s (medium .numbers);
           }
       go closed tail (last-read _ _ a e) = subst (OnMedium l d m disk) e medium
 

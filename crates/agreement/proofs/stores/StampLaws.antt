@@ -36,35 +36,16 @@ use Rattle.store.specs.Places.{placeAt, findCommitted, storedUnder, timeUpTo, a
 use Rattle.store.specs.OpenPairs.{waitsUnder}
 use Rattle.store.specs.StorePage.{stampTime, stampWith, stampFrom, storedPair, stampedPage, lowerAt, settleWith, settleFrom, settled}
 use Rattle.runs.specs.Book.{Book}
+use Rattle.agreement.proofs.invariant.MediumFacts.{match-sized}
 use Rattle.agreement.proofs.history.Ghost.{versionsOf, commitsOf, LoggedVersion, at, LoggedCommit, find, cell, Match, still, marked, count, endOfPage, pageWith, full, Disk}
-use Rattle.agreement.proofs.history.ListLaws.{split, same?, each-from, each-take, each-drop}
-use Rattle.agreement.proofs.history.CommitLaws.{find-each}
+use Rattle.agreement.proofs.history.ListLaws.{split, same?, each-take, each-drop}
 use Rattle.agreement.proofs.history.SlotLaws.{count-at, slot-page}
-use Rattle.agreement.proofs.invariant.Invariant.{lifeNum, lifeTime, lifeEnd, numAt, timeAt, Living, OnMedium, Up}
-use Rattle.agreement.proofs.invariant.MediumFacts.{VersionSound, CommitSound, commits-sound, sound-at}
+use Rattle.agreement.proofs.invariant.Invariant.{lifeNum, lifeTime, lifeEnd, numAt, timeAt, Living, Up}
 use Rattle.agreement.proofs.invariant.StoredFacts.{commit-marked, commit-closed}
 use Rattle.agreement.proofs.invariant.PlaceFacts.{committed-found, life-low}
 use Rattle.agreement.proofs.stores.SettleLaws.{same, kept-num, kept-twice, AllKept, lowered-kept, counted-down, living-lowered}
 
 -- ---- slots of a page
-
--- the fields of slots that match their versions fit their widths
-pub match-sized : {l d : ℕ} {m : List ℕ} {disk : Disk} {history : List (List Record)} → OnMedium l d m disk history → (cells : List Cell) → length cells ≡ length (versionsOf history)
-    → ((n : ℕ) → n < length (versionsOf history) → Match (commitsOf (disk .stored)) (at (versionsOf history) n) (cell cells n)) → Each SlotSized cells
-unfolding sharedField
-match-sized {l} {d} {m} {disk} {history} medium cells size match =
-    each-from SlotSized cells noCell (λ i h. go (at (versionsOf history) i) (cell cells i) (sound-at medium i (omega arith)) (match i (omega arith)))
-  where
-    go : (v : LoggedVersion) (x : Cell) → VersionSound d v → Match (commitsOf (disk .stored)) v x → SlotSized x
-    go v x f still = record { shared = omega (arith, f .high); key = f .key; kind = f .kind; earlier = f .earlier; size = f .size; bytes = f .bytes }
-    go v x f (marked t z e) = record {
-      shared = omega (arith, e, find-each (v .num) CommitSound (commitsOf (disk .stored)) (commits-sound d (disk .stored) (medium .log .shape .stored-sound)) (omega arith) .time-high);
-      key = f .key;
-      kind = f .kind;
-      earlier = f .earlier;
-      size = f .size;
-      bytes = f .bytes;
-    }
 
 -- what a full page shows in a slot
 pub state-page : (vs : List LoggedVersion) (cells : List Cell) (p i : ℕ) → Each SlotSized cells → length cells ≡ length vs → i < 15

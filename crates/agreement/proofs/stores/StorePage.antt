@@ -29,11 +29,12 @@ use Rattle.agreement.proofs.history.Ghost.{versionsOf, commitsOf, Logge
 use Rattle.agreement.proofs.history.ListLaws.{same?}
 use Rattle.agreement.proofs.history.SlotLaws.{length-page, pageWith-ext, end-page}
 use Rattle.agreement.proofs.history.VersionLaws.{near}
+use Rattle.agreement.proofs.invariant.MediumFacts.{match-sized}
 use Rattle.agreement.proofs.invariant.Invariant.{Firsts, Pending, Up, Inv, running}
 use Rattle.agreement.proofs.invariant.StoredFacts.{version-marked}
 use Rattle.agreement.proofs.invariant.PlaceSet.{phase-map, table-same, covered-same, living-same}
 use Rattle.agreement.proofs.stores.SettleLaws.{opens-kept, covered-kept}
-use Rattle.agreement.proofs.stores.StampLaws.{Turned, match-sized, page-turned}
+use Rattle.agreement.proofs.stores.StampLaws.{Turned, page-turned}
 
 -- how many slots of a page are on the medium, once page p has n
 unfoldable pub onWith : (ℕ → ℕ) → ℕ → ℕ → ℕ → ℕ
