@@ -15,15 +15,16 @@ use Rattle.layout.specs.declared.CommitTime.{CommitTime}
 use Rattle.layout.specs.declared.slot.Slot.{Slot}
 use Rattle.layout.specs.declared.slot.Slot.the-variants.{Waiting, Stamped}
 use Rattle.store.specs.declared.Life.{Life}
-use Rattle.store.specs.declared.Life.the-variants.{Free, Active, Committed}
+use Rattle.store.specs.declared.Life.the-variants.{Free}
 use Rattle.store.specs.declared.Place.{Place}
 use Rattle.store.specs.Places.{placeAt, freePlace, lowered}
 use Rattle.store.specs.OpenPairs.{waitsUnder}
 use Rattle.runs.specs.Book.{Opened, isOpen, clockOf as clockIn}
+use Rattle.agreement.proofs.invariant.PlaceFacts.{life-low}
 use Rattle.agreement.proofs.history.Ghost.{LoggedVersion, at, LoggedCommit, find, cell, count}
 use Rattle.agreement.proofs.history.ListLaws.{same?}
 use Rattle.agreement.proofs.history.SlotLaws.{count-set}
-use Rattle.agreement.proofs.invariant.Invariant.{lifeNum, lifeTime, lifeClock, Formed, numAt, timeAt, tableNum, tableTime, Covered, Lively, Living, Opens}
+use Rattle.agreement.proofs.invariant.Invariant.{lifeNum, lifeTime, lifeClock, numAt, timeAt, tableNum, tableTime, Covered, Lively, Living, Opens}
 use Rattle.agreement.proofs.invariant.PlaceSet.{placeAt-same, placeAt-other, covered-set, living-set}
 
 -- ---- each place keeps its life or is free
@@ -135,12 +136,7 @@ module _ {m : List ℕ} {cs : List LoggedCommit} {cells : List Cell} {o next : �
   own = let e = rw (eq-eqb (n .0) (n .0) refl) at (step (n .0)) in omega (arith, e)
 
   low : 0 < n .0
-  low = go (placeAt ps j .life) (v .each j h .formed) num time
-    where
-      go : (y : Life) → Formed y → lifeNum y ≡ n .0 → 0 < lifeTime y → 0 < n .0
-      go Free f e z = absurd (omega arith)
-      go (Active a k) f e z = absurd (omega arith)
-      go (Committed a u k) f e z = omega (arith, f .0)
+  low = omega (arith, num, life-low (placeAt ps j .life) (v .each j h .formed) time)
 
   waiting : placeAt ps j .waiting ≡ suc (count (n .0) cells′)
   waiting = v .each j h .waits (omega (arith, num, low)) ∙ ap (λ (a : ℕ). count a cells) num ∙ sym own
