@@ -1,5 +1,5 @@
--- A cut: a running store is down with the stored rows, since the medium's facts speak of the medium alone and each stored commit that is
--- waited for had a place; one that is down stays so.
+-- A cut: a running store is down with the stored rows, since the medium's facts speak of the medium alone and each stored
+-- commit that is waited for had a place; one that is down stays so.
 use Prim.Native.Nat.{ℕ, _≤_, _<_}
 use native.Mathlib.Omega.{arith}
 use mathlib.Core.List.{List, [], _∷_, _++_, map, append-nil}

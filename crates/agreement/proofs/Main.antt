@@ -1,5 +1,5 @@
--- Demand 3: every run from the formatted medium agrees with its book. One lemma for each event, `keeps`, by the ways in which
--- a call ends; then a short induction over the events.
+-- Demand 3: every run from the formatted medium agrees with its book. One lemma for each event, `keeps`, by the ways in
+-- which a call ends; then a short induction over the events.
 use Prim.Native.Nat.{ℕ, zero, suc, _*_, _^_, _<_}
 use native.Mathlib.Omega.{arith}
 use mathlib.Core.Bool.{Bool, true, false, false≢true}

@@ -1,5 +1,5 @@
--- The formatted medium meets the invariant of a store that is down, for the empty history: its master says oldest block 1, and zeros are an
--- empty table, empty pages and log blocks of sequence 0.
+-- The formatted medium meets the invariant of a store that is down, for the empty history: its master says oldest block
+-- 1, and zeros are an empty table, empty pages and log blocks of sequence 0.
 use Prim.Native.Nat.{ℕ, zero, suc, _+_, _-_, _*_, _/_, _%_, _≤_, _<_}
 use native.Mathlib.Nat.{le-of-suc-le-suc}
 use native.Mathlib.Omega.{arith}
@@ -81,7 +81,8 @@ module _ (l d : ℕ) (r : inRange l d ≡ true) where
       ∙ ap pairOf (part-zeros 512 (16 * (i % 32)) 16 (omega arith))
       ∙ zero-pair
 
-  -- the blocks of a fresh medium are the master and zeros: an empty page is zeros, and a table of zeros has number 0 everywhere
+  -- the blocks of a fresh medium are the master and zeros: an empty page is zeros, and a table of zeros has number 0
+  -- everywhere
   pub start : Down l d (freshMedium l d) blank startDisk
   unfolding blank placeAll placeFrom versionsIn commitsIn rowsIn find count lastOf sizeOf pageWith
   start = record {

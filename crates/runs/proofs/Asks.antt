@@ -1,5 +1,6 @@
--- The questions put to a call, and how it ends. It passes when every answer is "yes", and its refusal is that of the first
--- "no", by induction on the list of questions; so a call ends refused by its first "no", or by its step once all are passed.
+-- The questions put to a call, and how it ends. It passes when every answer is "yes", and its refusal is that of the
+-- first "no", by induction on the list of questions; so a call ends refused by its first "no", or by its step once all
+-- are passed.
 use Prim.Native.Nat.{ℕ}
 use native.Mathlib.Omega.{arith}
 use mathlib.Core.Path.{_≡_, refl, ap}

@@ -1,6 +1,6 @@
--- No call changes a length. Medium, cache and answer buffer are written by laying bytes over them, which keeps the length; an
--- opening's cache is as many pages of the medium as the cache given has, by its first two questions; and formatting writes a
--- medium of the length that its question asks for.
+-- No call changes a length. Medium, cache and answer buffer are written by laying bytes over them, which keeps the
+-- length; an opening's cache is as many pages of the medium as the cache given has, by its first two questions; and
+-- formatting writes a medium of the length that its question asks for.
 use Prim.Native.Nat.{ℕ, _+_, _*_}
 use native.Mathlib.Omega.{arith}
 use mathlib.Core.Path.{_≡_, refl, sym, _∙_}

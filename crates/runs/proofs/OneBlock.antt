@@ -1,5 +1,6 @@
--- Each call stores at most one block. A call that is not refused passed the question whether state and buffers fit, so that the
--- block it stores, a tail, a page, a table block or a master, has 512 bytes; and a block of 512 bytes is put over no other.
+-- Each call stores at most one block. A call that is not refused passed the question whether state and buffers fit, so
+-- that the block it stores, a tail, a page, a table block or a master, has 512 bytes; and a block of 512 bytes is put
+-- over no other.
 use Prim.Native.Nat.{ℕ, zero, suc, _+_, _*_}
 use native.Mathlib.Omega.{arith}
 use mathlib.Core.Path.{_≡_, refl, ap, _∙_}

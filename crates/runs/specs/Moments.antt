@@ -1,5 +1,5 @@
--- The moments of a run: what the events so far have left, what the book is then, and what is seen of the events that come. A moment is
--- the list of the events before it.
+-- The moments of a run: what the events so far have left, what the book is then, and what is seen of the events that
+-- come. A moment is the list of the events before it.
 use Prim.Native.Nat.{ℕ, zero, suc}
 use mathlib.Core.Bool.{_&&_, Bool, true, false, _||_}
 use mathlib.Core.List.{List, [], _∷_, _++_}

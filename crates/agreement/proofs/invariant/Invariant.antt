@@ -1,6 +1,6 @@
--- The invariant of a run: what holds of the medium at every moment, so after a cut too (`OnMedium`); of a running store (`Up`);
--- and of one that is down (`Down`). Definitions only. `history` is all blocks: the closed blocks and the tail
--- of a running store, the stored blocks of one that is down.
+-- The invariant of a run: what holds of the medium at every moment, so after a cut too (`OnMedium`); of a running store
+-- (`Up`); and of one that is down (`Down`). Definitions only. `history` is all blocks: the closed blocks and the tail of
+-- a running store, the stored blocks of one that is down.
 use Prim.Native.Nat.{ℕ, _+_, _-_, _*_, _/_, _%_, _^_, _≤_, _<_}
 use mathlib.Core.Bool.{true}
 use mathlib.Core.List.{List, [], _∷_, _++_}

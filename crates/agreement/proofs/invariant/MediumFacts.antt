@@ -1,4 +1,5 @@
--- What follows from the medium's part of the invariant: the master's numbers, the sizes of all fields, and what a cache holds that has all slots.
+-- What follows from the medium's part of the invariant: the master's numbers, the sizes of all fields, and what a cache
+-- holds that has all slots.
 use Prim.Native.Nat.{ℕ, zero, suc, _+_, _-_, _*_, _/_, _%_, _^_, _≤_, _<_}
 use native.Mathlib.Nat.{zero-add}
 use native.Mathlib.Omega.{arith}

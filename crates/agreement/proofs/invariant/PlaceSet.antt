@@ -1,5 +1,5 @@
--- One place replaced: what is to be shown of it and of the others for the places' part of the invariant to stay. Used by begin, abort, write
--- and commit.
+-- One place replaced: what is to be shown of it and of the others for the places' part of the invariant to stay. Used by
+-- begin, abort, write and commit.
 use Prim.Native.Nat.{ℕ, _≤_, _<_}
 use native.Mathlib.Omega.{arith}
 use mathlib.Core.List.{List}

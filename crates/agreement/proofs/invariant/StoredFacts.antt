@@ -1,4 +1,5 @@
--- A record that ends at or before the stored end place, or lies in a closed block, is stored: the records that are not stored lie behind both.
+-- A record that ends at or before the stored end place, or lies in a closed block, is stored: the records that are not
+-- stored lie behind both.
 use Prim.Native.Nat.{ℕ, suc, _+_, _-_, _*_, _≤_, _<_}
 use native.Mathlib.Omega.{arith}
 use mathlib.Core.List.{List, [], _∷_, _++_, append-assoc}

@@ -1,5 +1,5 @@
--- The medium's facts go on to a history with one record more: the medium itself is as it was, a new version waits in the next
--- slot, a new commit's time is above all others.
+-- The medium's facts go on to a history with one record more: the medium itself is as it was, a new version waits in the
+-- next slot, a new commit's time is above all others.
 use Prim.Native.Nat.{ℕ, _+_, _*_, _/_, _%_, _^_, _≤_, _<_}
 use native.Mathlib.Omega.{arith}
 use mathlib.Core.List.{List, [], _∷_, _++_, append-assoc}

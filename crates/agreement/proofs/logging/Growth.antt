@@ -147,8 +147,8 @@ module _ {l d : ℕ} {m : List ℕ} {disk : Disk} {closed : List (List Record)} 
           rw (blk-other m place new (3 + j) size (λ f. e (omega arith)), length-append)
           (omega (arith, medium .log .fresh j a, stored-length mark))
 
-  -- a log block changed just if the tail was not all stored: so the rows before the new one are the stored ones. The log's part
-  -- is unchanged just if the tail's block is, and then it holds the whole tail.
+  -- a log block changed just if the tail was not all stored: so the rows before the new one are the stored ones. The
+  -- log's part is unchanged just if the tail's block is, and then it holds the whole tail.
   pub moved : cond (logChanged l m (put m (logBlockAt l (length closed)) (logBytes (length closed) tail))) (length (records (closed ++ (tail ∷ [])))) (length (records (disk .stored)))
       ≡ length (records (closed ++ (tail ∷ [])))
   unfolding logChanged logBlockAt

@@ -1,5 +1,5 @@
--- Facts for a log that grows: what the stored blocks are beside the closed ones and the tail, the tail's bytes, and histories
--- with one record more. Each is a law of lists; the tail's bytes are canonical as its records are sound.
+-- Facts for a log that grows: what the stored blocks are beside the closed ones and the tail, the tail's bytes, and
+-- histories with one record more. Each is a law of lists; the tail's bytes are canonical as its records are sound.
 use Prim.Native.Nat.{ℕ, zero, suc, _+_, _*_, _^_, _≤_, _<_}
 use native.Mathlib.Omega.{arith}
 use mathlib.Core.Bool.{cond}

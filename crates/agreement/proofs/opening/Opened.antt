@@ -1,5 +1,5 @@
--- The opened store is running for the book of the store that was down: what it read, redid and found (Reading, Redo, Places) are the parts
--- of the invariant.
+-- The opened store is running for the book of the store that was down: what it read, redid and found (Reading, Redo,
+-- Places) are the parts of the invariant.
 use Prim.Native.Nat.{ℕ}
 use mathlib.Core.List.{List}
 use mathlib.Core.Path.{refl}

@@ -1,5 +1,5 @@
--- Opening reads the log: the blocks that match are the medium's from the oldest on, since each is there as it was stored and
--- what lies behind them has a lower sequence. So the tail, next number and last time are those of the stored history.
+-- Opening reads the log: the blocks that match are the medium's from the oldest on, since each is there as it was stored
+-- and what lies behind them has a lower sequence. So the tail, next number and last time are those of the stored history.
 use Prim.Native.Nat.{ℕ, zero, suc, _+_, _-_, _*_, _%_, _^_, _≤_, _<_, max}
 use native.Mathlib.Nat.{mod-lt, zero-add}
 use native.Mathlib.Numerals.{add-one}

@@ -1,5 +1,5 @@
--- What an opening's folds over log records find, in terms of the ghost's commits: the commit under a number, the numbers, the
--- times. By induction on the records.
+-- What an opening's folds over log records find, in terms of the ghost's commits: the commit under a number, the numbers,
+-- the times. By induction on the records.
 use Prim.Native.Nat.{ℕ, suc, _+_, _-_, _≤_, _<_, max}
 use native.Mathlib.Omega.{arith}
 use mathlib.Core.Bool.{Bool, true, false, cond}

@@ -1,5 +1,6 @@
--- Opening applies the logged versions: the cache then holds all stored versions, stamped where the medium's are. A version is
--- applied just if its page lacks it, since end places rise with the slots; what the log has lost is on the pages.
+-- Opening applies the logged versions: the cache then holds all stored versions, stamped where the medium's are. A
+-- version is applied just if its page lacks it, since end places rise with the slots; what the log has lost is on the
+-- pages.
 use Prim.Native.Nat.{ℕ, zero, suc, _+_, _-_, _*_, _/_, _%_, _^_, _≤_, _<_, max}
 use native.Mathlib.Nat.{not-suc-le-zero}
 use native.Mathlib.Omega.{arith}

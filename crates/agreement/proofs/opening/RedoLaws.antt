@@ -1,5 +1,5 @@
--- What redo does to one page, and to the pages' first changes: a version put in the next slot of its page, or one that is in
--- its page already. By the page's canonical bytes, and by cases on the page.
+-- What redo does to one page, and to the pages' first changes: a version put in the next slot of its page, or one that is
+-- in its page already. By the page's canonical bytes, and by cases on the page.
 use Prim.Native.Nat.{ℕ, zero, suc, _+_, _*_, _/_, _%_, _≤_, _<_, min}
 use native.Mathlib.Omega.{arith}
 use mathlib.Core.Bool.{Bool, true, false, cond}

@@ -1,5 +1,5 @@
--- A number that is open is the number of one begin, in plain words: a number comes into the book's open ones by a begin that answers it, and
--- each event that closes it takes it out. By induction over the events, without a word of the store.
+-- A number that is open is the number of one begin, in plain words: a number comes into the book's open ones by a begin
+-- that answers it, and each event that closes it takes it out. By induction over the events, without a word of the store.
 use Prim.Native.Nat.{ℕ, zero, suc}
 use native.Mathlib.Omega.{arith}
 use mathlib.Core.Bool.{Bool, true, false, _&&_, _||_, false≢true}
@@ -15,7 +15,8 @@ use Rattle.runs.specs.Plain.{BegunOnce, OneBegin}
 use Rattle.agreement.proofs.plain.Laws.{close-shuts, close-less}
 use Rattle.agreement.proofs.plain.Runs.{world-append}
 
--- how a number comes to be open behind an event: it was, and the event neither gives it nor closes it; or the event is the begin
+-- how a number comes to be open behind an event: it was, and the event neither gives it nor closes it; or the event is
+-- the begin
 pub data Open (n : ℕ) (b : Book) (e : Event) (o : Observation) : Type 0 where
   was : isOpen (b .opened) n ≡ true → begins n e o ≡ false → closes n e o ≡ false → Open n b e o
   given : (clock : ℕ) → e ≡ call (begin clock) → o .refusal ≡ 0 → o .result ≡ n → Open n b e o

@@ -1,5 +1,5 @@
--- Aborted and cut-off work, in plain words: its number is neither open nor committed, and no turn of the book commits such a
--- number before it is begun anew; then no row of it is left, by what begin answers.
+-- Aborted and cut-off work, in plain words: its number is neither open nor committed, and no turn of the book commits
+-- such a number before it is begun anew; then no row of it is left, by what begin answers.
 use Prim.Native.Nat.{ℕ}
 use mathlib.Core.Bool.{Bool, true, false, false≢true}
 use mathlib.Core.List.{List, [], _∷_, _++_, append-assoc}

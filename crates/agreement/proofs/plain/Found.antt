@@ -1,5 +1,5 @@
--- What openings find, in plain words: rows that are stored stay, each turn of the book adds behind them, and no number with a
--- stored row commits any more once all numbers are closed.
+-- What openings find, in plain words: rows that are stored stay, each turn of the book adds behind them, and no number
+-- with a stored row commits any more once all numbers are closed.
 use Prim.Native.Nat.{ℕ, zero, suc, _≤_}
 use native.Mathlib.Omega.{arith}
 use mathlib.Core.Bool.{Bool, true, false, cond, false≢true}

@@ -1,5 +1,5 @@
--- What reads and lists give, in plain words: by the book's steps each is a version row with a commit row, or the reader's own,
--- and each row of the book was brought by an accepted call.
+-- What reads and lists give, in plain words: by the book's steps each is a version row with a commit row, or the reader's
+-- own, and each row of the book was brought by an accepted call.
 use Prim.Native.Nat.{ℕ, zero, suc, _≤_, _<_}
 use native.Mathlib.Omega.{arith}
 use mathlib.Core.Bool.{Bool, true, false, cond, _&&_, _||_, false≢true}

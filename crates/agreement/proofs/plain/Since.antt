@@ -1,5 +1,6 @@
--- From one opening to the next, in plain words: until the first cut the rows seen follow those found; from then on nothing but
--- cuts and refused openings comes. Every commit in the book has a version before it, so an opening shows its time.
+-- From one opening to the next, in plain words: until the first cut the rows seen follow those found; from then on
+-- nothing but cuts and refused openings comes. Every commit in the book has a version before it, so an opening shows its
+-- time.
 use Prim.Native.Nat.{ℕ, zero, suc, _≤_}
 use native.Mathlib.Omega.{arith}
 use mathlib.Core.Bool.{true, false, false≢true}

@@ -1,5 +1,5 @@
--- A current read finds, along earlier slots, the strip that the book's fold over all version rows gives: both are a fold over
--- the record's versions by rising slot (WalkLaws), and they agree at each slot.
+-- A current read finds, along earlier slots, the strip that the book's fold over all version rows gives: both are a fold
+-- over the record's versions by rising slot (WalkLaws), and they agree at each slot.
 use Prim.Native.Nat.{ℕ, zero, suc, _≤_, _<_}
 use native.Mathlib.Omega.{arith}
 use mathlib.Core.Bool.{or-true, Bool, true, false, cond, _&&_, _||_, false≢true}

@@ -1,5 +1,5 @@
--- What the slots of a running store show is what the book's rows say: a slot has its version's fields, and its stamp or its number's place
--- gives the time of the commit row.
+-- What the slots of a running store show is what the book's rows say: a slot has its version's fields, and its stamp or
+-- its number's place gives the time of the commit row.
 use Prim.Native.Nat.{ℕ, zero, suc, _+_, _<_}
 use native.Mathlib.Numerals.{add-one}
 use native.Mathlib.Omega.{arith}
@@ -23,7 +23,8 @@ use Rattle.agreement.proofs.invariant.PlaceFacts.{time-under}
 use Rattle.agreement.proofs.history.RowLaws.{rowFor, rowsFor, versions-are, time-row, last-row}
 
 module _ {l d : ℕ} {m c : List ℕ} {s : State} {b : Book} {disk : Disk} {closed : List (List Record)} {tail : List Record} (u : Up l d m c s b disk closed tail) where
-  -- a version's time: its stamp is its number's commit's (match, find-stored), or its number is waited for (PlaceFacts.time-under)
+  -- a version's time: its stamp is its number's commit's (match, find-stored), or its number is waited for
+  -- (PlaceFacts.time-under)
   pub version-time : (n : ℕ) → n < length (versionsOf (closed ++ (tail ∷ [])))
       → versionTime (timeUnder (s .places)) (cellAt c n .state) ≡ timing (find (commitsOf (closed ++ (tail ∷ []))) (at (versionsOf (closed ++ (tail ∷ []))) n .num) .time)
   unfolding versionTime

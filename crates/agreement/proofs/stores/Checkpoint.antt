@@ -1,5 +1,5 @@
--- The three stores of a checkpoint: two table blocks, then the master with the oldest block that the first call fixed. Until the master is
--- stored, the pairs that the old oldest block needs are in the table too.
+-- The three stores of a checkpoint: two table blocks, then the master with the oldest block that the first call fixed.
+-- Until the master is stored, the pairs that the old oldest block needs are in the table too.
 use Prim.Native.Nat.{ℕ, zero, suc, _+_, _*_, _/_, _≤_, _<_, min, suc-le-suc}
 use native.Mathlib.Omega.{arith}
 use mathlib.Core.Bool.{Bool, true, false, cond}
@@ -92,8 +92,8 @@ module _ {l d : ℕ} {m c : List ℕ} {s : State} {b : Book} {disk : Disk} {clos
   unfolding newOldest
   oldest-pages p h z = rw (first-at p h) at (least-each (sequenceOf (s .tail)) (take (s .pages) (s .first)) p (rw (first-at p h) z))
 
-  -- table block 1: its pairs lie below the tail, so their commits are stored; the places below 32 are covered for the new oldest block, those
-  -- above it for the master's as before
+  -- table block 1: its pairs lie below the tail, so their commits are stored; the places below 32 are covered for the new
+  -- oldest block, those above it for the master's as before
   pub first-stored : s .phase ≡ Idle → Inv l d (after (checkpointStep Idle s m c)) b
   unfolding checkpointStep
   first-stored e = running (tabled-up u 0 (omega arith) (newOldest s) oldest-low oldest-high (FirstStored (newOldest s) (s .saved)) (record {
@@ -127,7 +127,8 @@ module _ {l d : ℕ} {m c : List ℕ} {s : State} {b : Book} {disk : Disk} {clos
       both p i h (inl a) = covered-still u 1 (omega arith) o (p .above) (p .below) o 32 (omega arith) (omega arith) (p .covered) i a
       both p i h (inr a) = covered-now u 1 (omega arith) o (p .above) (p .below) i h (omega arith)
 
-  -- the master: old = o, next = the state's, time = t; `kept` by Pending.pages with Firsts.noted, `below` by StateIs.numbers
+  -- the master: old = o, next = the state's, time = t; `kept` by Pending.pages with Firsts.noted, `below` by
+  -- StateIs.numbers
   pub third-stored : (o : ℕ) (t : CommitTime) → s .phase ≡ SecondStored o t → Inv l d (after (checkpointStep (SecondStored o t) s m c)) b
   unfolding checkpointStep withPhase
   third-stored o t e =

@@ -1,5 +1,5 @@
--- A version stamped counts its transaction's place down: the place waits for one slot less, or is free once nothing waits for it.
--- So the places stay true of the slots, and each keeps its life or is free.
+-- A version stamped counts its transaction's place down: the place waits for one slot less, or is free once nothing waits
+-- for it. So the places stay true of the slots, and each keeps its life or is free.
 use Prim.Native.Nat.{ℕ, suc, _+_, _-_, _^_, _≤_, _<_}
 use native.Mathlib.Omega.{arith}
 use mathlib.Core.Bool.{Bool, true, false, cond}

@@ -1,5 +1,5 @@
--- Store log: all rows are stored. Growth says what the medium then is; the places speak of it only through the table, which stays,
--- and the last stored time only grows.
+-- Store log: all rows are stored. Growth says what the medium then is; the places speak of it only through the table,
+-- which stays, and the last stored time only grows.
 use Prim.Native.Nat.{ℕ, _+_, _≤_, _<_}
 use native.Mathlib.Omega.{arith}
 use mathlib.Core.List.{List, [], _∷_, _++_}

@@ -1,5 +1,5 @@
--- Store page: the page stamped and stored, and the places counted down. The page's last version is stored (question 12), so the
--- page holds stored versions only; StampLaws says what the page and the places then are.
+-- Store page: the page stamped and stored, and the places counted down. The page's last version is stored (question 12),
+-- so the page holds stored versions only; StampLaws says what the page and the places then are.
 use Prim.Native.Nat.{ℕ, zero, suc, _+_, _-_, _*_, _/_, _%_, _≤_, _<_}
 use native.Mathlib.Omega.{arith}
 use mathlib.Core.Bool.{Bool, cond}

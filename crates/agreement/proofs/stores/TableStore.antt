@@ -1,5 +1,5 @@
--- A block of the pair table is stored: each of its places has the pair of its live commit if that lies below the new oldest block, and a live pair
--- of the other block stays at its place, so no number comes to stand in two places.
+-- A block of the pair table is stored: each of its places has the pair of its live commit if that lies below the new
+-- oldest block, and a live pair of the other block stays at its place, so no number comes to stand in two places.
 use Prim.Native.Nat.{ℕ, zero, suc, _+_, _*_, _/_, _%_, _≤_, _<_}
 use native.Mathlib.Nat.{le-of-suc-le-suc}
 use native.Mathlib.Omega.{arith}

@@ -1,5 +1,5 @@
--- What holds of an active number, found in place i: it has no commit, no pair in the table, no other place, and all its versions
--- wait. By the invariant of the places.
+-- What holds of an active number, found in place i: it has no commit, no pair in the table, no other place, and all its
+-- versions wait. By the invariant of the places.
 use Prim.Native.Nat.{ℕ, _-_, _^_, _<_}
 use native.Mathlib.Omega.{arith}
 use mathlib.Core.List.{List, [], _∷_, _++_}

@@ -1,5 +1,5 @@
--- Begin, abort and commit without versions: only places and open numbers change, and a place that is taken or left has no live pair of the
--- table, so everything said of the medium stays.
+-- Begin, abort and commit without versions: only places and open numbers change, and a place that is taken or left has no
+-- live pair of the table, so everything said of the medium stays.
 use Prim.Native.Nat.{ℕ, _+_, _-_, _^_, _≤_, _<_}
 use native.Mathlib.Omega.{arith}
 use mathlib.Core.Bool.{or-true, Bool, true, false, cond, _||_}

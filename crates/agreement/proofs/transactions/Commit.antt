@@ -1,5 +1,6 @@
--- Commit of a number with versions: a running store goes on to the book with one commit row more. The log grows by the commit;
--- only the number's own place and its commit change, and its versions all wait, so the table and the slots stay as they are.
+-- Commit of a number with versions: a running store goes on to the book with one commit row more. The log grows by the
+-- commit; only the number's own place and its commit change, and its versions all wait, so the table and the slots stay
+-- as they are.
 use Prim.Native.Nat.{ℕ, _-_, _^_, _≤_, _<_}
 use native.Mathlib.Omega.{arith}
 use mathlib.Core.Bool.{true, false}

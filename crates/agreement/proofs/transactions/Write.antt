@@ -1,5 +1,5 @@
--- Write and erase: a running store goes on to the book with one version row more. The log grows by the version, which waits in
--- the next slot of its page; its number's place waits for one more, and no other active number wrote the record.
+-- Write and erase: a running store goes on to the book with one version row more. The log grows by the version, which
+-- waits in the next slot of its page; its number's place waits for one more, and no other active number wrote the record.
 use Prim.Native.Nat.{ℕ, _+_, _*_, _/_, _≤_, _<_}
 use native.Mathlib.Omega.{arith}
 use mathlib.Core.Bool.{Bool, true, false, not, false≢true}

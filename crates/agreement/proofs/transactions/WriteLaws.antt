@@ -1,5 +1,6 @@
--- A version more, for the parts of the invariant: what waits under each number, the cache, the pages' first changes, and who may
--- write a record. A number that wrote a record and is active holds it, since the record's newest version is then its own and waits.
+-- A version more, for the parts of the invariant: what waits under each number, the cache, the pages' first changes, and
+-- who may write a record. A number that wrote a record and is active holds it, since the record's newest version is then
+-- its own and waits.
 use Prim.Native.Nat.{ℕ, suc, _+_, _*_, _≤_, _<_}
 use native.Mathlib.Omega.{arith}
 use mathlib.Core.Bool.{Bool, true, false, not, _&&_, false≢true}
