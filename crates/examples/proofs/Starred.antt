@@ -1,52 +1,64 @@
 -- The table of examples holds: each row's script, computed by the definitions of the calls, answers what 01 says.
-use mathlib.Core.Path.{refl}
-use mathlib.Core.List.{List, [], _∷_}
-use Rattle.examples.specs.Compute.{outcomeOf}
-use Rattle.examples.specs.Table.{Row, Right, table, fresh, clocks, lastTime, twice, slotsUsed, nextBlock, logFull, erasedFirst, givenAgain, listing}
+use Prim.Native.Nat.{ℕ}
+use mathlib.Core.Path.{_≡_, refl, sym, ap, _∙_}
+use mathlib.Core.List.{List, [], _∷_, map}
+use Rattle.runs.specs.Event.{Event}
+use Rattle.examples.specs.Compute.{Ran, ran}
+use Rattle.examples.specs.Table.{Outcome, shown, tailOf, outcomeOf, Row, Right, table, fresh, clocks, lastTime, twice, slotsUsed, nextBlock, logFull, erasedFirst, givenAgain, listing}
+use Rattle.examples.proofs.Passes.{ran-is}
+
+-- the outcome by one pass
+unfoldable passed : ℕ → ℕ → List Event → Outcome
+unfolding ran tailOf
+passed l d es = let r = ran l d es in record { answers = map shown (r .seen); tail = tailOf (r .world) }
+
+by-pass : (r : Row) → passed (r .blocks) (r .pages) (r .script) ≡ record { answers = r .answers; tail = r .tail } → Right r
+unfolding Right passed outcomeOf
+by-pass r e = sym (ap (λ (x : Ran). record { answers = map shown (x .seen); tail = tailOf (x .world) }) (ran-is (r .blocks) (r .pages) (r .script))) ∙ e
 
 abbrev Each : List Row → Type 0
 Each [] = Unit {0}
 Each (r ∷ rs) = Right r × Each rs
 
 fresh-right : Right fresh
-unfolding Right outcomeOf
-fresh-right = refl
+unfolding passed
+fresh-right = by-pass fresh refl
 
 clocks-right : Right clocks
-unfolding Right outcomeOf
-clocks-right = refl
+unfolding passed
+clocks-right = by-pass clocks refl
 
 lastTime-right : Right lastTime
-unfolding Right outcomeOf
-lastTime-right = refl
+unfolding passed
+lastTime-right = by-pass lastTime refl
 
 twice-right : Right twice
-unfolding Right outcomeOf
-twice-right = refl
+unfolding passed
+twice-right = by-pass twice refl
 
 slotsUsed-right : Right slotsUsed
-unfolding Right outcomeOf
-slotsUsed-right = refl
+unfolding passed
+slotsUsed-right = by-pass slotsUsed refl
 
 nextBlock-right : Right nextBlock
-unfolding Right outcomeOf
-nextBlock-right = refl
+unfolding passed
+nextBlock-right = by-pass nextBlock refl
 
 logFull-right : Right logFull
-unfolding Right outcomeOf
-logFull-right = refl
+unfolding passed
+logFull-right = by-pass logFull refl
 
 erasedFirst-right : Right erasedFirst
-unfolding Right outcomeOf
-erasedFirst-right = refl
+unfolding passed
+erasedFirst-right = by-pass erasedFirst refl
 
 givenAgain-right : Right givenAgain
-unfolding Right outcomeOf
-givenAgain-right = refl
+unfolding passed
+givenAgain-right = by-pass givenAgain refl
 
 listing-right : Right listing
-unfolding Right outcomeOf
-listing-right = refl
+unfolding passed
+listing-right = by-pass listing refl
 
 pub examples : Each table
 examples = (

@@ -1,10 +1,42 @@
 -- The starred examples of 01, and beside them the `stripbook` listing at the level of calls.
-use Prim.Native.Nat.{ℕ, zero, suc, _-_, _^_, _*_}
+use Prim.Native.Nat.{ℕ, zero, suc, _-_, _^_}
 use mathlib.Core.Path.{_≡_}
-use mathlib.Core.List.{List, [], _∷_, _++_}
-use lib.ListN.{replicate}
-use Rattle.runs.specs.Event.{Event, opening, cut, call, begin, write, erase, commit, as-of, Strip, missing, erased, present}
-use Rattle.examples.specs.Compute.{Shown, Tail, outcomeOf}
+use mathlib.Core.List.{List, [], _∷_, _++_, map}
+use Rattle.layout.specs.Journal.{sequenceOf, usedOf}
+use Rattle.store.specs.declared.State.{State}
+use Rattle.runs.specs.Event.{Event, cut, call, begin, write, erase, commit, as-of, Strip, missing, erased, present, Observation}
+use Rattle.runs.specs.Machine.{World, down, up, trace, formatted}
+use Rattle.runs.specs.Moments.{worldAfter}
+use Rattle.examples.specs.Words.{bytes, opened}
+
+-- a call's refusal (0: none), its result and its strip
+pub record Shown : Type 0 where
+  pub refusal : ℕ
+  pub result : ℕ
+  pub strip : Strip
+
+-- the tail of the log: its sequence and its used bytes; zeros while the store is shut
+pub record Tail : Type 0 where
+  pub sequence : ℕ
+  pub used : ℕ
+
+pub record Outcome : Type 0 where
+  pub answers : List Shown
+  pub tail : Tail
+
+abbrev pub shown : Observation → Shown
+shown o = record { refusal = o .refusal; result = o .result; strip = o .strip }
+
+unfoldable pub tailOf : World → Tail
+tailOf (down m) = record { sequence = 0; used = 0 }
+tailOf (up m c s) = record { sequence = sequenceOf (s .tail); used = usedOf (s .tail) }
+
+-- what the events answer from the formatted medium on, and the tail that they leave
+unfoldable pub outcomeOf : ℕ → ℕ → List Event → Outcome
+outcomeOf l d es = record {
+  answers = map shown (trace l d (formatted l d) es);
+  tail = tailOf (worldAfter l d (formatted l d) es);
+}
 
 -- sizes, a script on the formatted medium, what 01 answers, and the tail that is left
 pub record Row : Type 0 where
@@ -30,14 +62,6 @@ reads s = record { refusal = 0; result = 0; strip = s }
 
 abbrev tail : ℕ → ℕ → Tail
 tail s u = record { sequence = s; used = u }
-
--- sixteen equal bytes
-abbrev bytes : ℕ → List ℕ
-bytes b = replicate 16 b
-
--- an opening with a cache of right length, as it may lie there
-abbrev opened : ℕ → Event
-opened d = opening (replicate (512 * d) 255)
 
 -- n writes of record 7 under number 1, and their slots from k on
 abbrev writes : ℕ → List Event
