@@ -1,6 +1,6 @@
 -- The newest version: a slot that holds one is found, another is passed. Assumes nothing.
-use mathlib.Core.Path.{_≡_, refl, sym, ap, subst, _∙_}
-use mathlib.Core.Bool.{Bool, true, false, _&&_}
+use mathlib.Core.Path.{_≡_, sym, ap, subst, _∙_}
+use mathlib.Core.Bool.{Bool, true, false, and-true, and-false}
 use Prim.Native.Nat.{ℕ, zero, suc, _-_, _<_}
 use native.Mathlib.Omega.{arith}
 use mathlib.Core.List.{List}
@@ -12,14 +12,6 @@ use Rattle.store.specs.declared.Found.the-variants.{At, Nothing}
 use Rattle.store.specs.Chain.{cellAt, isVersion, versionOf, newest}
 use Rattle.chain.specs.Room.{Room, Head}
 use Rattle.chain.proofs.RoomLaws.{room-lower}
-
-and-false : (b : Bool) → b && false ≡ false
-and-false true = refl
-and-false false = refl
-
-and-true : (b : Bool) → b && true ≡ b
-and-true true = refl
-and-true false = refl
 
 -- k and b are what the code read
 pub holds-not : (c : List ℕ) (key n k : ℕ) → k ≡ cellAt c n .key → (k ≡ key → ⊥) → false ≡ versionOf c key n

@@ -12,7 +12,8 @@ use Rattle.layout.specs.Part.{part, splice}
 use Rattle.layout.specs.Block.{zeros}
 use Rattle.layout.specs.Cells.{flat}
 use Rattle.layout.specs.Item.{itemBytes, itemOf, byTag, headOf, pairOf, valueOf, versionItem, commitItem}
-use Rattle.layout.specs.Journal.{Record, version, commit, versionBody, commitBody, recordBytes, recordSize, logBytes, emptyBlock, usedOf, addRecord}
+use Rattle.layout.specs.Journal.{Record, version, commit, versionBody, recordBytes, recordSize, logBytes, emptyBlock, usedOf, addRecord}
+use Rattle.layout.specs.Table.{pairBytes}
 use Rattle.layout.specs.declared.item.VersionHead.{VersionHead}
 use Rattle.layout.specs.declared.item.Pair.{Pair}
 use Rattle.layout.specs.declared.item.Area.the-variants.{Journal}
@@ -27,9 +28,9 @@ pub length-versionBody : (h : VersionHead) (v : List ℕ) → length v ≡ 16 �
 unfolding versionBody
 length-versionBody h v e = simp (length-append, length-enc, e)
 
-pub length-commitBody : (p : Pair) → length (commitBody p) ≡ 16
-unfolding commitBody
-length-commitBody p = simp (length-append, length-enc)
+pub length-pairBytes : (p : Pair) → length (pairBytes p) ≡ 16
+unfolding pairBytes
+length-pairBytes p = simp (length-append, length-enc)
 
 pub length-itemBytes : (tag : ℕ) (c : List ℕ) → length (itemBytes tag c) ≡ 3 + length c
 unfolding itemBytes
@@ -43,7 +44,7 @@ ValueFits (commit p) = Unit {0}
 pub length-recordBytes : (r : Record) → ValueFits r → length (recordBytes r) ≡ recordSize r
 unfolding recordBytes recordSize
 length-recordBytes (version h v) e = length-itemBytes 1 (versionBody h v) ∙ rw (length-versionBody h v e)
-length-recordBytes (commit p) e = length-itemBytes 2 (commitBody p) ∙ rw (length-commitBody p)
+length-recordBytes (commit p) e = length-itemBytes 2 (pairBytes p) ∙ rw (length-pairBytes p)
 
 -- ---- what the stores make
 
@@ -54,8 +55,8 @@ begin-is s a b c ea eb ec =
     let f : splice (zeros 512) 0 (enc 8 s ++ enc 2 10) ≡ (enc 8 s ++ enc 2 10) ++ zeros 502 = splice-is (zeros 512) 0 (enc 8 s ++ enc 2 10) (rw n (omega arith)) ∙ rw n in
     rw (ec, eb, ea, splice-then (zeros 512) 0 (enc 8 s) 8 (enc 2 10) (simp length-enc)) f
 
-pub commit-written : (l a : List ℕ) (p : Pair) → length l ≡ 16 → a ≡ splice l 0 (enc 8 (p .number .0)) → splice a 8 (enc 8 (p .time .0)) ≡ commitBody p
-unfolding commitBody
+pub commit-written : (l a : List ℕ) (p : Pair) → length l ≡ 16 → a ≡ splice l 0 (enc 8 (p .number .0)) → splice a 8 (enc 8 (p .time .0)) ≡ pairBytes p
+unfolding pairBytes
 commit-written l a p n ea =
     rw (ea, splice-then l 0 (enc 8 (p .number .0)) 8 (enc 8 (p .time .0)) (simp length-enc)) (splice-whole l _ (simp (length-append, length-enc, n)))
 
@@ -105,11 +106,11 @@ version-added b c w v h at u n e f =
     rw (item-written b c w at 1 30 (ap length f ∙ length-versionBody h v n) e, f, u)
 
 pub commit-added : (b c w : List ℕ) (p : Pair) (at : ℕ) → at ≡ usedOf b
-    → c ≡ splice (set b at 2) (at + 1) (enc 2 16) → w ≡ commitBody p
+    → c ≡ splice (set b at 2) (at + 1) (enc 2 16) → w ≡ pairBytes p
     → splice (splice c (at + 3) w) 8 (enc 2 (at + 19)) ≡ addRecord b (commit p)
 unfolding addRecord recordBytes recordSize
 commit-added b c w p at u e f =
-    rw (item-written b c w at 2 16 (ap length f ∙ length-commitBody p) e, f, u)
+    rw (item-written b c w at 2 16 (ap length f ∙ length-pairBytes p) e, f, u)
 
 -- ---- what was written is read back
 
@@ -161,10 +162,10 @@ value-back h v z s =
     let f : versionBody h v ++ z ≡ p ++ (v ++ z) = simp append-assoc in
     ap valueOf f ∙ part-mid p v z 14 16 (simp (length-append, length-enc)) (s .size)
 
-pub pair-back : (p : Pair) (z : List ℕ) → PairSized p → pairOf (commitBody p ++ z) ≡ p
-unfolding pairOf commitBody
+pub pair-back : (p : Pair) (z : List ℕ) → PairSized p → pairOf (pairBytes p ++ z) ≡ p
+unfolding pairOf pairBytes
 pair-back p z s =
-    let f : commitBody p ++ z ≡ enc 8 (p .number .0) ++ (enc 8 (p .time .0) ++ z) = simp append-assoc in
+    let f : pairBytes p ++ z ≡ enc 8 (p .number .0) ++ (enc 8 (p .time .0) ++ z) = simp append-assoc in
     same-pair p _ _
     (ap (λ (t : List ℕ). dec (part t 0 8)) f ∙ dec-mid [] (enc 8 (p .time .0) ++ z) 0 8 (p .number .0) refl (s .number))
     (ap (λ (t : List ℕ). dec (part t 8 8)) f ∙ dec-mid (enc 8 (p .number .0)) z 8 8 (p .time .0) (length-enc 8 (p .number .0)) (s .time))
@@ -183,9 +184,9 @@ version-back h v z s =
 pub commit-back : (p : Pair) (z : List ℕ) → PairSized p → itemOf Journal (recordBytes (commit p) ++ z) ≡ Commit p
 unfolding recordBytes byTag commitItem
 commit-back p z s =
-    let n : length (commitBody p) ≡ 16 = length-commitBody p in
-    let l : 16 ≤ length (commitBody p ++ z) = simp (length-append, n) (omega arith) in
-    item-bytes Journal 2 (commitBody p) z (omega arith) ∙ simp (n, le-leb _ _ l, pair-back p z s)
+    let n : length (pairBytes p) ≡ 16 = length-pairBytes p in
+    let l : 16 ≤ length (pairBytes p ++ z) = simp (length-append, n) (omega arith) in
+    item-bytes Journal 2 (pairBytes p) z (omega arith) ∙ simp (n, le-leb _ _ l, pair-back p z s)
 
 -- ---- what is read and written again is the same
 
@@ -202,8 +203,8 @@ version-again b k h =
       part-cons b 2 27 (omega arith),
     ) (part-join b 0 2 28)
 
-pub commit-again : (b : List ℕ) → Bytes b → 16 ≤ length b → commitBody (pairOf b) ≡ part b 0 16
-unfolding commitBody pairOf
+pub commit-again : (b : List ℕ) → Bytes b → 16 ≤ length b → pairBytes (pairOf b) ≡ part b 0 16
+unfolding pairBytes pairOf
 commit-again b k h = rw (enc-part b 0 8 (omega arith) k, enc-part b 8 8 (omega arith) k) (part-join b 0 8 8)
 
 -- and what is read from bytes lies within its bytes

@@ -12,20 +12,14 @@ use Rattle.layout.specs.Part.{part, splice}
 use Rattle.layout.specs.Block.{blk, put}
 use Rattle.layout.specs.Cells.{flat}
 use Rattle.layout.specs.Item.{pairOf}
-use Rattle.layout.specs.Journal.{commitBody}
 use Rattle.layout.specs.Table.{pairBytes, pairAt, tablePair, blockPair, putPair}
 use Rattle.layout.specs.declared.item.Pair.{Pair}
 use Rattle.layout.proofs.PartLaws.{length-splice, part-splice, part-before, part-after, part-part}
 use Rattle.layout.proofs.FieldLaws.{Bytes, length-enc, bytes-enc}
 use Rattle.layout.proofs.WriteLaws.{splice-then}
-use Rattle.layout.proofs.RecordLaws.{PairSized, length-commitBody, pair-back, commit-again}
+use Rattle.layout.proofs.RecordLaws.{PairSized, length-pairBytes, pair-back, commit-again}
 use Rattle.layout.proofs.CellLaws.{Cells, each-of, bytes-append, bytes-flat, length-flat, cell-at, cell-set}
 use Rattle.layout.proofs.BlockLaws.{blk-same, blk-other}
-
--- the bytes of a pair are those of a commit's body
-pub length-pairBytes : (p : Pair) → length (pairBytes p) ≡ 16
-unfolding pairBytes commitBody
-length-pairBytes p = length-commitBody p
 
 pub bytes-pairBytes : (p : Pair) → Bytes (pairBytes p)
 unfolding pairBytes
@@ -35,15 +29,10 @@ bytes-pairBytes p = bytes-append (enc 8 (p .number .0)) (enc 8 (p .time .0)) (by
 pub pair-laid : (b : List ℕ) (at n t : ℕ) → splice (splice b at (enc 8 n)) (at + 8) (enc 8 t) ≡ splice b at (enc 8 n ++ enc 8 t)
 pair-laid b at n t = splice-then b at (enc 8 n) (at + 8) (enc 8 t) (ap (λ (k : ℕ). at + k) (length-enc 8 n))
 
-pub pair-pairBytes : (p : Pair) (z : List ℕ) → PairSized p → pairOf (pairBytes p ++ z) ≡ p
-unfolding pairBytes commitBody
-pair-pairBytes p z s = pair-back p z s
-
 pair-bytes : (p : Pair) → PairSized p → pairOf (pairBytes p) ≡ p
-pair-bytes p s = rw append-nil at (pair-pairBytes p [] s)
+pair-bytes p s = rw append-nil at (pair-back p [] s)
 
 pub pair-again : (b : List ℕ) → length b ≡ 16 → Bytes b → pairBytes (pairOf b) ≡ b
-unfolding pairBytes commitBody
 pair-again b h k = commit-again b k (omega arith) ∙ take-all 16 b (omega arith)
 
 -- a place of a block that was written, and another

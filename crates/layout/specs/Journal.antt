@@ -1,9 +1,9 @@
 -- A log block: sequence, used bytes, records, zeros.
-use Prim.Native.Nat.{ℕ, zero, suc, _+_, _-_, _^_}
-use mathlib.Core.Bool.{Bool, true, false, cond, _&&_}
+use Prim.Native.Nat.{ℕ, zero, suc, _+_, _-_}
+use mathlib.Core.Bool.{Bool, true, false, _&&_}
 use mathlib.Core.List.{List, [], _∷_, _++_}
-use lib.ListN.{length, getD, drop}
-use lib.Dec.{eqb, leb, ltb}
+use lib.ListN.{length, drop}
+use lib.Dec.{leb}
 use Rattle.layout.specs.Field.{enc, dec}
 use Rattle.layout.specs.Part.{part, splice}
 use Rattle.layout.specs.Equal.{allZero}
@@ -11,6 +11,7 @@ use Rattle.layout.specs.Block.{zeros}
 use Rattle.layout.specs.Cells.{flat}
 use Rattle.layout.specs.Slot.{kindForm}
 use Rattle.layout.specs.Item.{itemBytes, itemOf, valueOf}
+use Rattle.layout.specs.Table.{pairBytes}
 use Rattle.layout.specs.declared.item.VersionHead.{VersionHead}
 use Rattle.layout.specs.declared.item.Pair.{Pair}
 use Rattle.layout.specs.declared.item.Area.the-variants.{Journal}
@@ -25,13 +26,10 @@ pub data Record : Type 0 where
 unfoldable pub versionBody : VersionHead → List ℕ → List ℕ
 versionBody h v = enc 2 (h .slot) ++ (h .key ∷ h .kind ∷ (enc 2 (h .earlier) ++ (enc 8 (h .number .0) ++ v)))
 
-unfoldable pub commitBody : Pair → List ℕ
-commitBody p = enc 8 (p .number .0) ++ enc 8 (p .time .0)
-
 -- 01: "Tag 1, version", "Tag 2, commit"
 unfoldable pub recordBytes : Record → List ℕ
 recordBytes (version h v) = itemBytes 1 (versionBody h v)
-recordBytes (commit p) = itemBytes 2 (commitBody p)
+recordBytes (commit p) = itemBytes 2 (pairBytes p)
 
 -- 01: "A record is tag, length, body": 3 + 30 bytes, 3 + 16 bytes
 unfoldable pub recordSize : Record → ℕ

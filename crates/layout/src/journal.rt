@@ -2,10 +2,10 @@
 use crate::item::Pair;
 use crate::item::VersionHead;
 ghost use mathlib.Core.Path.{_≡_};
-ghost use Prim.Native.Nat.{_+_, _≤_, _<_, _*_};
+ghost use Prim.Native.Nat.{_+_, _≤_, _<_};
 ghost use lib.ListN.{length};
-ghost use Rattle.layout.specs.Journal.{version, commit, versionBody, commitBody, sequenceOf, usedOf, emptyBlock, addRecord, usedForm};
-ghost use Rattle.layout.specs.Part.{splice};
+ghost use Rattle.layout.specs.Journal.{version, commit, versionBody, sequenceOf, usedOf, emptyBlock, addRecord, usedForm};
+ghost use Rattle.layout.specs.Table.{pairBytes};
 
 // The sequence of a block.
 pub fn sequence(block: &[u8]) -> u64
@@ -50,7 +50,7 @@ fn write_version(body: &mut [u8], head: VersionHead, value: &[u8])
 // Writes the body of a commit record.
 fn write_commit(body: &mut [u8], pair: Pair)
     requires { ⌜ length (now body) ≡ 16 ⌝ }
-    ensures { λ _. ⌜ now (body .exit) ≡ commitBody pair ⌝ }
+    ensures { λ _. ⌜ now (body .exit) ≡ pairBytes pair ⌝ }
 {
     crate::field::put8(body, 0, pair.number.0);
     crate::field::put8(body, 8, pair.time.0);

@@ -5,7 +5,7 @@ use mathlib.Core.Bool.{Bool, true, false, cond}
 use mathlib.Core.List.{List, [], _∷_, _++_, append-assoc, append-nil}
 use Prim.Native.Nat.{ℕ, zero, suc, _+_, _-_, _*_, _≤_, _<_}
 use native.Mathlib.Omega.{arith}
-use lib.ListN.{length, getD, set, replicate, length-append, length-set, length-replicate}
+use lib.ListN.{length, getD, set, replicate, length-append, length-set}
 use lib.Seq.{set-at, getD-at, getD-append-add}
 use lib.Dec.{eqb}
 use borrow.Author.Tests.{eq-eqb, ne-eqb}
@@ -230,26 +230,3 @@ times-any ps limit = fun-ext (λ n. time-any ps limit n)
 
 pub times-stored : (ps : List Place) (limit : ℕ) → timeIn (pairTable ps false limit) ≡ storedUnder ps limit
 times-stored ps limit = fun-ext (λ n. time-stored ps limit n)
-
--- an entry has at most three numbers, so those of 64 places fit into the table
-entry-short : (test : ℕ → Bool) (life : Life) → length (pairEntry test life) ≤ 3
-unfolding pairEntry
-entry-short test Free = omega arith
-entry-short test (Active n k) = omega arith
-entry-short test (Committed n t e) = omega arith
-
-entries-short : (test : ℕ → Bool) (ps : List Place) (k i : ℕ) → length (pairTableFrom test ps i k) ≤ 3 * k
-unfolding pairTableFrom
-entries-short test ps zero i = omega arith
-entries-short test ps (suc k) i =
-    let h = entries-short test ps k (i + 1) in
-    let g = entry-short test (placeAt ps i .life) in
-    simp length-append (omega arith)
-
-length-padded : (xs : List ℕ) → length xs ≤ 192 → length (padded xs) ≡ 192
-unfolding padded
-length-padded xs h = simp (length-append, length-replicate) (omega arith)
-
-pub length-pairTable : (ps : List Place) (any : Bool) (limit : ℕ) → length (pairTable ps any limit) ≡ 192
-unfolding pairTable
-length-pairTable ps any limit = length-padded _ (entries-short (upTo any limit) ps 64 0)

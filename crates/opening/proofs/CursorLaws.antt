@@ -15,7 +15,6 @@ use Rattle.layout.specs.Part.{part}
 use Rattle.layout.specs.Block.{blk, logBlockAt, endPlace}
 use Rattle.layout.specs.Item.{itemOf, valueOf}
 use Rattle.layout.specs.Journal.{Record, version, commit, recordSize, Parsed, sequenceOf, bodyOf, parse, parseMore, parsed}
-use Rattle.layout.specs.Master.{oldestOn}
 use Rattle.layout.specs.declared.EndPlace.{EndPlace}
 use Rattle.layout.specs.declared.item.Area.the-variants.{Journal}
 use Rattle.layout.specs.declared.item.VersionHead.{VersionHead}
@@ -27,14 +26,12 @@ use Rattle.layout.proofs.PartLaws.{lent-part}
 use Rattle.layout.proofs.BlockLaws.{part-blk}
 use Rattle.layout.proofs.ItemLaws.{Told, told}
 use Rattle.layout.proofs.PlaceLaws.{log-in-medium}
-use Rattle.store.specs.OpenLog.{Placed, placeFrom, blockOf, loggedFrom, matching, readCount, readLog, commitIn, orElse, commitUnder, Commitment}
+use Rattle.store.specs.OpenLog.{Placed, placeFrom, blockOf, loggedFrom, matching, commitIn, orElse, commitUnder, Commitment}
 use Rattle.opening.specs.declared.cursor.Cursor.{Cursor}
 use Rattle.opening.specs.declared.cursor.Step.{Step}
 use Rattle.opening.specs.declared.cursor.Step.the-variants.{Done, Skip, Written, Committed}
 use Rattle.opening.specs.Cursor.{blockFrom, restFrom, restOf, onward, stepAt, stepFrom, stepOf, shown, Ready, Valid}
-use Rattle.opening.specs.Lookup.{slotsBelow}
-use Rattle.opening.specs.Passes.{blocksOk}
-use Rattle.opening.proofs.BlockPasses.{body-short, leftOf, left-behind, record-in, value-in, blocks-slots}
+use Rattle.opening.proofs.BlockPasses.{body-short, leftOf, left-behind, record-in, value-in}
 
 -- a log block, as `&medium[start..start + 512]` is lent
 pub block-lent : (m : List ℕ) (l s start : ℕ) → start ≡ 512 * logBlockAt l s → take (start + 512 - start) (drop start m) ≡ blockOf m l s
@@ -223,10 +220,6 @@ module _ (m : List ℕ) (l : ℕ) (ready : Ready l (length m)) where
 
 -- ---- the whole log, from its start
 
-pub rest-start : (m : List ℕ) (l s k : ℕ) → restOf m l (record { sequence = s; at = 10; left = k }) ≡ loggedFrom m l s k
-unfolding restOf
-rest-start m l s k = rest-block m l s k
-
 pub matching-low : (m : List ℕ) (l s k : ℕ) → matching m l s k ≤ k
 unfolding matching
 matching-low m l s zero = omega arith
@@ -257,16 +250,6 @@ module _ (m : List ℕ) (l s k n start q : ℕ) (more : k < n) (at-start : start
 pub matching-end : (m : List ℕ) (l s k n : ℕ) → n ≤ k → k ≡ k + matching m l (s + k) (n - k)
 unfolding matching
 matching-end m l s k n h = let z : n - k ≡ 0 = omega arith in rw z (omega arith)
-
-pub start-valid : (s k : ℕ) → s < 2 ^ 48 → k ≤ 32 → Valid (record { sequence = s; at = 10; left = k })
-start-valid s k h n = record { from = omega arith; upTo = omega arith; blocks = n; below = omega arith }
-
-pub start-slots : (m : List ℕ) (l d low s k : ℕ) → blocksOk m l d low s k ≡ true → slotsBelow d (restOf m l (record { sequence = s; at = 10; left = k })) ≡ true
-start-slots m l d low s k e = rw (rest-start m l s k) (blocks-slots m l d low s k e)
-
-pub log-start : (m : List ℕ) (l s k : ℕ) → s ≡ oldestOn m → k ≡ matching m l s l → restOf m l (record { sequence = s; at = 10; left = k }) ≡ readLog m l
-unfolding readLog readCount
-log-start m l s k e f = rest-start m l s k ∙ rw (f, e)
 
 -- ---- end places rise
 

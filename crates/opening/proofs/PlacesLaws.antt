@@ -1,7 +1,7 @@
 -- The places that table and log give: how many slots wait under a number, the table's places one after the other, and
 -- the log's: leaving a number out when its turn comes is leaving it out of the list. Assumes nothing.
 use mathlib.Core.Path.{_≡_, refl, sym, ap, _∙_}
-use mathlib.Core.Bool.{Bool, true, false, cond, not, _&&_}
+use mathlib.Core.Bool.{Bool, true, false, cond, not, _&&_, and-true}
 use mathlib.Core.Option.{Option}
 use mathlib.Core.List.{List, [], _∷_, _++_, append-nil}
 use Prim.Native.Nat.{ℕ, zero, suc, _+_, _-_, _%_, _≤_, _<_}
@@ -146,10 +146,6 @@ module _ (m : List ℕ) (log : List Placed) (c : List ℕ) (slots : ℕ) (ps : L
       → v ≡ placeOf (commitAmong cs n) (record { 0 = n }) (record { 0 = timeOrZero (commitAmong cs n) }) waiting → set ps i v ≡ takeOne m log c slots ps n
   unfolding takeOne livePlace placeOf
   take-free i waiting v cs h w g l = simp (← free, h, l, w, g, among-commits log n)
-
-and-true : (b : Bool) → b && true ≡ b
-and-true true = refl
-and-true false = refl
 
 -- ---- the numbers that pass a test, of a rising list
 

@@ -25,11 +25,6 @@ use Rattle.store.specs.OpenConditions.{slotInBounds, slotAtLeastOne, fullBefore
 use Rattle.opening.specs.Lookup.{Tracks, timeOrZero, timeFits, timesAfter}
 use Rattle.opening.specs.Passes.{slotOk}
 
--- whether pages are full lies in the cache alone
-pub full-any : (m : List ℕ) (l d : ℕ) (c : List ℕ) → fullBefore m l d c ≡ fullBefore [] 0 d c
-unfolding fullBefore
-full-any m l d c = refl
-
 -- ---- page p, which begins at a: u and v are the used slots that the code read of it and of the page behind it
 
 pub full-here : (c : List ℕ) (d p a u : ℕ) → a ≡ 512 * p → u ≡ pageUsed (take (a + 512 - a) (drop a c)) → u ≡ 15 → true ≡ fullBefore [] 0 d c p

@@ -1,6 +1,6 @@
 -- The pair table: the search for a number's place, and what is asked of a place. Assumes nothing.
 use mathlib.Core.Path.{_≡_, refl, sym, ap, _∙_}
-use mathlib.Core.Bool.{Bool, true, false, cond, not}
+use mathlib.Core.Bool.{Bool, false, not}
 use mathlib.Core.Option.{Option, none, some}
 use mathlib.Core.List.{List}
 use Prim.Native.Nat.{ℕ, zero, suc, _+_, _-_, _≤_, _<_}
@@ -14,6 +14,7 @@ use Rattle.layout.specs.Table.{tablePair}
 use Rattle.layout.specs.declared.item.Pair.{Pair}
 use Rattle.layout.specs.declared.CommitTime.{CommitTime}
 use Rattle.layout.specs.declared.EndPlace.{EndPlace}
+use Rattle.layout.proofs.Choose.{cond-cases}
 use Rattle.store.specs.declared.Found.{Found as Finding}
 use Rattle.store.specs.declared.Found.the-variants.{At, Nothing}
 use Rattle.store.specs.declared.Timing.the-variants.{Timed, Untimed}
@@ -24,8 +25,7 @@ use Rattle.live.proofs.FirstLaws.{first-hit, first-miss, first-below}
 use Rattle.opening.specs.declared.log.Match.{Match}
 use Rattle.opening.specs.declared.log.Match.the-variants.{Found, Absent}
 use Rattle.opening.specs.Cursor.{Ready}
-use Rattle.opening.specs.Lookup.{Extent, matchOf, commitAmong, Known}
-use Rattle.opening.proofs.GatherLaws.{known-commit}
+use Rattle.opening.specs.Lookup.{Extent, matchOf}
 use Rattle.opening.specs.Passes.{placeOk}
 
 -- does place i hold the number?
@@ -92,16 +92,11 @@ extent-turn m k p h x e z = record {
     go i a b (yes l) = let q : i ≡ k - 1 = omega arith in rw (q, ← e) z
     go i a b (no l) = x .empty i (omega (arith, l)) b
 
--- by which case a choice came to a value
-chosen : {A : Type 0} {B : Type 0} (b : Bool) {x y z : A} → cond b x y ≡ z → (x ≡ z → B) → (y ≡ z → B) → B
-chosen true e f g = f e
-chosen false e f g = g e
-
 pub found-below : (m : List ℕ) (n i : ℕ) → tableFind m n ≡ At i → i < 64
 unfolding tableFind
 found-below m n i e =
-    chosen (eqb n 0) e (λ (r : _≡_ {A = Finding} Nothing (At i)). let z : _≡_ {A = ℕ} 0 1 = cc in absurd (omega arith))
-    (λ r. first-below (numbered m n) 64 0 i r .1)
+    cond-cases (eqb n 0) e (λ t (r : _≡_ {A = Finding} Nothing (At i)). let z : _≡_ {A = ℕ} 0 1 = cc in absurd (omega arith))
+    (λ t r. first-below (numbered m n) 64 0 i r .1)
 
 -- what was looked for in the log
 pub match-some : (o : Option Commitment) (t : CommitTime) (e : EndPlace) → Found t e ≡ matchOf o → o ≡ some (record { time = t .0; end = e .0 })

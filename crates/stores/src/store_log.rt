@@ -4,7 +4,7 @@ use store::Ended;
 use store::Refusal;
 use store::State;
 ghost use mathlib.Core.Path.{_≡_};
-ghost use Prim.Native.Nat.{_+_, _*_, _<_, _≤_, _^_};
+ghost use Prim.Native.Nat.{_<_, _^_};
 ghost use Rattle.layout.specs.Journal.{sequenceOf};
 ghost use Rattle.store.specs.Answer.{leaves};
 ghost use Rattle.store.specs.StoreLog.{logStored, storeLogOf};

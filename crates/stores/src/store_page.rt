@@ -6,7 +6,7 @@ use store::Refusal;
 use store::State;
 ghost use mathlib.Core.Path.{_≡_};
 ghost use mathlib.Core.List.{List};
-ghost use Prim.Native.Nat.{ℕ, _+_, _*_, _<_, _≤_};
+ghost use Prim.Native.Nat.{ℕ, _+_, _*_, _<_};
 ghost use lib.ListN.{length};
 ghost use Rattle.store.specs.Answer.{leaves};
 ghost use Rattle.store.specs.StorePage.{stampFrom, settleFrom, settled, pageStored, storePageOf};

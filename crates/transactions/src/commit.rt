@@ -12,7 +12,7 @@ use store::Refusal;
 use store::State;
 ghost use mathlib.Core.Path.{_≡_};
 ghost use mathlib.Core.Option.{none};
-ghost use Prim.Native.Nat.{_+_, _-_, _*_, _<_, _≤_, _^_};
+ghost use Prim.Native.Nat.{_+_, _-_, _<_, _^_};
 ghost use Rattle.layout.specs.Journal.{sequenceOf};
 ghost use Rattle.store.specs.declared.Found.the-variants.{At};
 ghost use Rattle.store.specs.Answer.{leaves, ask};

@@ -18,9 +18,7 @@ ghost use Rattle.layout.specs.Journal.{sequenceOf};
 ghost use Rattle.store.specs.declared.Found.the-variants.{At};
 ghost use Rattle.store.specs.Answer.{leaves, ask};
 ghost use Rattle.store.specs.Places.{findActive};
-ghost use Rattle.store.specs.Tail.{logged, Logged};
 ghost use Rattle.store.specs.Write.{writeAsks, orNone, newHead, written, writeStep, addOf, writeOf};
-ghost use Rattle.tail.specs.Taken.{taken};
 ghost use Rattle.questions.specs.Asked.{verdict};
 
 // The questions put to a write or an erase.
