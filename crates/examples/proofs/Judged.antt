@@ -1,18 +1,18 @@
 -- Of each case, the book takes what our definitions give and not what those with the shortcut give: by the rows that the
 -- case writes out.
-use Prim.Native.Nat.{ℕ}
+use Prim.Native.Nat.{ℕ, _+_}
 use native.Mathlib.Omega.{arith}
 use mathlib.Core.Path.{_≡_, refl, sym, ap}
-use mathlib.Core.Bool.{Bool, false, false≢true}
+use mathlib.Core.Bool.{cond, false≢true}
 use mathlib.Core.List.{List, [], _∷_}
 use Rattle.runs.specs.Event.{Sight}
 use Rattle.runs.specs.Book.{versions, timeOf, lastTime, hasRow, isOpen, fall, sight, sights, isSome}
 use Rattle.examples.specs.Spoiling.{Judged, stampedEarly, closedUp, droppedEarly, numbersAgain, nothingLogged}
 
--- has the first slot a time?
-abbrev firstTimed : List Sight → Bool
-firstTimed [] = false
-firstTimed (s ∷ ss) = isSome (s .time)
+-- how many slots have no time
+abbrev untimed : List Sight → ℕ
+untimed [] = 0
+untimed (s ∷ ss) = cond (isSome (s .time)) 0 1 + untimed ss
 
 pub stampedEarly-judged : Judged stampedEarly
 unfolding fall lastTime sights sight versions timeOf
@@ -25,14 +25,14 @@ pub closedUp-judged : Judged closedUp
 unfolding fall lastTime sights sight versions timeOf
 closedUp-judged = record {
   takes = record { accepted = λ h. refl; refused = λ h. absurd (h refl); last = λ h. refl; finds = λ h. refl };
-  catches = λ f. false≢true (ap firstTimed (f .finds refl));
+  catches = λ f. let e : _≡_ {A = ℕ} 2 1 = ap untimed (f .finds refl) in absurd (omega arith);
 }
 
 pub droppedEarly-judged : Judged droppedEarly
 unfolding fall lastTime sights sight versions timeOf
 droppedEarly-judged = record {
   takes = record { accepted = λ h. refl; refused = λ h. absurd (h refl); last = λ h. refl; finds = λ h. refl };
-  catches = λ f. false≢true (ap firstTimed (f .finds refl));
+  catches = λ f. let e : _≡_ {A = ℕ} 14 0 = ap untimed (f .finds refl) in absurd (omega arith);
 }
 
 pub numbersAgain-judged : Judged numbersAgain
@@ -43,5 +43,5 @@ pub nothingLogged-judged : Judged nothingLogged
 unfolding fall lastTime sights sight versions timeOf
 nothingLogged-judged = record {
   takes = record { accepted = λ h. refl; refused = λ h. absurd (h refl); last = λ h. refl; finds = λ h. refl };
-  catches = λ f. false≢true (ap firstTimed (f .finds refl));
+  catches = λ f. let e : _≡_ {A = ℕ} 1 0 = ap untimed (f .finds refl) in absurd (omega arith);
 }

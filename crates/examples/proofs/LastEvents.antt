@@ -10,7 +10,7 @@ use Rattle.runs.specs.Machine.{World, step, formatted}
 use Rattle.runs.specs.Demand.{Agrees, Demand3}
 use Rattle.runs.specs.Moments.{Run, worldAfter, bookAfter, bookAt, seenAt}
 use Rattle.examples.specs.Compute.{Computed, computed}
-use Rattle.examples.specs.Spoiling.{Case, Judged, Shows}
+use Rattle.examples.specs.Spoiling.{Case, Judged, Shows, Caught}
 use Rattle.examples.proofs.Passes.{computed-is}
 
 last-agrees : (l d : ℕ) (w : World) (b : Book) (es : List Event) (e : Event) → Agrees l d w b (es ++ (e ∷ []))
@@ -41,3 +41,7 @@ pub refuted : (c : Case) → Judged c → Shows c (c .wrong) → Demand3 → ⊥
 refuted c j s t =
     let f = last-fits t (c .blocks) (c .pages) (c .before) (c .last) (s .run) in
     j .catches (rw (s .book, s .seen) at f)
+
+-- a case that shows what the book takes does not show the other
+pub caught : (c : Case) → Judged c → Shows c (c .right) → Caught c
+caught c j s = record { judged = j; shows = s; never = λ t. j .catches (rw (sym (s .seen) ∙ t .seen) at (j .takes)) }

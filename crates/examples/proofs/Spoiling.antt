@@ -3,44 +3,44 @@ use mathlib.Core.Path.{refl}
 use mathlib.Core.List.{List, [], _∷_}
 use Rattle.store.specs.State.{inRange}
 use Rattle.examples.specs.Compute.{computed}
-use Rattle.examples.specs.Spoiling.{Case, Judged, Shows, cases, stampedEarly, closedUp, droppedEarly, numbersAgain, nothingLogged}
+use Rattle.examples.specs.Spoiling.{Case, Caught, cases, stampedEarly, closedUp, droppedEarly, numbersAgain, nothingLogged}
 use Rattle.examples.proofs.Judged.{stampedEarly-judged, closedUp-judged, droppedEarly-judged, numbersAgain-judged, nothingLogged-judged}
-use Rattle.examples.proofs.LastEvents.{shows}
+use Rattle.examples.proofs.LastEvents.{shows, caught}
 
 abbrev Each : List Case → Type 0
 Each [] = Unit {0}
-Each (c ∷ cs) = (Judged c × Shows c (c .right)) × Each cs
+Each (c ∷ cs) = Caught c × Each cs
 
-stampedEarly-shown : Shows stampedEarly (stampedEarly .right)
+stampedEarly-caught : Caught stampedEarly
 unfolding computed inRange
-stampedEarly-shown = shows stampedEarly (stampedEarly .right) refl refl
+stampedEarly-caught = caught stampedEarly stampedEarly-judged (shows stampedEarly (stampedEarly .right) refl refl)
 
-closedUp-shown : Shows closedUp (closedUp .right)
+closedUp-caught : Caught closedUp
 unfolding computed inRange
-closedUp-shown = shows closedUp (closedUp .right) refl refl
+closedUp-caught = caught closedUp closedUp-judged (shows closedUp (closedUp .right) refl refl)
 
-droppedEarly-shown : Shows droppedEarly (droppedEarly .right)
+droppedEarly-caught : Caught droppedEarly
 unfolding computed inRange
-droppedEarly-shown = shows droppedEarly (droppedEarly .right) refl refl
+droppedEarly-caught = caught droppedEarly droppedEarly-judged (shows droppedEarly (droppedEarly .right) refl refl)
 
-numbersAgain-shown : Shows numbersAgain (numbersAgain .right)
+numbersAgain-caught : Caught numbersAgain
 unfolding computed inRange
-numbersAgain-shown = shows numbersAgain (numbersAgain .right) refl refl
+numbersAgain-caught = caught numbersAgain numbersAgain-judged (shows numbersAgain (numbersAgain .right) refl refl)
 
-nothingLogged-shown : Shows nothingLogged (nothingLogged .right)
+nothingLogged-caught : Caught nothingLogged
 unfolding computed inRange
-nothingLogged-shown = shows nothingLogged (nothingLogged .right) refl refl
+nothingLogged-caught = caught nothingLogged nothingLogged-judged (shows nothingLogged (nothingLogged .right) refl refl)
 
 pub spoiling : Each cases
 spoiling = (
-  (stampedEarly-judged, stampedEarly-shown),
+  stampedEarly-caught,
   (
-    (closedUp-judged, closedUp-shown),
+    closedUp-caught,
     (
-      (droppedEarly-judged, droppedEarly-shown),
+      droppedEarly-caught,
       (
-        (numbersAgain-judged, numbersAgain-shown),
-        ((nothingLogged-judged, nothingLogged-shown), tt),
+        numbersAgain-caught,
+        (nothingLogged-caught, tt),
       ),
     ),
   ),
