@@ -19,7 +19,7 @@ use Rattle.store.specs.declared.Best.the-variants.{Version, Neither}
 use Rattle.store.specs.Chain.{cellAt, isVersion, versionTime, unlessEmpty, laterOf, betterOf, bestFrom, bestOf}
 use Rattle.chain.specs.Room.{Room, Head, Within}
 use Rattle.chain.proofs.RoomLaws.{room-lower}
-use Rattle.chain.proofs.VersionLaws.{unless-none, unless-some}
+use Rattle.store.proofs.ChainLaws.{unless-none, unless-some}
 
 module _ (c : List ℕ) (pair : ℕ → Timing) where
   -- a best at slot s or below, whose time is the slot's and not above t

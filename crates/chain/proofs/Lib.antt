@@ -1,6 +1,5 @@
 pub mod RoomLaws
 pub mod NewestLaws
-pub mod VersionLaws
 pub mod VisibleLaws
 pub mod BestLaws
 pub mod LineLaws

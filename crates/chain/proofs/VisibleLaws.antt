@@ -12,7 +12,7 @@ use Rattle.store.specs.declared.Found.{Found}
 use Rattle.store.specs.declared.Found.the-variants.{At, Nothing}
 use Rattle.store.specs.declared.Timing.{Timing}
 use Rattle.store.specs.Chain.{cellAt, isVersion, visible, unlessEmpty, visibleFrom}
-use Rattle.chain.proofs.VersionLaws.{unless-none, unless-some}
+use Rattle.store.proofs.ChainLaws.{unless-none, unless-some}
 
 module _ (c : List ℕ) (pair : ℕ → Timing) (n : ℕ) where
   -- more steps than enough change nothing

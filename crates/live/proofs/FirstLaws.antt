@@ -1,11 +1,11 @@
 -- The laws of `first` for a loop that counts i up to n: where the test passes, where it does not, and at the end; b is
 -- what the code computed for the test at i. Then what is known of a number that was found. Assumes nothing.
-use mathlib.Core.Path.{_≡_}
+use Prim.Native.Nat.{ℕ, suc, _+_, _-_, _≤_, _<_}
+use native.Mathlib.Omega.{arith}
 use mathlib.Core.Bool.{Bool, true, false}
 use mathlib.Core.List.{List}
-use Prim.Native.Nat.{ℕ, zero, suc, _+_, _-_, _≤_, _<_}
-use native.Mathlib.Omega.{arith}
-use Rattle.layout.proofs.Choose.{cond-cases}
+use mathlib.Core.Path.{_≡_}
+use Rattle.store.proofs.SearchLaws.{first-found}
 use Rattle.store.specs.declared.Found.the-variants.{At, Nothing}
 use Rattle.store.specs.declared.Place.{Place}
 use Rattle.store.specs.Places.{first, findActive, findCommitted, findFree}
@@ -24,22 +24,14 @@ first-none p n i h = let m : n - i ≡ 0 = omega arith in simp m
 
 -- ---- what was found lies in the range
 
-pub first-below : (p : ℕ → Bool) (n i k : ℕ) → first p n i ≡ At k → (i ≤ k) × (k < i + n)
-unfolding first
-first-below p zero i k e = let z : _≡_ {A = ℕ} 0 1 = cc in absurd (omega arith)
-first-below p (suc n) i k e =
-    cond-cases (p i) e
-    (λ t r. let z : i ≡ k = cc in (omega arith, omega arith))
-    (λ t r. let h : (i + 1 ≤ k) × (k < i + 1 + n) = first-below p n (i + 1) k r in (omega arith, omega arith))
-
 pub active-below : (ps : List Place) (n k : ℕ) → findActive ps n ≡ At k → k < 64
 unfolding findActive
-active-below ps n k e = first-below _ 64 0 k e .1
+active-below ps n k e = first-found _ 64 0 k e .1
 
 pub committed-below : (ps : List Place) (n k : ℕ) → findCommitted ps n ≡ At k → k < 64
 unfolding findCommitted
-committed-below ps n k e = first-below _ 64 0 k e .1
+committed-below ps n k e = first-found _ 64 0 k e .1
 
 pub free-below : (ps : List Place) (ring k : ℕ) → findFree ps ring ≡ At k → k < 64
 unfolding findFree
-free-below ps ring k e = first-below _ 64 0 k e .1
+free-below ps ring k e = first-found _ 64 0 k e .1

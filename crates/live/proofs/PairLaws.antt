@@ -17,7 +17,6 @@ use Rattle.store.specs.declared.Found.the-variants.{At}
 use Rattle.store.specs.declared.Timing.{Timing}
 use Rattle.store.specs.declared.Timing.the-variants.{Timed, Untimed}
 use Rattle.store.specs.Places.{first, committedAs, placeAt, findCommitted, timeOf, timeUpTo, atFound, timeUnder, storedUnder}
-pub use Rattle.live.proofs.FirstLaws.{first-below}
 use Rattle.live.specs.Pairs.{markIn, numberIn, instantIn, pairEntry, pairTableFrom, upTo, padded, pairTable, timeFrom, timeIn}
 
 -- ---- writing the table from the front

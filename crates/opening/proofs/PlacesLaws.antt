@@ -33,7 +33,7 @@ use Rattle.opening.specs.declared.log.Match.the-variants.{Found, Absent}
 use Rattle.opening.specs.declared.waiting.Numbers.{Numbers}
 use Rattle.opening.specs.Lookup.{Above, Rising, Collected, commitsOf, commitAmong, matchOf, placeOf, tablePlace, freeUnless, takeOne, takeAll}
 use Rattle.opening.proofs.TableLaws.{match-some, match-none}
-use Rattle.live.proofs.FirstLaws.{first-below}
+use Rattle.store.proofs.SearchLaws.{first-found}
 use Rattle.opening.proofs.GatherLaws.{among-commits}
 use Rattle.opening.proofs.InsertLaws.{insert-front, rising-waiting}
 
@@ -133,7 +133,7 @@ free-untabled ps f g r e h d = d ∙ free-first ps ∙ rw (sym e ∙ h)
 pub free-found : (ps : List Place) (f : Finding) (i : ℕ) → freeUnless f ps ≡ At i → i < 64
 unfolding freeUnless
 free-found ps (At j) i e = let z : _≡_ {A = ℕ} 0 1 = cc in absurd (omega arith)
-free-found ps Nothing i e = first-below _ 64 0 i e .1
+free-found ps Nothing i e = first-found _ 64 0 i e .1
 
 -- ---- a place for number n: f is where the code found that it is
 

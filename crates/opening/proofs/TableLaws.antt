@@ -21,7 +21,8 @@ use Rattle.store.specs.declared.Timing.the-variants.{Timed, Untimed}
 use Rattle.store.specs.Places.{first, isAt}
 use Rattle.store.specs.OpenLog.{Placed, Commitment, commitUnder}
 use Rattle.store.specs.OpenPairs.{tableFind, pairTime}
-use Rattle.live.proofs.FirstLaws.{first-hit, first-miss, first-below}
+use Rattle.store.proofs.SearchLaws.{first-found}
+use Rattle.live.proofs.FirstLaws.{first-hit, first-miss}
 use Rattle.opening.specs.declared.log.Match.{Match}
 use Rattle.opening.specs.declared.log.Match.the-variants.{Found, Absent}
 use Rattle.opening.specs.Cursor.{Ready}
@@ -96,7 +97,7 @@ pub found-below : (m : List ℕ) (n i : ℕ) → tableFind m n ≡ At i → i < 
 unfolding tableFind
 found-below m n i e =
     cond-cases (eqb n 0) e (λ t (r : _≡_ {A = Finding} Nothing (At i)). let z : _≡_ {A = ℕ} 0 1 = cc in absurd (omega arith))
-    (λ t r. first-below (numbered m n) 64 0 i r .1)
+    (λ t r. first-found (numbered m n) 64 0 i r .1)
 
 -- what was looked for in the log
 pub match-some : (o : Option Commitment) (t : CommitTime) (e : EndPlace) → Found t e ≡ matchOf o → o ≡ some (record { time = t .0; end = e .0 })

@@ -1,2 +1,4 @@
 pub mod AskLaws
 pub mod FitLaws
+pub mod SearchLaws
+pub mod ChainLaws

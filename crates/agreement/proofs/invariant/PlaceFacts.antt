@@ -1,13 +1,14 @@
 -- A search over the places finds the one that the invariant speaks of, since numbers in places are distinct.
-use Prim.Native.Nat.{ℕ, zero, suc, _+_, _≤_, _<_}
+use Prim.Native.Nat.{ℕ, _<_}
 use native.Mathlib.Omega.{arith}
-use mathlib.Core.Bool.{Bool, true, false, cond, false≢true}
+use mathlib.Core.Bool.{true, false≢true}
 use mathlib.Core.List.{List}
 use mathlib.Core.Logic.{_⊎_, inl, inr, _≢_}
 use mathlib.Core.Path.{_≡_, refl, sym, ap, _∙_}
 use borrow.Author.Tests.{eqb-true, eq-eqb}
 use Rattle.layout.specs.Slot.{Cell}
-use Rattle.store.specs.Places.{isFree, placeAt, findActive, findCommitted, timeUnder, first, activeAs, committedAs, timeOf, atFound}
+use Rattle.store.proofs.SearchLaws.{first-found, first-only}
+use Rattle.store.specs.Places.{isFree, placeAt, findActive, findCommitted, timeUnder, activeAs, committedAs, timeOf, atFound}
 use Rattle.store.specs.declared.Place.{Place}
 use Rattle.store.specs.declared.Found.{Found}
 use Rattle.store.specs.declared.Found.the-variants.{At, Nothing}
@@ -20,41 +21,6 @@ use Rattle.agreement.proofs.history.ListLaws.{same?}
 use Rattle.agreement.proofs.invariant.Invariant.{lifeNum, lifeTime, Formed, Living, numAt, timeAt}
 
 -- ---- of the places
-
--- what the first search finds
-first-cases : {B : Type 0} (p : ℕ → Bool) (n i j : ℕ) → first p (suc n) i ≡ At j → (p i ≡ true → i ≡ j → B) → (p i ≡ false → first p n (i + 1) ≡ At j → B) → B
-unfolding first
-first-cases {B} p n i j e f g = go (p i) refl e
-  where
-    go : (t : Bool) → p i ≡ t → cond t (At i) (first p n (i + 1)) ≡ At j → B
-    go true q e = f q (cc)
-    go false q e = g q e
-
-pub first-found : (p : ℕ → Bool) (n i j : ℕ) → first p n i ≡ At j → (i ≤ j) × (j < i + n) × (p j ≡ true)
-unfolding first
-first-found p zero i j e = let z : _≡_ {A = ℕ} 0 1 = cc in absurd (omega arith)
-first-found p (suc n) i j e =
-    first-cases p n i j e (λ q r. (omega arith, omega arith, rw r at q))
-    (λ q r. let h : (i + 1 ≤ j) × (j < i + 1 + n) × (p j ≡ true) = first-found p n (i + 1) j r in (omega arith, omega arith, h .2))
-
-pub first-nothing : (p : ℕ → Bool) (n i : ℕ) → first p n i ≡ Nothing → (j : ℕ) → i ≤ j → j < i + n → p j ≡ false
-unfolding first
-first-nothing p zero i e j a b = absurd (omega arith)
-first-nothing p (suc n) i e j a b = go (p i) refl e (same? i j) (λ r. first-nothing p n (i + 1) r)
-  where
-    go : (t : Bool) → p i ≡ t → cond t (At i) (first p n (i + 1)) ≡ Nothing → (i ≡ j) ⊎ (i ≢ j)
-        → (first p n (i + 1) ≡ Nothing → (x : ℕ) → i + 1 ≤ x → x < i + 1 + n → p x ≡ false) → p j ≡ false
-    go true q e s f = let z : _≡_ {A = ℕ} 0 1 = cc in absurd (omega arith)
-    go false q e (inl s) f = rw s at q
-    go false q e (inr s) f = f e j (omega arith) (omega arith)
-
--- the one place that passes is found
-pub first-only : (p : ℕ → Bool) (n j : ℕ) → j < n → p j ≡ true → ((i : ℕ) → i < n → p i ≡ true → i ≡ j) → first p n 0 ≡ At j
-first-only p n j h t f = go (first p n 0) refl
-  where
-    go : (x : Found) → first p n 0 ≡ x → x ≡ At j
-    go (At i) e = let r : (0 ≤ i) × (i < 0 + n) × (p i ≡ true) = first-found p n 0 i e in ap At (f i (omega arith) (r .2))
-    go Nothing e = absurd (false≢true (sym (first-nothing p n 0 e j (omega arith) (omega arith)) ∙ t))
 
 active-life : (x : Life) (n : ℕ) → Formed x → activeAs x n ≡ true → (0 < n) × (lifeNum x ≡ n) × (lifeTime x ≡ 0)
 active-life Free n f e = absurd (false≢true e)

@@ -18,6 +18,7 @@ use Rattle.store.specs.Chain.{isTimed}
 use Rattle.store.specs.Places.{first, isAt}
 use Rattle.store.specs.OpenLog.{readLog, commitUnder, nextNumber}
 use Rattle.store.specs.OpenPairs.{tableFind, tableOr, timeOfCommitment, pairTime, isPaired, inLogAlone}
+use Rattle.store.proofs.SearchLaws.{first-found, first-nothing}
 use Rattle.runs.specs.Book.{Book}
 use Rattle.agreement.proofs.invariant.MediumFacts.{times-low, sound-at, waiting-slot}
 use Rattle.agreement.proofs.history.CommitLaws.{timed, find-num, find-each, find-left, find-right, once-split}
@@ -25,7 +26,6 @@ use Rattle.agreement.proofs.history.Ghost.{commitsOf, placeAll, records
 use Rattle.agreement.proofs.history.ListLaws.{same?, each-left, each-right}
 use Rattle.agreement.proofs.history.VersionLaws.{commits-append, place-commits, num-commits}
 use Rattle.agreement.proofs.invariant.Invariant.{tableNum, tableTime, Down}
-use Rattle.agreement.proofs.invariant.PlaceFacts.{first-found, first-nothing}
 use Rattle.agreement.proofs.opening.Reading.{commit-time, log-split, log-before, log-recent, numbers-below}
 
 -- ---- a table place by its number

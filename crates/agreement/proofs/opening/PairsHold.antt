@@ -22,6 +22,7 @@ use Rattle.store.specs.Chain.{cellAt}
 use Rattle.store.specs.OpenLog.{Placed, numberIn, nextOn, readLog, commitUnder, Commitment}
 use Rattle.store.specs.OpenPairs.{tableFind, timeOfCommitment, waitingNumbers, isPaired}
 use Rattle.store.specs.OpenConditions.{holds, atLeastOne, slotAtLeastOne, sameTime, onceIn, onceChecks, newInTable, redone, fromOne, numbersLeft, pairsOnce, fewWaiting}
+use Rattle.store.proofs.SearchLaws.{first-found}
 use Rattle.runs.specs.Book.{Book}
 use Rattle.agreement.proofs.invariant.MediumFacts.{times-low, next-is, sound-at, cell-cached, cell-free}
 use Rattle.agreement.proofs.history.Ghost.{versionsOf, commitsOf, Sound, placeAll, records, LoggedVersion, at, LoggedCommit, commitsIn, asCommit, find, timing, cell, Match, still, marked, Once, Disk}
@@ -29,7 +30,6 @@ use Rattle.agreement.proofs.history.ListLaws.{split, same?, each-left, 
 use Rattle.agreement.proofs.history.VersionLaws.{sound-all, commits-append}
 use Rattle.agreement.proofs.history.CommitLaws.{find-left, find-right, find-head, once-split}
 use Rattle.agreement.proofs.invariant.Invariant.{OnMedium, Down}
-use Rattle.agreement.proofs.invariant.PlaceFacts.{first-found}
 use Rattle.agreement.proofs.opening.Reading.{log-split, commit-time}
 use Rattle.agreement.proofs.opening.Redo.{redone-cache}
 use Rattle.agreement.proofs.opening.Places.{few-waiting}

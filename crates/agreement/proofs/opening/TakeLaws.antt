@@ -21,8 +21,9 @@ use Rattle.store.specs.declared.Place.{Place}
 use Rattle.store.specs.Places.{first, placeAt, freePlace, isFree}
 use Rattle.store.specs.OpenLog.{readLog, commitUnder, nextNumber}
 use Rattle.store.specs.OpenPairs.{tableFind, timeOrZero, endOfCommitment, countWaiting, livePlace, tablePlaces, takeAt, takeFree, waitingNumbers, inLogAlone}
+use Rattle.store.proofs.SearchLaws.{first-found, first-nothing}
 use Rattle.runs.specs.Book.{Book}
-use Rattle.agreement.proofs.invariant.PlaceFacts.{free-num, first-found, first-nothing, life-low}
+use Rattle.agreement.proofs.invariant.PlaceFacts.{free-num, life-low}
 use Rattle.agreement.proofs.history.Ghost.{commitsOf, LoggedCommit, commitsIn, noCommit, find, count, Disk}
 use Rattle.agreement.proofs.history.ListLaws.{split, same?}
 use Rattle.agreement.proofs.invariant.Invariant.{tableNum, tableTime, lifeNum, lifeTime, Formed, numAt, timeAt, Lively, Covered, Down}

@@ -12,6 +12,7 @@ use borrow.Author.Tests.{leb-true, leb-false, lt-ltb, le-ltb}
 use Rattle.layout.specs.Journal.{Record}
 use Rattle.layout.specs.Slot.{Cell}
 use Rattle.layout.specs.declared.CommitTime.{CommitTime}
+use Rattle.store.proofs.ChainLaws.{unless-some}
 use Rattle.store.specs.declared.Best.{Best}
 use Rattle.store.specs.declared.Best.the-variants.{Version, Neither}
 use Rattle.store.specs.declared.Found.{Found}
@@ -32,7 +33,7 @@ use Rattle.agreement.proofs.history.RowLaws.{rowFor, rowsFor}
 use Rattle.agreement.proofs.reads.Sights.{version-time}
 use Rattle.agreement.proofs.reads.WalkLaws.{overAll, Reaches, walked}
 use Rattle.agreement.proofs.reads.ReadFacts.{rowsFor-step, all-rows, row-time, chain-cached, kind-cached, value-cached, few-slots}
-use Rattle.agreement.proofs.reads.CurrentRead.{unless-empty, cell-strip}
+use Rattle.agreement.proofs.reads.CurrentRead.{cell-strip}
 
 -- ---- the book's fold
 
@@ -120,7 +121,7 @@ module _ {l d : ℕ} {m c : List ℕ} {s : State} {b : Book} {disk : Disk} {clos
       → counting c (timeUnder (s .places)) t j rest
       ≡ betterOf (timing (find (commitsOf (closed ++ (tail ∷ []))) (at (versionsOf (closed ++ (tail ∷ []))) j .num) .time)) j t rest
   counting-is t j rest h =
-      unless-empty (cellAt c j .state) Neither _ (ap (λ (x : Cell). isVersion (x .state)) (cell-cached (u .medium) (u .cache) j h) ∙ cell-fields (u .medium) j h .0)
+      unless-some (cellAt c j .state) Neither _ (ap (λ (x : Cell). isVersion (x .state)) (cell-cached (u .medium) (u .cache) j h) ∙ cell-fields (u .medium) j h .0)
       ∙ ap (λ (x : Timing). betterOf x j t rest) (version-time u j h)
 
   folds : (key t j : ℕ) → j ≤ length (versionsOf (closed ++ (tail ∷ [])))

@@ -2,7 +2,7 @@
 -- over the record's versions by rising slot (WalkLaws), and they agree at each slot.
 use Prim.Native.Nat.{ℕ, zero, suc, _≤_, _<_}
 use native.Mathlib.Omega.{arith}
-use mathlib.Core.Bool.{or-true, Bool, true, false, cond, _&&_, _||_, false≢true}
+use mathlib.Core.Bool.{or-true, Bool, true, false, cond, _&&_, _||_}
 use mathlib.Core.List.{List, [], _∷_, _++_}
 use mathlib.Core.Option.{Option}
 use mathlib.Core.Path.{_≡_, refl, sym, ap, _∙_}
@@ -11,8 +11,7 @@ use lib.ListN.{length, take}
 use Rattle.layout.specs.Journal.{Record}
 use Rattle.layout.specs.Slot.{Cell}
 use Rattle.layout.specs.Block.{zeros}
-use Rattle.layout.specs.declared.slot.Slot.{Slot}
-use Rattle.layout.specs.declared.slot.Slot.the-variants.{Empty, Waiting, Stamped}
+use Rattle.store.proofs.ChainLaws.{unless-some}
 use Rattle.store.specs.declared.Found.{Found}
 use Rattle.store.specs.declared.Found.the-variants.{At, Nothing}
 use Rattle.store.specs.declared.Timing.{Timing}
@@ -55,11 +54,6 @@ seen-by cs v x pair n t still e = ap (λ (y : Timing). eqb (v .num) n || isTimed
 seen-by cs v x pair n t (marked a z q) e =
     sym (ap (λ (y : Timing). eqb (v .num) n || isSome (timeIn y)) (sym e) ∙ or-true (eqb (v .num) n))
 
-pub unless-empty : {A : Type 0} (x : Slot) (stop go : A) → isVersion x ≡ true → unlessEmpty x stop go ≡ go
-unless-empty Empty stop go e = absurd (false≢true e)
-unless-empty (Waiting n) stop go e = refl
-unless-empty (Stamped t) stop go e = refl
-
 -- a slot of the walk: it is found if it is visible
 abbrev showing : List ℕ → (ℕ → Timing) → ℕ → ℕ → Found → Found
 showing c pair n j rest = unlessEmpty (cellAt c j .state) Nothing (cond (visible (cellAt c j .state) pair n) (At j) rest)
@@ -89,7 +83,7 @@ module _ {l d : ℕ} {m c : List ℕ} {s : State} {b : Book} {disk : Disk} {clos
       → showing c (timeUnder (s .places)) n j rest
       ≡ cond (eqb (at (versionsOf (closed ++ (tail ∷ []))) j .num) n || isSome (timeOf (b .rows) (at (versionsOf (closed ++ (tail ∷ []))) j .num))) (At j) rest
   showing-is n j rest h =
-      unless-empty (cellAt c j .state) Nothing _ (ap (λ (x : Cell). isVersion (x .state)) (cell-cached (u .medium) (u .cache) j h) ∙ cell-fields (u .medium) j h .0)
+      unless-some (cellAt c j .state) Nothing _ (ap (λ (x : Cell). isVersion (x .state)) (cell-cached (u .medium) (u .cache) j h) ∙ cell-fields (u .medium) j h .0)
       ∙ ap (λ (t : Bool). cond t (At j) rest) (visible-is n j h)
 
   folds : (n key j : ℕ) → j ≤ length (versionsOf (closed ++ (tail ∷ [])))

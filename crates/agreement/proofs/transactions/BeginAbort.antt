@@ -20,9 +20,10 @@ use Rattle.store.specs.State.{withPlace}
 use Rattle.store.specs.Begin.{beginAsks, begun}
 use Rattle.store.specs.OpenLog.{Placed, numberIn}
 use Rattle.store.proofs.AskLaws.{Passed}
+use Rattle.store.proofs.SearchLaws.{first-found}
 use Rattle.runs.specs.Book.{Book, Row, Opened, close, hasRow, isOpen, clockOf as clockIn}
 use Rattle.runs.specs.Machine.{up}
-use Rattle.agreement.proofs.invariant.PlaceFacts.{free-num, first-found, active-found}
+use Rattle.agreement.proofs.invariant.PlaceFacts.{free-num, active-found}
 use Rattle.agreement.proofs.history.Ghost.{versionsOf, commitsOf, records, LoggedVersion, noVersion, at, LoggedCommit, find, count, Disk}
 use Rattle.agreement.proofs.invariant.Invariant.{lifeClock, numAt, timeAt, tableNum, Covered, Lively, Up, Inv, running}
 use Rattle.agreement.proofs.history.ListLaws.{same?}

@@ -1,11 +1,11 @@
--- A slot holds a version or is empty. Assumes nothing.
+-- What a search along earlier slots does at a slot: it ends at an empty one, and goes on at a version. By cases on the slot.
 use mathlib.Core.Path.{_≡_, refl}
 use mathlib.Core.Bool.{true, false}
 use Prim.Native.Nat.{ℕ}
 use native.Mathlib.Omega.{arith}
 use Rattle.layout.specs.declared.slot.Slot.{Slot}
 use Rattle.layout.specs.declared.slot.Slot.the-variants.{Empty, Waiting, Stamped}
 use Rattle.store.specs.Chain.{isVersion, unlessEmpty}
 
 pub unless-none : {A : Type 0} (s : Slot) (x y : A) → isVersion s ≡ false → unlessEmpty s x y ≡ x
 unless-none Empty x y e = refl
