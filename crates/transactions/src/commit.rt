@@ -1,5 +1,6 @@
 // Commit.
 use layout::CommitTime;
+use layout::EndPlace;
 use layout::TxNumber;
 use layout::item::Pair;
 use questions::refuse::Verdict;
@@ -13,10 +14,10 @@ use store::State;
 ghost use mathlib.Core.Path.{_≡_};
 ghost use mathlib.Core.Option.{none};
 ghost use Prim.Native.Nat.{_+_, _-_, _<_, _^_};
-ghost use Rattle.layout.specs.Journal.{sequenceOf};
 ghost use Rattle.store.specs.declared.Found.the-variants.{At};
 ghost use Rattle.store.specs.Answer.{leaves, ask};
 ghost use Rattle.store.specs.Places.{findActive, placeAt};
+ghost use Rattle.store.specs.Tail.{tailEnd};
 ghost use Rattle.store.specs.Commit.{commitAsks, commitTime, committed, commitStep, commitOf};
 ghost use Rattle.questions.specs.Asked.{verdict};
 
@@ -56,13 +57,13 @@ fn time_for(s: State, i: u64, clock: u64) -> CommitTime
     CommitTime(live::larger(begun, live::larger(clock, s.last.0 + 1)))
 }
 
-// The state t, whose tail took the commit record, with the transaction in place i committed at the time.
-fn settle(t: State, i: u64, number: u64, time: CommitTime) -> State
+// The state t, whose tail took the commit record, with the transaction in place i committed at the time; the record ends
+// where the tail does.
+fn settle(t: State, i: u64, number: u64, time: CommitTime, end: EndPlace) -> State
     requires { ⌜ i < 64 ⌝ }
-    requires { ⌜ sequenceOf (t .tail) < 2 ^ 48 ⌝ }
+    requires { ⌜ end ≡ tailEnd (t .tail) ⌝ }
     ensures { λ r. ⌜ r ≡ committed t i number time (record { medium = t .tail; tail = t .tail; end = t .end; saved = t .saved }) ⌝ }
 {
-    let end = tail::end_of(t);
     let k = i as usize;
     let p = t.places[k];
     let mut u = t;
@@ -89,9 +90,10 @@ fn step(s: State, medium: &mut [u8], cache: &[u8], i: u64, number: u64, time: Co
             time: time,
         },
     );
+    let end = tail::end_of(t);
     Ended {
         answer: Answer::Committed(time),
-        state: settle(t, i, number, time),
+        state: settle(t, i, number, time, end),
     }
 }
 

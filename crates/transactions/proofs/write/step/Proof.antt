@@ -5,8 +5,7 @@ use native.Mathlib.Omega.{arith}
 use lib.ListN.{length}
 use Rattle.layout.specs.Journal.{recordSize}
 use Rattle.live.proofs.FirstLaws.{active-below}
-use Rattle.tail.proofs.TailLaws.{ready}
-use Rattle.tail.proofs.TailLaws.{sequence-logged}
+use Rattle.tail.proofs.TailLaws.{ready, sequence-logged}
 use Rattle.transactions.proofs.WriteLaws.{WriteAsked, write-asked, slot-in-cache, slots-taken, write-done}
 use borrow.Author.Needs.{needs}
 use Rattle.transactions.proofs.write.step.Statement.{statement}
