@@ -1,7 +1,6 @@
 pub mod PartLaws
 pub mod FieldLaws
 pub mod Choose
-pub mod Loops
 pub mod EqualLaws
 pub mod PrefixLaws
 pub mod WriteLaws
