@@ -1,0 +1,21 @@
+-- One byte is set behind the first n.
+use mathlib.Core.Path.{_≡_, refl, sym, ap, _∙_}
+use Rattle.script.proofs.PrintLaws.{put-byte}
+use borrow.Author.Needs.{needs}
+use Rattle.script.proofs.print.byte.Statement.{statement}
+use Rattle.script.proofs.print.byte.Tie as tie
+
+slice-write-out : tie.Need-slice-write-out
+slice-write-out c = search needs
+
+add-result : tie.Need-add-result
+add-result c = search needs
+
+same-length : tie.Need-same-length
+same-length c = search needs
+
+returns : tie.Need-returns
+returns c = (refl, put-byte _ _ _ (c .pre))
+
+pub byte-spec : {M : Type 1} → statement M
+byte-spec = tie.close (tie.spec slice-write-out add-result same-length returns)

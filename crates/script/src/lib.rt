@@ -1,0 +1,2 @@
+// What the programs that play scripts share: the bytes that they print.
+pub mod print;
