@@ -1,1 +1,5 @@
+pub mod Words
+pub mod Form
+pub mod Reader
+pub mod Replay
 pub mod Print

@@ -1,2 +1,5 @@
-// What the programs that play scripts share: the bytes that they print.
+// What the programs that play scripts share: lines taken from reads, the calls that they ask for, and the bytes that
+// answers print.
+pub mod call;
+pub mod line;
 pub mod print;

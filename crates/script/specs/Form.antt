@@ -1,0 +1,58 @@
+-- The form of a line: a letter, then words, each behind one space. All words but the last are decimal numbers; the last is
+-- read as a decimal number and as hex digits, and the letter decides which of the two it takes.
+use Prim.Native.Nat.{ℕ, zero, suc}
+use mathlib.Core.Bool.{Bool, true, false, cond, _&&_, _||_}
+use mathlib.Core.Option.{Option, none, some}
+use mathlib.Core.List.{List, [], _∷_}
+use lib.ListN.{length}
+use lib.Dec.{ltb, leb}
+use Rattle.script.specs.Words.{wordsOf, numberOf, hexNumber}
+
+-- a word as a decimal number, as a value of 32 hex digits, and as a byte of two
+pub record Word : Type 0 where
+  pub number : Option ℕ
+  pub value : Option ℕ
+  pub byte : Option ℕ
+
+unfoldable pub wordOf : List ℕ → Word
+wordOf w = record { number = numberOf w; value = hexNumber 32 w; byte = hexNumber 2 w }
+
+-- 01: "the first line of another form"
+pub data Form : Type 0 where
+  other : Form
+  bare : ℕ → Form  -- a letter alone
+  ending : ℕ → List ℕ → Word → Form  -- a letter, numbers, and the last word
+
+-- a number in front of those of a form
+abbrev pub behind : Option ℕ → Form → Form
+behind none f = other
+behind (some n) other = other
+behind (some n) (bare k) = other
+behind (some n) (ending k ns w) = ending k (n ∷ ns) w
+
+-- 01: "per line the letter": the words behind it
+unfoldable pub afterLetter : ℕ → List (List ℕ) → Form
+afterLetter k [] = bare k
+afterLetter k (w ∷ []) = ending k [] (wordOf w)
+afterLetter k (w ∷ (v ∷ ws)) = behind (numberOf w) (afterLetter k (v ∷ ws))
+
+-- 01: "the letter"
+unfoldable pub isLetter : ℕ → Bool
+isLetter b = leb 65 b && leb b 90 || leb 97 b && leb b 122
+
+-- 01: "per line the letter": the first word is one letter
+abbrev pub byWords : List (List ℕ) → Form
+byWords [] = other
+byWords ([] ∷ ws) = other
+byWords ((k ∷ []) ∷ ws) = cond (isLetter k) (afterLetter k ws) other
+byWords ((a ∷ (b ∷ w)) ∷ ws) = other
+
+-- no letter takes more than four words
+unfoldable pub limited : Form → Form
+limited other = other
+limited (bare k) = bare k
+limited (ending k ns w) = cond (ltb 3 (length ns)) other (ending k ns w)
+
+-- the form of a line, given by its bytes without the newline
+unfoldable pub formOf : List ℕ → Form
+formOf bs = limited (byWords (wordsOf bs))

@@ -1,0 +1,217 @@
+// What a line of `replay` asks for.
+use crate::line;
+use crate::line::Line;
+ghost use mathlib.Core.Path.{_≡_};
+ghost use Prim.Native.Nat.{_+_, _*_, _^_};
+ghost use Rattle.script.specs.Words.{bytesOf};
+ghost use Rattle.script.specs.Reader.{lastWord};
+ghost use Rattle.script.specs.Replay.{plain as Replay·plain, wordless as Replay·wordless, oneNumber, twoNumbers, twoWords, writeIf, writeBy, fourNumbers, meaningOf};
+
+// A call, a cut, or one of the lines that look at the bytes or put one; a write's value stands beside it.
+pub enum Call {
+    Format(u64, u64),
+    Open(u8),
+    OpenSized(u64),
+    Cut,
+    Begin(u64),
+    Write(u64, u8),
+    Erase(u64, u8),
+    Read(u64, u8),
+    Commit(u64, u64),
+    Abort(u64),
+    AsOf(u8, u64),
+    Changes(u8, u64, u64, u64),
+    StoreLog,
+    StorePage(u64),
+    Checkpoint,
+    Block(u64),
+    Page(u64),
+    Poke(u64, u8),
+    Other,
+}
+
+// A call, and the value of a write; zeros beside other calls.
+pub struct Asked {
+    pub call: Call,
+    pub value: [u8; 16],
+}
+
+fn plain(call: Call) -> Asked
+    ensures { λ r. ⌜ r ≡ Replay·plain call ⌝ }
+{
+    Asked {
+        call: call,
+        value: [0u8; 16],
+    }
+}
+
+// A letter alone.
+fn wordless(letter: u8) -> Call
+    ensures { λ r. ⌜ r ≡ Replay·wordless letter ⌝ }
+{
+    match letter {
+        b'X' => Call::Cut,
+        b'S' => Call::StoreLog,
+        b'K' => Call::Checkpoint,
+        _ => Call::Other,
+    }
+}
+
+// A letter and a number.
+fn one_number(letter: u8, n: u64) -> Call
+    ensures { λ r. ⌜ r ≡ oneNumber letter n ⌝ }
+{
+    match letter {
+        b'O' => {
+            if 255 < n {
+                return Call::Other;
+            }
+            Call::Open(n as u8)
+        }
+        b'o' => {
+            if 40000 < n {
+                return Call::Other;
+            }
+            Call::OpenSized(n)
+        }
+        b'B' => Call::Begin(n),
+        b'A' => Call::Abort(n),
+        b'P' => Call::StorePage(n),
+        b'M' => Call::Block(n),
+        b'V' => Call::Page(n),
+        _ => Call::Other,
+    }
+}
+
+// A letter and two numbers.
+fn two_numbers(letter: u8, a: u64, n: u64) -> Call
+    ensures { λ r. ⌜ r ≡ twoNumbers letter a n ⌝ }
+{
+    match letter {
+        b'F' => Call::Format(a, n),
+        b'E' => {
+            if 255 < n {
+                return Call::Other;
+            }
+            Call::Erase(a, n as u8)
+        }
+        b'R' => {
+            if 255 < n {
+                return Call::Other;
+            }
+            Call::Read(a, n as u8)
+        }
+        b'C' => Call::Commit(a, n),
+        b'Q' => {
+            if 255 < a {
+                return Call::Other;
+            }
+            Call::AsOf(a as u8, n)
+        }
+        _ => Call::Other,
+    }
+}
+
+// A letter and two words.
+fn two_words(line: Line) -> Call
+    ensures { λ r. ⌜ r ≡ twoWords (line .letter) (line .second) (lastWord line) ⌝ }
+{
+    if line.letter == b'Z' {
+        if line.hexes != 2 {
+            return Call::Other;
+        }
+        return Call::Poke(line.second, (line.low % 256) as u8);
+    }
+    if !line::is_number(line) {
+        return Call::Other;
+    }
+    two_numbers(line.letter, line.second, line.last)
+}
+
+// The sixteen bytes of a number of 128 bits, in two halves.
+fn value_of(high: u64, low: u64) -> [u8; 16]
+    ensures { λ r. ⌜ r ≡ bytesOf 16 (2 ^ 64 * high + low) ⌝ }
+{
+    let mut value = [0u8; 16];
+    let mut h = high;
+    let mut l = low;
+    let mut i: usize = 16;
+    while 0 < i {
+        i -= 1;
+        value[i] = (l % 256) as u8;
+        l = l / 256 + h % 256 * 72057594037927936;
+        h /= 256;
+    }
+    value
+}
+
+// A write, if the record is at most 255 and the value has 32 digits.
+fn write_of(line: Line) -> Asked
+    ensures { λ r. ⌜ r ≡ writeBy (line .third) (line .second) (lastWord line .value) ⌝ }
+{
+    if line.hexes != 32 {
+        return plain(Call::Other);
+    }
+    if 255 < line.second {
+        return plain(Call::Other);
+    }
+    Asked {
+        call: Call::Write(line.third, line.second as u8),
+        value: value_of(line.high, line.low),
+    }
+}
+
+// A list of changes, if the record is at most 255 and the buffer at most 40000.
+fn four_numbers(line: Line) -> Call
+    ensures { λ r. ⌜ r ≡ fourNumbers (line .letter) (line .fourth) (line .third) (line .second) (line .last) ⌝ }
+{
+    if line.letter != b'L' {
+        return Call::Other;
+    }
+    if 255 < line.fourth {
+        return Call::Other;
+    }
+    if 40000 < line.last {
+        return Call::Other;
+    }
+    Call::Changes(line.fourth as u8, line.third, line.second, line.last)
+}
+
+// What a line of three words or more asks for.
+fn many_words(line: Line) -> Asked {
+    if line.count == 3 {
+        if line.letter != b'W' {
+            return plain(Call::Other);
+        }
+        return write_of(line);
+    }
+    if !line::is_number(line) {
+        return plain(Call::Other);
+    }
+    plain(four_numbers(line))
+}
+
+// What a line asks for that ends here.
+pub fn meaning(line: Line) -> Asked
+    ensures { λ r. ⌜ r ≡ meaningOf line ⌝ }
+{
+    if line.bad {
+        return plain(Call::Other);
+    }
+    if line.letter == 0 {
+        return plain(Call::Other);
+    }
+    if line.count == 0 {
+        return plain(wordless(line.letter));
+    }
+    if line.count == 1 {
+        if !line::is_number(line) {
+            return plain(Call::Other);
+        }
+        return plain(one_number(line.letter, line.last));
+    }
+    if line.count == 2 {
+        return plain(two_words(line));
+    }
+    many_words(line)
+}
