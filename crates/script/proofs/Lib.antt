@@ -1,2 +1,4 @@
 pub mod Cases
+pub mod WordLaws
+pub mod TakeLaws
 pub mod PrintLaws

@@ -1,21 +1,21 @@
 -- The form of a line: a letter, then words, each behind one space. All words but the last are decimal numbers; the last is
 -- read as a decimal number and as hex digits, and the letter decides which of the two it takes.
 use Prim.Native.Nat.{ℕ, zero, suc}
-use mathlib.Core.Bool.{Bool, true, false, cond, _&&_, _||_}
+use mathlib.Core.Bool.{Bool, true, false, cond}
 use mathlib.Core.Option.{Option, none, some}
 use mathlib.Core.List.{List, [], _∷_}
 use lib.ListN.{length}
-use lib.Dec.{ltb, leb}
-use Rattle.script.specs.Words.{wordsOf, numberOf, hexNumber}
+use lib.Dec.{ltb}
+use Rattle.script.specs.Words.{isIn, wordsOf, numberOf, hexBytes}
 
 -- a word as a decimal number, as a value of 32 hex digits, and as a byte of two
 pub record Word : Type 0 where
   pub number : Option ℕ
-  pub value : Option ℕ
-  pub byte : Option ℕ
+  pub value : Option (List ℕ)
+  pub byte : Option (List ℕ)
 
 unfoldable pub wordOf : List ℕ → Word
-wordOf w = record { number = numberOf w; value = hexNumber 32 w; byte = hexNumber 2 w }
+wordOf w = record { number = numberOf w; value = hexBytes 16 w; byte = hexBytes 1 w }
 
 -- 01: "the first line of another form"
 pub data Form : Type 0 where
@@ -36,9 +36,9 @@ afterLetter k [] = bare k
 afterLetter k (w ∷ []) = ending k [] (wordOf w)
 afterLetter k (w ∷ (v ∷ ws)) = behind (numberOf w) (afterLetter k (v ∷ ws))
 
--- 01: "the letter"
+-- 01: "the letter": A to Z and a to z
 unfoldable pub isLetter : ℕ → Bool
-isLetter b = leb 65 b && leb b 90 || leb 97 b && leb b 122
+isLetter b = cond (isIn 65 90 b) true (isIn 97 122 b)
 
 -- 01: "per line the letter": the first word is one letter
 abbrev pub byWords : List (List ℕ) → Form

@@ -3,7 +3,7 @@
 use Prim.Native.Nat.{ℕ, zero, suc, _+_, _-_, _*_, _/_, _%_, _^_}
 use mathlib.Core.Bool.{Bool, true, false, cond}
 use mathlib.Core.Option.{Option, none, some}
-use mathlib.Core.List.{List, [], _∷_}
+use mathlib.Core.List.{List, [], _∷_, _++_}
 use lib.ListN.{drop}
 use lib.Dec.{eqb, ltb, leb}
 use Rattle.script.specs.declared.line.Line.{Line}
@@ -95,7 +95,11 @@ staysNumber l d = cond (l .number) (cond (ltb d 10) (ltb (10 * l .last + d) (2 ^
 unfoldable pub oneMore : ℕ → ℕ
 oneMore n = cond (leb 32 n) 33 (n + 1)
 
--- a digit behind the last word: the number that it is in decimal, and its last 32 hex digits as two halves
+-- a hex digit behind a number of 64 bits
+unfoldable pub pushed : ℕ → ℕ → ℕ
+pushed n d = n % 2 ^ 60 * 16 + d
+
+-- a digit behind the last word: the number that it is in decimal; the first sixteen hex digits go to the high half
 unfoldable pub withDigit : Line → ℕ → Line
 withDigit l d = record {
   letter = l .letter;
@@ -106,8 +110,8 @@ withDigit l d = record {
   last = cond (staysNumber l d) (10 * l .last + d) (l .last);
   number = staysNumber l d;
   hexes = oneMore (l .hexes);
-  high = l .high % 2 ^ 60 * 16 + l .low / 2 ^ 60;
-  low = l .low % 2 ^ 60 * 16 + d;
+  high = cond (ltb (l .hexes) 16) (pushed (l .high) d) (l .high);
+  low = cond (ltb (l .hexes) 16) (l .low) (pushed (l .low) d);
   bad = l .bad;
 }
 
@@ -143,12 +147,17 @@ grownBy l (b ∷ bs) = grownBy (grown l b) bs
 unfoldable pub doneOf : Line → List ℕ → List ℕ
 doneOf l ns = drop (4 - l .count) (l .fourth ∷ (l .third ∷ (l .second ∷ ns)))
 
+-- the k bytes of a number, the most significant first
+unfoldable pub wide : ℕ → ℕ → List ℕ
+wide zero n = []
+wide (suc k) n = wide k (n / 256) ++ (n % 256 ∷ [])
+
 -- the last word
 unfoldable pub lastWord : Line → Word
 lastWord l = record {
   number = cond (isNumber l) (some (l .last)) none;
-  value = cond (eqb (l .hexes) 32) (some (2 ^ 64 * l .high + l .low)) none;
-  byte = cond (eqb (l .hexes) 2) (some (l .low % 256)) none;
+  value = cond (eqb (l .hexes) 32) (some (wide 8 (l .high) ++ wide 8 (l .low))) none;
+  byte = cond (eqb (l .hexes) 2) (some (wide 1 (l .high))) none;
 }
 
 -- the form of the line if it ends here

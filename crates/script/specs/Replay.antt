@@ -9,9 +9,8 @@ use Rattle.script.specs.declared.call.Call.{Call}
 use Rattle.script.specs.declared.call.Call.the-variants.{Format, Open, OpenSized, Cut, Begin, Write, Erase, Read, Commit, Abort, AsOf, Changes, StoreLog, StorePage, Checkpoint, Block, Page, Poke, Other}
 use Rattle.script.specs.declared.call.Asked.{Asked}
 use Rattle.script.specs.declared.line.Line.{Line}
-use Rattle.script.specs.Words.{bytesOf}
 use Rattle.script.specs.Form.{Word, Form, other, bare, ending, formOf}
-use Rattle.script.specs.Reader.{seenOf}
+use Rattle.script.specs.Reader.{doneOf, lastWord, seenOf}
 
 -- a call with no value
 unfoldable pub plain : Call → Asked
@@ -47,17 +46,20 @@ twoNumbers k a n =
     (cond (eqb k 82) (atMost 255 n (Read a n))
     (cond (eqb k 67) (Commit a n) (cond (eqb k 81) (atMost 255 a (AsOf a n)) Other))))
 
+-- replay: `Z offset hexbyte`
+abbrev pub pokeBy : ℕ → Option (List ℕ) → Call
+pokeBy a none = Other
+pokeBy a (some []) = Other
+pokeBy a (some (b ∷ bs)) = Poke a b
+
 -- replay: `Z offset hexbyte`, and the calls of two numbers
 unfoldable pub twoWords : ℕ → ℕ → Word → Call
-twoWords k a w = cond (eqb k 90) (given (w .byte) (Poke a)) (given (w .number) (twoNumbers k a))
+twoWords k a w = cond (eqb k 90) (pokeBy a (w .byte)) (given (w .number) (twoNumbers k a))
 
 -- replay: `W number record value`
-unfoldable pub writeIf : ℕ → ℕ → ℕ → Asked
-writeIf n key v = cond (ltb 255 key) (plain Other) (record { call = Write n key; value = bytesOf 16 v })
-
-abbrev pub writeBy : ℕ → ℕ → Option ℕ → Asked
+abbrev pub writeBy : ℕ → ℕ → Option (List ℕ) → Asked
 writeBy n key none = plain Other
-writeBy n key (some v) = writeIf n key v
+writeBy n key (some v) = cond (ltb 255 key) (plain Other) (record { call = Write n key; value = v })
 
 -- replay: `L record t1 t2 bytes`
 unfoldable pub fourNumbers : ℕ → ℕ → ℕ → ℕ → ℕ → Call
@@ -76,6 +78,10 @@ replayOf (ending k (a ∷ (b ∷ (c ∷ (d ∷ ns)))) w) = plain Other
 -- replay: "One call to a line": what a line means, given by its bytes without the newline
 unfoldable pub lineOf : List ℕ → Asked
 lineOf bs = replayOf (formOf bs)
+
+-- a line of three words or more that ends here
+unfoldable pub manyWords : Line → Asked
+manyWords l = replayOf (ending (l .letter) (doneOf l []) (lastWord l))
 
 -- what a line means that was taken byte by byte and ends here
 unfoldable pub meaningOf : Line → Asked

@@ -1,8 +1,8 @@
 -- The lines of a script, the words of a line, and the numbers that words are.
-use Prim.Native.Nat.{ℕ, zero, suc, _+_, _-_, _*_, _/_, _%_, _^_}
-use mathlib.Core.Bool.{Bool, true, false, cond, _&&_, _||_}
+use Prim.Native.Nat.{ℕ, zero, suc, _+_, _-_, _*_, _^_}
+use mathlib.Core.Bool.{Bool, true, false, cond, _&&_}
 use mathlib.Core.Option.{Option, none, some}
-use mathlib.Core.List.{List, [], _∷_, _++_}
+use mathlib.Core.List.{List, [], _∷_}
 use lib.ListN.{length}
 use lib.Dec.{eqb, ltb, leb}
 
@@ -22,9 +22,13 @@ unfoldable pub wordsOf : List ℕ → List (List ℕ)
 wordsOf [] = [] ∷ []
 wordsOf (b ∷ bs) = cond (eqb b 32) ([] ∷ wordsOf bs) (ahead b (wordsOf bs))
 
+-- is a byte one of those from low to high?
+unfoldable pub isIn : ℕ → ℕ → ℕ → Bool
+isIn low high b = leb low b && leb b high
+
 -- 01: "Numbers are decimal": the digits 0 to 9
 unfoldable pub isDigit : ℕ → Bool
-isDigit b = leb 48 b && leb b 57
+isDigit b = isIn 48 57 b
 
 -- 01: "Numbers are decimal": digits alone
 unfoldable pub allDigits : List ℕ → Bool
@@ -55,23 +59,19 @@ numbersOf (w ∷ ws) = joined (numberOf w) (numbersOf ws)
 
 -- replay: "hex digits, lower case": 0 to 9 and a to f; 16 for a byte that is none
 unfoldable pub hexDigit : ℕ → ℕ
-hexDigit b = cond (isDigit b) (b - 48) (cond (leb 97 b && leb b 102) (b - 87) 16)
+hexDigit b = cond (isDigit b) (b - 48) (cond (isIn 97 102 b) (b - 87) 16)
 
 -- replay: "hex digits, lower case": hex digits alone
 unfoldable pub allHex : List ℕ → Bool
 allHex [] = true
 allHex (b ∷ w) = ltb (hexDigit b) 16 && allHex w
 
--- replay: "hex digits": what the digits say behind a number n
-unfoldable pub hexFrom : ℕ → List ℕ → ℕ
-hexFrom n [] = n
-hexFrom n (b ∷ w) = hexFrom (16 * n + hexDigit b) w
+-- replay: "hex digits": two digits are a byte
+unfoldable pub bytesOf : List ℕ → List ℕ
+bytesOf [] = []
+bytesOf (a ∷ []) = []
+bytesOf (a ∷ (b ∷ w)) = (16 * hexDigit a + hexDigit b) ∷ bytesOf w
 
--- replay: "values as 32 hex digits", "one byte (two hex digits)": the number that a word of k hex digits is
-unfoldable pub hexNumber : ℕ → List ℕ → Option ℕ
-hexNumber k w = cond (allHex w && eqb (length w) k) (some (hexFrom 0 w)) none
-
--- replay: "values as 32 hex digits": the bytes of a number, as the digits come
-unfoldable pub bytesOf : ℕ → ℕ → List ℕ
-bytesOf zero n = []
-bytesOf (suc k) n = bytesOf k (n / 256) ++ (n % 256 ∷ [])
+-- replay: "values as 32 hex digits", "one byte (two hex digits)": the k bytes that a word of hex digits is
+unfoldable pub hexBytes : ℕ → List ℕ → Option (List ℕ)
+hexBytes k w = cond (allHex w && eqb (length w) (2 * k)) (some (bytesOf w)) none

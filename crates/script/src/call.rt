@@ -2,10 +2,9 @@
 use crate::line;
 use crate::line::Line;
 ghost use mathlib.Core.Path.{_≡_};
-ghost use Prim.Native.Nat.{_+_, _*_, _^_};
-ghost use Rattle.script.specs.Words.{bytesOf};
-ghost use Rattle.script.specs.Reader.{lastWord};
-ghost use Rattle.script.specs.Replay.{plain as Replay·plain, wordless as Replay·wordless, oneNumber, twoNumbers, twoWords, writeIf, writeBy, fourNumbers, meaningOf};
+ghost use mathlib.Core.List.{_++_};
+ghost use Rattle.script.specs.Reader.{wide, lastWord};
+ghost use Rattle.script.specs.Replay.{plain as Replay·plain, wordless as Replay·wordless, oneNumber, twoNumbers, twoWords, writeBy, fourNumbers, manyWords, meaningOf};
 
 // A call, a cut, or one of the lines that look at the bytes or put one; a write's value stands beside it.
 pub enum Call {
@@ -120,7 +119,7 @@ fn two_words(line: Line) -> Call
         if line.hexes != 2 {
             return Call::Other;
         }
-        return Call::Poke(line.second, (line.low % 256) as u8);
+        return Call::Poke(line.second, (line.high % 256) as u8);
     }
     if !line::is_number(line) {
         return Call::Other;
@@ -128,21 +127,42 @@ fn two_words(line: Line) -> Call
     two_numbers(line.letter, line.second, line.last)
 }
 
-// The sixteen bytes of a number of 128 bits, in two halves.
+// The sixteen bytes of two numbers, the most significant first.
 fn value_of(high: u64, low: u64) -> [u8; 16]
-    ensures { λ r. ⌜ r ≡ bytesOf 16 (2 ^ 64 * high + low) ⌝ }
+    ensures { λ r. ⌜ r ≡ wide 8 high ++ wide 8 low ⌝ }
 {
-    let mut value = [0u8; 16];
-    let mut h = high;
-    let mut l = low;
-    let mut i: usize = 16;
-    while 0 < i {
-        i -= 1;
-        value[i] = (l % 256) as u8;
-        l = l / 256 + h % 256 * 72057594037927936;
-        h /= 256;
-    }
-    value
+    let h1 = high / 256;
+    let h2 = h1 / 256;
+    let h3 = h2 / 256;
+    let h4 = h3 / 256;
+    let h5 = h4 / 256;
+    let h6 = h5 / 256;
+    let h7 = h6 / 256;
+    let l1 = low / 256;
+    let l2 = l1 / 256;
+    let l3 = l2 / 256;
+    let l4 = l3 / 256;
+    let l5 = l4 / 256;
+    let l6 = l5 / 256;
+    let l7 = l6 / 256;
+    [
+        (h7 % 256) as u8,
+        (h6 % 256) as u8,
+        (h5 % 256) as u8,
+        (h4 % 256) as u8,
+        (h3 % 256) as u8,
+        (h2 % 256) as u8,
+        (h1 % 256) as u8,
+        (high % 256) as u8,
+        (l7 % 256) as u8,
+        (l6 % 256) as u8,
+        (l5 % 256) as u8,
+        (l4 % 256) as u8,
+        (l3 % 256) as u8,
+        (l2 % 256) as u8,
+        (l1 % 256) as u8,
+        (low % 256) as u8,
+    ]
 }
 
 // A write, if the record is at most 255 and the value has 32 digits.
@@ -178,7 +198,9 @@ fn four_numbers(line: Line) -> Call
 }
 
 // What a line of three words or more asks for.
-fn many_words(line: Line) -> Asked {
+fn many_words(line: Line) -> Asked
+    ensures { λ r. ⌜ r ≡ manyWords line ⌝ }
+{
     if line.count == 3 {
         if line.letter != b'W' {
             return plain(Call::Other);

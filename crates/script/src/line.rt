@@ -3,14 +3,15 @@
 ghost use mathlib.Core.Path.{_≡_};
 ghost use Prim.Native.Nat.{_+_, _*_, _<_, _≤_, _^_};
 ghost use lib.ListN.{length, drop};
+ghost use mathlib.Core.Bool.{cond};
 ghost use lib.Dec.{ltb};
-ghost use Rattle.script.specs.Words.{hexDigit};
+ghost use Rattle.script.specs.Words.{isIn, hexDigit};
 ghost use Rattle.script.specs.Form.{isLetter};
-ghost use Rattle.script.specs.Reader.{noLine, spoilt as Reader·spoilt, withLetter, isNumber, nextWord, withSpace, staysNumber, oneMore, withDigit, noWord, grown, takeOf};
+ghost use Rattle.script.specs.Reader.{noLine, spoilt as Reader·spoilt, withLetter, isNumber, nextWord, withSpace, staysNumber, oneMore, pushed, withDigit, noWord, grown, takeOf};
 
 // What was taken of a line: its letter (0: none yet), how many words were begun behind it, the three numbers before the
 // last word, the last word's number, whether the word is all digits and below 2^64, its hex digits counted (33: too many,
-// or another byte) and their last 32 in two halves, and whether the line is of another form already.
+// or another byte), the first sixteen of them and the others, and whether the line is of another form already.
 pub struct Line {
     pub letter: u8,
     pub count: u8,
@@ -51,15 +52,24 @@ fn spoilt(line: Line) -> Line
     l
 }
 
+// Is the byte one of those from low to high?
+fn is_in(b: u8, low: u8, high: u8) -> bool
+    ensures { λ r. ⌜ r ≡ isIn low high b ⌝ }
+{
+    if b < low {
+        return false;
+    }
+    b <= high
+}
+
 // Is the byte a letter?
 fn is_letter(b: u8) -> bool
     ensures { λ r. ⌜ r ≡ isLetter b ⌝ }
 {
-    match b {
-        b'A'..=b'Z' => true,
-        b'a'..=b'z' => true,
-        _ => false,
+    if is_in(b, b'A', b'Z') {
+        return true;
     }
+    is_in(b, b'a', b'z')
 }
 
 // The line with its first byte.
@@ -125,11 +135,13 @@ fn with_space(line: Line) -> Line
 fn hex_digit(b: u8) -> u64
     ensures { λ r. ⌜ r ≡ hexDigit b ⌝ }
 {
-    match b {
-        b'0'..=b'9' => (b - b'0') as u64,
-        b'a'..=b'f' => (b - 87) as u64,
-        _ => 16,
+    if is_in(b, b'0', b'9') {
+        return (b - b'0') as u64;
     }
+    if is_in(b, b'a', b'f') {
+        return (b - 87) as u64;
+    }
+    16
 }
 
 // Does a number stay below 2^64 with a digit behind it?
@@ -168,6 +180,36 @@ fn one_more(n: u8) -> u8
     n + 1
 }
 
+// A hex digit behind a number of 64 bits.
+fn push(n: u64, digit: u64) -> u64
+    requires { ⌜ digit < 16 ⌝ }
+    ensures { λ r. ⌜ r ≡ pushed n digit ⌝ }
+{
+    n % 1152921504606846976 * 16 + digit
+}
+
+// The high half takes the first sixteen digits.
+fn high_with(line: Line, digit: u64) -> u64
+    requires { ⌜ digit < 16 ⌝ }
+    ensures { λ r. ⌜ r ≡ cond (ltb (line .hexes) 16) (pushed (line .high) digit) (line .high) ⌝ }
+{
+    if line.hexes < 16 {
+        return push(line.high, digit);
+    }
+    line.high
+}
+
+// The low half takes the others.
+fn low_with(line: Line, digit: u64) -> u64
+    requires { ⌜ digit < 16 ⌝ }
+    ensures { λ r. ⌜ r ≡ cond (ltb (line .hexes) 16) (line .low) (pushed (line .low) digit) ⌝ }
+{
+    if line.hexes < 16 {
+        return line.low;
+    }
+    push(line.low, digit)
+}
+
 // The line with a digit behind its last word.
 fn with_digit(line: Line, digit: u64) -> Line
     requires { ⌜ digit < 16 ⌝ }
@@ -175,8 +217,8 @@ fn with_digit(line: Line, digit: u64) -> Line
 {
     let mut l = line;
     l.hexes = one_more(line.hexes);
-    l.high = line.high % 1152921504606846976 * 16 + line.low / 1152921504606846976;
-    l.low = line.low % 1152921504606846976 * 16 + digit;
+    l.high = high_with(line, digit);
+    l.low = low_with(line, digit);
     if !stays_number(line, digit) {
         l.number = false;
         return l;
