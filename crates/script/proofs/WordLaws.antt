@@ -32,12 +32,18 @@ pub room-high : (n d : ℕ) → 1844674407370955161 ≤ n → (n ≡ 18446744073
 room-high n d h g =
     let k : 1844674407370955161 < n = omega arith in sym (le-ltb (10 * n + d) (2 ^ 64) (omega arith))
 
-pub stays-fits : (l : Line) (d : ℕ) (b : Bool) → b ≡ staysNumber l d → not b ≡ false → 10 * l .last + d < 2 ^ 64
-unfolding staysNumber
-stays-fits l d b e t =
-    let s : staysNumber l d ≡ true = sym e ∙ not-false b t in
-    bool-case (l .number)
-    (λ n. bool-case (ltb d 10)
-    (λ m. ltb-true (10 * l .last + d) (2 ^ 64) (simp (n, m) at s))
-    (λ m. no (simp (n, m) at s)))
-    (λ n. no (simp n at s))
+-- a word that stays a number was one, and has room
+module _ (l : Line) (d : ℕ) (b : Bool) (e : b ≡ staysNumber l d) (t : not b ≡ false) where
+  stays : staysNumber l d ≡ true
+  stays = sym e ∙ not-false b t
+
+  pub stays-is : l .number ≡ true
+  unfolding staysNumber
+  stays-is = bool-case (l .number) (λ n. n) (λ n. no (simp n at stays))
+
+  pub stays-fits : 10 * l .last + d < 2 ^ 64
+  unfolding staysNumber
+  stays-fits =
+      bool-case (ltb d 10)
+      (λ m. ltb-true (10 * l .last + d) (2 ^ 64) (simp (stays-is, m) at stays))
+      (λ m. no (simp (stays-is, m) at stays))

@@ -3,6 +3,7 @@ use crate::line;
 use crate::line::Line;
 ghost use mathlib.Core.Path.{_≡_};
 ghost use mathlib.Core.List.{_++_};
+ghost use Prim.Native.Nat.{_≤_};
 ghost use Rattle.script.specs.Reader.{wide, lastWord};
 ghost use Rattle.script.specs.Replay.{plain as Replay·plain, wordless as Replay·wordless, oneNumber, twoNumbers, twoWords, writeBy, fourNumbers, manyWords, meaningOf};
 
@@ -199,6 +200,7 @@ fn four_numbers(line: Line) -> Call
 
 // What a line of three words or more asks for.
 fn many_words(line: Line) -> Asked
+    requires { ⌜ 3 ≤ line .count ⌝ }
     ensures { λ r. ⌜ r ≡ manyWords line ⌝ }
 {
     if line.count == 3 {

@@ -1,106 +1,73 @@
+-- Past the first questions the number of words decides, then the letter.
+use native.Mathlib.Omega.{arith}
+use borrow.Author.Tests.{not-true, not-false}
+use Rattle.script.specs.Reader.{lastWord}
+use Rattle.script.specs.Replay.{replayOf, manyWords, meaningOf}
+use Rattle.script.proofs.ReaderLaws.{done-1, done-2, seen-bad, seen-none, seen-bare, seen-words}
 use borrow.Author.Needs.{needs}
 use Rattle.script.proofs.call.meaning.Statement.{statement}
 use Rattle.script.proofs.call.meaning.Tie as tie
-use Rattle.script.proofs.call.meaning.Reads as reads
-use Rattle.script.proofs.call.meaning.Lts as lts
-use Rattle.script.proofs.call.many_words.Reads as many-words-reads
-use Rattle.script.proofs.call.one_number.Reads as one-number-reads
-use Rattle.script.proofs.call.plain.Reads as plain-reads
-use Rattle.script.proofs.call.two_words.Reads as two-words-reads
-use Rattle.script.proofs.call.wordless.Reads as wordless-reads
-use Rattle.script.proofs.line.is_number.Reads as is-number-reads
 
--- src/call.rt:221:9
 plain-requires : tie.Need-plain-requires
 plain-requires c κs = search needs
 
--- src/call.rt:221:9
 returns : tie.Need-returns
-returns c = ?
+unfolding replayOf meaningOf
+returns c = simp (seen-bad (c .before .before .args .line) (c .before .if1 .taken), c .plain .ensures)
 
--- src/call.rt:224:9
 plain-requires-2 : tie.Need-plain-requires-2
 plain-requires-2 c κs = search needs
 
--- src/call.rt:224:9
 returns-2 : tie.Need-returns-2
-returns-2 c = ?
+unfolding replayOf meaningOf
+returns-2 c = simp (seen-none (c .before .before .before .before .args .line) (c .before .before .before .if1 .left) (c .before .if2 .taken), c .plain2 .ensures)
 
--- src/call.rt:227:22
 wordless-requires : tie.Need-wordless-requires
 wordless-requires c κs = search needs
 
--- src/call.rt:227:9
 plain-requires-3 : tie.Need-plain-requires-3
 plain-requires-3 c κs = search needs
 
--- src/call.rt:227:9
 returns-3 : tie.Need-returns-3
-returns-3 c = ?
+unfolding replayOf meaningOf
+returns-3 c = simp (seen-bare (c .before .before .before .before .before .before .before .args .line) (c .before .before .before .before .before .before .if1 .left) (c .before .before .before .before .if2 .left) (c .before .before .if3 .taken), c .plain3 .ensures, c .before .wordless .ensures)
 
--- src/call.rt:230:13
 is-number-requires : tie.Need-is-number-requires
 is-number-requires c κs = search needs
 
--- src/call.rt:231:13
 plain-requires-4 : tie.Need-plain-requires-4
 plain-requires-4 c κs = search needs
 
--- src/call.rt:231:13
 returns-4 : tie.Need-returns-4
-returns-4 c = ?
+unfolding replayOf meaningOf lastWord
+returns-4 c = simp (seen-words (c .before .before .before .before .before .before .before .before .before .before .args .line) (c .before .before .before .before .before .before .before .before .before .if1 .left) (c .before .before .before .before .before .before .before .if2 .left) (c .before .before .before .before .before .if3 .left), done-1 (c .before .before .before .before .before .before .before .before .before .before .args .line) (c .before .before .before .if4 .taken), ← c .before .before .is-number .ensures, not-true (c .before .before .is-number .result) (c .before .if5 .taken), c .plain4 .ensures)
 
--- src/call.rt:233:22
 one-number-requires : tie.Need-one-number-requires
 one-number-requires c κs = search needs
 
--- src/call.rt:233:9
 plain-requires-5 : tie.Need-plain-requires-5
 plain-requires-5 c κs = search needs
 
--- src/call.rt:233:9
 returns-5 : tie.Need-returns-5
-returns-5 c = ?
+unfolding replayOf meaningOf lastWord
+returns-5 c = simp (seen-words (c .before .before .before .before .before .before .before .before .before .before .before .args .line) (c .before .before .before .before .before .before .before .before .before .before .if1 .left) (c .before .before .before .before .before .before .before .before .if2 .left) (c .before .before .before .before .before .before .if3 .left), done-1 (c .before .before .before .before .before .before .before .before .before .before .before .args .line) (c .before .before .before .before .if4 .taken), ← c .before .before .before .is-number .ensures, not-false (c .before .before .before .is-number .result) (c .before .before .if5 .left), c .plain5 .ensures, c .before .one-number .ensures)
 
--- src/call.rt:236:22
 two-words-requires : tie.Need-two-words-requires
 two-words-requires c κs = search needs
 
--- src/call.rt:236:9
 plain-requires-6 : tie.Need-plain-requires-6
 plain-requires-6 c κs = search needs
 
--- src/call.rt:236:9
 returns-6 : tie.Need-returns-6
-returns-6 c = ?
+unfolding replayOf meaningOf
+returns-6 c = simp (seen-words (c .before .before .before .before .before .before .before .before .before .before .before .args .line) (c .before .before .before .before .before .before .before .before .before .before .if1 .left) (c .before .before .before .before .before .before .before .before .if2 .left) (c .before .before .before .before .before .before .if3 .left), done-2 (c .before .before .before .before .before .before .before .before .before .before .before .args .line) (c .before .before .if6 .taken), c .plain6 .ensures, c .before .two-words .ensures)
 
--- src/call.rt:238:5
 many-words-requires : tie.Need-many-words-requires
-many-words-requires c κs = search needs
+many-words-requires c κs = omega arith
 
--- src/call.rt:217:1
 returns-7 : tie.Need-returns-7
-returns-7 c = ?
+unfolding manyWords meaningOf
+returns-7 c = simp (seen-words (c .before .before .before .before .before .before .before .before .before .before .args .line) (c .before .before .before .before .before .before .before .before .before .if1 .left) (c .before .before .before .before .before .before .before .if2 .left) (c .before .before .before .before .before .if3 .left), c .many-words .ensures)
 
 pub meaning-spec : {M : Type 1} → statement M
-meaning-spec =
-    tie.close
-    (tie.spec
-    plain-requires
-    returns
-    plain-requires-2
-    returns-2
-    wordless-requires
-    plain-requires-3
-    returns-3
-    is-number-requires
-    plain-requires-4
-    returns-4
-    one-number-requires
-    plain-requires-5
-    returns-5
-    two-words-requires
-    plain-requires-6
-    returns-6
-    many-words-requires
-    returns-7)
+meaning-spec = tie.close (tie.spec plain-requires returns plain-requires-2 returns-2 wordless-requires plain-requires-3 returns-3 is-number-requires plain-requires-4 returns-4 one-number-requires plain-requires-5 returns-5 two-words-requires plain-requires-6 returns-6 many-words-requires returns-7)

@@ -1,11 +1,12 @@
+-- The fields are those of the definition.
+use mathlib.Core.Path.{refl}
+use Rattle.script.specs.Replay.{plain}
 use Rattle.script.proofs.call.plain.Statement.{statement}
 use Rattle.script.proofs.call.plain.Tie as tie
-use Rattle.script.proofs.call.plain.Reads as reads
-use Rattle.script.proofs.call.plain.Lts as lts
 
--- src/call.rt:38:1
 returns : tie.Need-returns
-returns c = ?
+unfolding plain
+returns c = refl
 
 pub plain-spec : {M : Type 1} → statement M
 plain-spec = tie.close (tie.spec returns)

@@ -1,47 +1,35 @@
+-- The questions of the definition: `Z` takes two hex digits, another letter a number.
+use borrow.Author.Tests.{not-true, not-false, eq-eqb, ne-eqb}
+use Rattle.script.specs.Reader.{wide, lastWord}
+use Rattle.script.specs.Replay.{twoWords}
 use borrow.Author.Needs.{needs}
 use Rattle.script.proofs.call.two_words.Statement.{statement}
 use Rattle.script.proofs.call.two_words.Tie as tie
-use Rattle.script.proofs.call.two_words.Reads as reads
-use Rattle.script.proofs.call.two_words.Lts as lts
-use Rattle.script.proofs.call.two_numbers.Reads as two-numbers-reads
-use Rattle.script.proofs.line.is_number.Reads as is-number-reads
 
--- src/call.rt:120:13
 returns : tie.Need-returns
-returns c = ?
+unfolding twoWords lastWord
+returns c = simp (eq-eqb _ _ (c .before .before .if1 .taken), ne-eqb _ _ (c .if2 .taken))
 
--- src/call.rt:122:40
 cast-t5 : tie.Need-cast-t5
 cast-t5 c = search needs
 
--- src/call.rt:122:9
 returns-2 : tie.Need-returns-2
-returns-2 c = ?
+unfolding twoWords lastWord wide
+returns-2 c = simp (eq-eqb _ _ (c .before .before .before .if1 .taken), eq-eqb _ _ (c .before .if2 .left))
 
--- src/call.rt:124:9
 is-number-requires : tie.Need-is-number-requires
 is-number-requires c κs = search needs
 
--- src/call.rt:125:9
 returns-3 : tie.Need-returns-3
-returns-3 c = ?
+unfolding twoWords lastWord
+returns-3 c = simp (ne-eqb _ _ (c .before .before .if1 .left), ← c .before .is-number .ensures, not-true (c .before .is-number .result) (c .if3 .taken))
 
--- src/call.rt:127:5
 two-numbers-requires : tie.Need-two-numbers-requires
 two-numbers-requires c κs = search needs
 
--- src/call.rt:115:1
 returns-4 : tie.Need-returns-4
-returns-4 c = ?
+unfolding twoWords lastWord
+returns-4 c = simp (ne-eqb _ _ (c .before .before .before .if1 .left), ← c .before .before .is-number .ensures, not-false (c .before .before .is-number .result) (c .before .if3 .left), c .two-numbers .ensures)
 
 pub two-words-spec : {M : Type 1} → statement M
-two-words-spec =
-    tie.close
-    (tie.spec
-    returns
-    cast-t5
-    returns-2
-    is-number-requires
-    returns-3
-    two-numbers-requires
-    returns-4)
+two-words-spec = tie.close (tie.spec returns cast-t5 returns-2 is-number-requires returns-3 two-numbers-requires returns-4)

@@ -1,23 +1,24 @@
+-- Each arm is that of the definition.
+use borrow.Author.Tests.{ne-eqb}
+use Rattle.script.specs.Replay.{wordless}
 use Rattle.script.proofs.call.wordless.Statement.{statement}
 use Rattle.script.proofs.call.wordless.Tie as tie
-use Rattle.script.proofs.call.wordless.Reads as reads
-use Rattle.script.proofs.call.wordless.Lts as lts
 
--- src/call.rt:48:1
 returns : tie.Need-returns
-returns c = ?
+unfolding wordless
+returns c = simp (c .match .keys1)
 
--- src/call.rt:48:1
 returns-2 : tie.Need-returns-2
-returns-2 c = ?
+unfolding wordless
+returns-2 c = simp (c .match .keys2)
 
--- src/call.rt:48:1
 returns-3 : tie.Need-returns-3
-returns-3 c = ?
+unfolding wordless
+returns-3 c = simp (c .match .keys3)
 
--- src/call.rt:48:1
 returns-4 : tie.Need-returns-4
-returns-4 c = ?
+unfolding wordless
+returns-4 c = simp (ne-eqb _ _ (c .match .rest .1), ne-eqb _ _ (c .match .rest .0 .1), ne-eqb _ _ (c .match .rest .0 .0 .1))
 
 pub wordless-spec : {M : Type 1} → statement M
 wordless-spec = tie.close (tie.spec returns returns-2 returns-3 returns-4)
