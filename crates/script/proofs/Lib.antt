@@ -1,5 +1,7 @@
 pub mod Cases
 pub mod WordLaws
 pub mod ReaderLaws
+pub mod HexLaws
+pub mod LastWord
 pub mod TakeLaws
 pub mod PrintLaws
