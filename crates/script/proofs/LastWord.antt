@@ -258,18 +258,20 @@ module _ (l : Line) (d : ℕ) (held : Held l) where
 pub word-start : (l : Line) (w : List ℕ) → l .number ≡ true → l .hexes ≡ 0 → l .last ≡ 0 → l .high ≡ 0 → l .low ≡ 0 → wordFrom l w ≡ wordOf w
 unfolding wordFrom wordOf hexBytes
 word-start l w n k e h g =
-    simp
-    (number-start l w n k e,
-    hexes-start 32 both l w (bytesOf w) k h g (value-start w),
-    hexes-start 2 first l w (bytesOf w) k h g (byte-start w))
+    simp (
+      number-start l w n k e,
+      hexes-start 32 both l w (bytesOf w) k h g (value-start w),
+      hexes-start 2 first l w (bytesOf w) k h g (byte-start w),
+    )
 
 pub word-digit : (l : Line) (b : ℕ) (w : List ℕ) → Held l → ltb (hexDigit b) 16 ≡ true → wordFrom l (b ∷ w) ≡ wordFrom (withDigit l (hexDigit b)) w
 unfolding wordFrom
 word-digit l b w held t =
-    simp
-    (number-digit l b w,
-    hexes-digit l (hexDigit b) held 32 both b w (omega arith) refl t,
-    hexes-digit l (hexDigit b) held 2 first b w (omega arith) refl t)
+    simp (
+      number-digit l b w,
+      hexes-digit l (hexDigit b) held 32 both b w (omega arith) refl t,
+      hexes-digit l (hexDigit b) held 2 first b w (omega arith) refl t,
+    )
 
 number-gone : (l : Line) (b : ℕ) (w : List ℕ) → ltb (hexDigit b) 16 ≡ false → numberFrom l (b ∷ w) ≡ none
 number-gone l b w t =
@@ -283,15 +285,16 @@ number-gone l b w t =
 pub word-other : (l : Line) (b : ℕ) (w : List ℕ) → ltb (hexDigit b) 16 ≡ false → wordFrom l (b ∷ w) ≡ wordFrom (noWord l) w
 unfolding wordFrom noWord
 word-other l b w t =
-    simp
-    (number-gone l b w t,
-    number-none l b w (noWord l) refl,
-    hexes-other 32 both l b w t,
-    hexes-other 2 first l b w t,
-    hexes-over 32 both (noWord l) w (omega arith),
-    hexes-over 2 first (noWord l) w (omega arith))
+    simp (
+      number-gone l b w t,
+      number-none l b w (noWord l) refl,
+      hexes-other 32 both l b w t,
+      hexes-other 2 first l b w t,
+      hexes-over 32 both (noWord l) w (omega arith),
+      hexes-over 2 first (noWord l) w (omega arith),
+    )
 
-number-end : (l : Line) → Held l → numberFrom l [] ≡ cond (isNumber l) (some (l .last)) none
+pub number-end : (l : Line) → Held l → numberFrom l [] ≡ cond (isNumber l) (some (l .last)) none
 unfolding numberFrom isNumber allDigits valueFrom
 number-end l held =
     bool-case (l .number)

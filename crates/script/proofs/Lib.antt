@@ -3,5 +3,6 @@ pub mod WordLaws
 pub mod ReaderLaws
 pub mod HexLaws
 pub mod LastWord
+pub mod Meaning
 pub mod TakeLaws
 pub mod PrintLaws

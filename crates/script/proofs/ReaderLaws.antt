@@ -4,7 +4,7 @@ use mathlib.Core.Bool.{true, false}
 use mathlib.Core.List.{List, [], _∷_}
 use Prim.Native.Nat.{ℕ, _-_, _≤_}
 use native.Mathlib.Omega.{arith}
-use lib.ListN.{drop}
+use lib.ListN.{length, drop, length-drop}
 use borrow.Author.Tests.{eq-eqb, ne-eqb}
 use Rattle.script.specs.declared.line.Line.{Line}
 use Rattle.script.specs.Form.{Form, other, bare, ending}
@@ -26,6 +26,10 @@ module _ (l : Line) where
 
   pub done-4 : 4 ≤ l .count → doneOf l [] ≡ l .fourth ∷ (l .third ∷ (l .second ∷ []))
   done-4 e = done-at 0 [] (omega arith)
+
+  pub done-few : length (doneOf l []) ≤ 3
+  unfolding doneOf
+  done-few = simp length-drop (omega arith)
 
   pub seen-bad : l .bad ≡ true → seenOf l ≡ other
   unfolding seenOf

@@ -44,21 +44,24 @@ spoilt l = record {
 }
 
 -- 01: "the letter"
+unfoldable pub lettered : Line → ℕ → Line
+lettered l b = record {
+  letter = b;
+  count = l .count;
+  fourth = l .fourth;
+  third = l .third;
+  second = l .second;
+  last = l .last;
+  number = l .number;
+  hexes = l .hexes;
+  high = l .high;
+  low = l .low;
+  bad = l .bad;
+}
+
+-- 01: "per line the letter": the first byte
 unfoldable pub withLetter : Line → ℕ → Line
-withLetter l b =
-    cond (isLetter b) (record {
-      letter = b;
-      count = l .count;
-      fourth = l .fourth;
-      third = l .third;
-      second = l .second;
-      last = l .last;
-      number = l .number;
-      hexes = l .hexes;
-      high = l .high;
-      low = l .low;
-      bad = l .bad;
-    }) (spoilt l)
+withLetter l b = cond (isLetter b) (lettered l b) (spoilt l)
 
 -- reading 17: "A number is one or more decimal digits": is the last word one?
 unfoldable pub isNumber : Line → Bool

@@ -1,6 +1,6 @@
 -- The test of the definition.
 use borrow.Author.Tests.{not-true, not-false}
-use Rattle.script.specs.Reader.{withLetter}
+use Rattle.script.specs.Reader.{lettered, withLetter}
 use borrow.Author.Needs.{needs}
 use Rattle.script.proofs.line.with_letter.Statement.{statement}
 use Rattle.script.proofs.line.with_letter.Tie as tie
@@ -16,7 +16,7 @@ unfolding withLetter
 returns c = simp (← c .before .before .is-letter .ensures, not-true (c .before .before .is-letter .result) (c .before .if1 .taken), c .spoilt .ensures)
 
 returns-2 : tie.Need-returns-2
-unfolding withLetter
+unfolding withLetter lettered
 returns-2 c = simp (← c .before .is-letter .ensures, not-false (c .before .is-letter .result) (c .if1 .left))
 
 pub with-letter-spec : {M : Type 1} → statement M
