@@ -2,4 +2,5 @@ pub mod Words
 pub mod Form
 pub mod Reader
 pub mod Replay
+pub mod Run
 pub mod Print
