@@ -82,7 +82,7 @@ behind-case : (P : Form → Type 0) (k : ℕ) (n : Option ℕ) (f : Form) → ((
 behind-case P k none f r o e = o
 behind-case P k (some n) f r o e = r (λ g. P (behind (some n) g)) o (λ ns x. e (n ∷ ns) x)
 
-after-case : (P : Form → Type 0) (k : ℕ) (v : List ℕ) (vs : List (List ℕ)) → P other → ((ns : List ℕ) (x : Word) → P (ending k ns x)) → P (afterLetter k (v ∷ vs))
+pub after-case : (P : Form → Type 0) (k : ℕ) (v : List ℕ) (vs : List (List ℕ)) → P other → ((ns : List ℕ) (x : Word) → P (ending k ns x)) → P (afterLetter k (v ∷ vs))
 unfolding afterLetter
 after-case P k v [] o e = e [] (wordOf v)
 after-case P k v (w ∷ ws) o e = behind-case P k (numberOf v) (afterLetter k (w ∷ ws)) (λ Q p q. after-case Q k w ws p q) o e

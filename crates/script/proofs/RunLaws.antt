@@ -34,7 +34,7 @@ grown-snoc l (x ∷ p) b = grown-snoc (grown l x) p b
 
 -- does: what a line that was taken does; says: what it does by its bytes
 module _ {W : Type 0} (does : W → Line → Step W) where
-  play-off : (l : Line) (w : W) (o bs : List ℕ) → playOf does (stand l w false o) bs ≡ stand l w false o
+  pub play-off : (l : Line) (w : W) (o bs : List ℕ) → playOf does (stand l w false o) bs ≡ stand l w false o
   unfolding playOf turned
   play-off l w o [] = refl
   play-off l w o (b ∷ bs) = play-off l w o bs

@@ -1,21 +1,34 @@
 // The room: makes the call of a line, and prints the line's letter, 0 or the refusal, and the result.
-use crate::line::Line;
-use crate::print;
+use crate::call::Call;
+use script::print;
 use store::Answer;
 use store::Ended;
-use store::Refusal;
+use store::Reading;
 use store::State;
 ghost use mathlib.Core.Path.{_≡_};
-ghost use Rattle.store.specs.Answer.{refusalNumber};
+ghost use mathlib.Core.List.{_++_};
+ghost use Prim.Native.Nat.{_+_, _≤_};
+ghost use lib.ListN.{length, take};
+ghost use Rattle.layout.specs.Block.{zeros};
+ghost use mathlib.Core.Bool.{true, false, cond};
+ghost use Rattle.store.specs.Answer.{answerNumber, leaves};
+ghost use Rattle.store.specs.Open.{openOf};
+ghost use Rattle.store.specs.CurrentRead.{reads};
+ghost use Rattle.store.specs.declared.Answer.the-variants.{Done};
+ghost use Rattle.stripbook.specs.Room.{resultOf, lineText, resultText, letterOf};
+ghost use Rattle.stripbook.specs.Play.{changeOf, queryOf};
+ghost use Rattle.stripbook.specs.Show.{result, shownOf};
 
 // What is printed behind the letter: 0 or the refusal, and a result, if there is one.
-struct Shown {
-    refusal: u64,
-    some: bool,
-    result: u64,
+pub struct Shown {
+    pub refusal: u64,
+    pub some: bool,
+    pub result: u64,
 }
 
-fn some(result: u64) -> Shown {
+fn some(result: u64) -> Shown
+    ensures { λ r. ⌜ r ≡ record { refusal = 0; some = true; result = result } ⌝ }
+{
     Shown {
         refusal: 0,
         some: true,
@@ -23,7 +36,9 @@ fn some(result: u64) -> Shown {
     }
 }
 
-fn none(refusal: u64) -> Shown {
+fn none(refusal: u64) -> Shown
+    ensures { λ r. ⌜ r ≡ record { refusal = refusal; some = false; result = 0 } ⌝ }
+{
     Shown {
         refusal: refusal,
         some: false,
@@ -31,34 +46,12 @@ fn none(refusal: u64) -> Shown {
     }
 }
 
-// The number of a refusal.
-fn number_of(r: Refusal) -> u64
-    ensures { λ n. ⌜ n ≡ refusalNumber r ⌝ }
-{
-    match r {
-        Refusal::BadSizes => 1,
-        Refusal::BadCache => 2,
-        Refusal::Malformed => 3,
-        Refusal::NoPlace => 4,
-        Refusal::NotActive => 5,
-        Refusal::Held => 6,
-        Refusal::NoSlot => 7,
-        Refusal::LogFull => 8,
-        Refusal::NoTime => 9,
-        Refusal::NotYet => 10,
-        Refusal::NoPage => 11,
-        Refusal::NotLogged => 12,
-        Refusal::Unchanged => 13,
-        Refusal::ShortBuffer => 14,
-        Refusal::NoNumber => 15,
-        Refusal::Unfit => 16,
-    }
-}
-
 // What an answer shows; a strip that is present shows its first byte.
-fn show(answer: Answer, byte: u8) -> Shown {
+fn show(answer: Answer, byte: u8) -> Shown
+    ensures { λ r. ⌜ r ≡ shownOf answer byte ⌝ }
+{
     match answer {
-        Answer::Refused(r) => none(number_of(r)),
+        Answer::Refused(r) => none(print::number_of(r)),
         Answer::Done => none(0),
         Answer::Begun(n) => some(n.0),
         Answer::Written(s) => some(s),
@@ -71,8 +64,24 @@ fn show(answer: Answer, byte: u8) -> Shown {
     }
 }
 
+// The result, or a dash for none.
+fn put_result(out: &mut [u8], n: usize, s: Shown) -> usize
+    requires { ⌜ n + 20 ≤ length (now out) ⌝ }
+    ensures { λ r. ⌜ r ≤ n + 20 ⌝ }
+    ensures { λ r. ⌜ take r (now (out .exit)) ≡ take n (now (out .entry)) ++ resultText (result s) ⌝ }
+{
+    if s.some {
+        return print::number(out, n, s.result);
+    }
+    print::byte(out, n, b'-')
+}
+
 // Puts the line of an answer behind the first n bytes of the output; answers how many there are then.
-pub fn put(out: &mut [u8], n: usize, letter: u8, answer: Answer, byte: u8) -> usize {
+pub fn put(out: &mut [u8], n: usize, letter: u8, answer: Answer, byte: u8) -> usize
+    requires { ⌜ n + 44 ≤ length (now out) ⌝ }
+    ensures { λ r. ⌜ r ≤ n + 44 ⌝ }
+    ensures { λ r. ⌜ take r (now (out .exit)) ≡ take n (now (out .entry)) ++ lineText letter (answerNumber answer) (resultOf answer byte) ⌝ }
+{
     let s = show(answer, byte);
     let a = print::byte(out, n, letter);
     let b = print::byte(out, a, b' ');
@@ -82,39 +91,75 @@ pub fn put(out: &mut [u8], n: usize, letter: u8, answer: Answer, byte: u8) -> us
     print::byte(out, e, b'\n')
 }
 
-// The result, or a dash for none.
-fn put_result(out: &mut [u8], n: usize, s: Shown) -> usize {
-    if s.some {
-        return print::number(out, n, s.result);
-    }
-    print::byte(out, n, b'-')
-}
-
-// Makes the call of a whole line that is no query.
-pub fn change(line: Line, s: State, medium: &mut [u8], cache: &mut [u8]) -> Ended {
-    let letter = line.letter;
-    match letter {
-        b'B' => transactions::begin::begin(s, medium, cache, line.last),
-        b'W' => {
-            let value = [(line.last % 256) as u8; 16];
-            let record = (line.second_last % 256) as u8;
-            transactions::write::write(s, medium, cache, line.third_last, record, value)
-        }
-        b'C' => transactions::commit::commit(s, medium, cache, line.second_last, line.last),
-        _ => cut(medium, cache),
+// The letter of a call; 0 for a line of another form.
+pub fn letter(call: Call) -> u8
+    ensures { λ r. ⌜ r ≡ letterOf call ⌝ }
+{
+    match call {
+        Call::Begin(_) => b'B',
+        Call::Write(_, _, _) => b'W',
+        Call::Commit(_, _) => b'C',
+        Call::Query(_, _) => b'Q',
+        Call::Cut => b'X',
+        Call::Other => 0,
     }
 }
 
 // A power cut, and opening again: state and cache are lost.
-fn cut(medium: &[u8], cache: &mut [u8]) -> Ended {
+fn cut(medium: &[u8], cache: &mut [u8]) -> Ended
+    ensures { λ r. ⌜ leaves (r .answer) (r .state) (now (medium .entry)) (now (cache .exit)) ≡ openOf (now (medium .entry)) (zeros (length (now (cache .entry)))) 4 2 ⌝ }
+{
     layout::block::clear(cache);
     media::open::open(medium, cache, 4, 2)
 }
 
-// Makes a query, which leaves the state as it is, and prints what it answers.
-pub fn query(line: Line, s: State, medium: &[u8], cache: &[u8], out: &mut [u8], n: usize) -> usize {
-    let record = (line.second_last % 256) as u8;
-    let r = reads::as_of::as_of(s, medium, cache, record, line.last);
-    let answer = r.answer;
-    put(out, n, b'Q', answer, r.value[0])
+// Makes the call of a line that is no query.
+pub fn change(call: Call, s: State, medium: &mut [u8], cache: &mut [u8]) -> Ended
+    ensures { λ r. ⌜ leaves (r .answer) (r .state) (now (medium .exit)) (now (cache .exit)) ≡ changeOf call s (now (medium .entry)) (now (cache .entry)) ⌝ }
+{
+    match call {
+        Call::Begin(clock) => transactions::begin::begin(s, medium, cache, clock),
+        Call::Write(number, key, byte) => {
+            transactions::write::write(s, medium, cache, number, key, [byte; 16])
+        }
+        Call::Commit(number, clock) => transactions::commit::commit(
+            s,
+            medium,
+            cache,
+            number,
+            clock,
+        ),
+        Call::Query(_, _) => Ended {
+            answer: Answer::Done,
+            state: s,
+        },
+        Call::Cut => cut(medium, cache),
+        Call::Other => Ended {
+            answer: Answer::Done,
+            state: s,
+        },
+    }
+}
+
+fn nothing() -> Reading
+    ensures { λ r. ⌜ r ≡ record { answer = Done; value = zeros 16 } ⌝ }
+{
+    Reading {
+        answer: Answer::Done,
+        value: [0u8; 16],
+    }
+}
+
+// Makes a query, which leaves the state as it is.
+pub fn query(call: Call, s: State, medium: &[u8], cache: &[u8]) -> Reading
+    ensures { λ r. ⌜ reads (r .answer) (r .value) s (now (medium .entry)) (now (cache .entry)) ≡ queryOf call s (now (medium .entry)) (now (cache .entry)) ⌝ }
+{
+    match call {
+        Call::Begin(_) => nothing(),
+        Call::Write(_, _, _) => nothing(),
+        Call::Commit(_, _) => nothing(),
+        Call::Query(key, time) => reads::as_of::as_of(s, medium, cache, key, time),
+        Call::Cut => nothing(),
+        Call::Other => nothing(),
+    }
 }

@@ -1,0 +1,4 @@
+pub mod ShowLaws
+pub mod LineLaws
+pub mod PlayLaws
+pub mod Whole

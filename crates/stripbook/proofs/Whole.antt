@@ -1,0 +1,17 @@
+-- What the program prints for an input is what the definition says, over reads of any size: a line taken byte by byte
+-- asks for what its words say.
+use mathlib.Core.Path.{_≡_, ap}
+use mathlib.Core.Bool.{true}
+use mathlib.Core.List.{List, []}
+use Prim.Native.Nat.{ℕ}
+use Rattle.script.specs.Reader.{noLine}
+use Rattle.script.specs.Run.{Step, stops, stand, overReads, joinedReads}
+use Rattle.script.proofs.RunLaws.{whole-reads}
+use Rattle.stripbook.specs.Line.{lineOf}
+use Rattle.stripbook.specs.Whole.{World, stepBy, start, printsOf, does}
+use Rattle.stripbook.proofs.LineLaws.{line-call, no-letter}
+
+pub prints : (ps : List (List ℕ)) → overReads does (stand noLine start true []) ps ≡ printsOf (joinedReads ps)
+unfolding printsOf stepBy
+prints ps =
+    whole-reads does (λ w l. stepBy w (lineOf l)) (λ w bs. ap (stepBy w) (line-call bs)) (λ w l h. ap (stepBy w) (no-letter l h)) ps start
