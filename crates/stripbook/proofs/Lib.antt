@@ -2,3 +2,4 @@ pub mod ShowLaws
 pub mod LineLaws
 pub mod PlayLaws
 pub mod Whole
+pub mod Listing

@@ -72,8 +72,7 @@ pub fn play(
             let answer = ended.answer;
             let next = room::put(out, n, letter, answer, 0);
             n = next;
-            let left = ended.state;
-            state = left;
+            state = ended.state;
         }
     }
     Run {
