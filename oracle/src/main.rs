@@ -3,10 +3,11 @@
 use oracle::damage::{self, Tally};
 use oracle::fuzz::{self, Reached};
 use oracle::judge::Strictness;
+use oracle::layout::{MAX_LOG_BLOCKS, MAX_PAGES, MAX_SLOTS};
 use oracle::profiles::{self, Profile, PROFILES};
 use oracle::rules::Sound;
 use oracle::scripts::{self, Options};
-use oracle::{script, stripbook};
+use oracle::{growth, rooms, script, sql, stripbook};
 use std::io::{Read, Write};
 use std::process::ExitCode;
 
@@ -16,6 +17,9 @@ oracle stripbook               the same for the stripbook language
 oracle expect [--stripbook]    the output that a script must print
 oracle script --seed S --calls N [--profile NAME] [--no-checkpoint] [--plain]
 oracle script --stripbook --seed S --calls N [--bad-end]
+oracle script --rooms --seed S --calls N
+oracle script --growth LETTER --log L --pages D --chain C --calls N
+oracle sql [--told]            a script's history as SQL for the shell of SQLite
 oracle fuzz --seeds A-B [--calls N] [--profile NAME]
 oracle damage --seeds A-B
 oracle profiles                lists the profiles, by the seeds that take them";
@@ -62,9 +66,12 @@ fn main() -> ExitCode {
     let command = words.next().unwrap_or_default();
     let arguments = Arguments(words.collect());
     let done = match command.as_str() {
-        "run" => run(false),
-        "stripbook" => run(true),
-        "expect" => run(arguments.has("--stripbook")),
+        "run" => run(script::run),
+        "stripbook" => run(stripbook::run),
+        "expect" if arguments.has("--stripbook") => run(stripbook::run),
+        "expect" => run(script::run),
+        "sql" if arguments.has("--told") => run(sql::told),
+        "sql" => run(sql::asked),
         "script" => write_script(&arguments),
         "fuzz" => run_fuzz(&arguments),
         "damage" => run_damage(&arguments),
@@ -85,24 +92,26 @@ fn print(bytes: &[u8]) -> Result<(), String> {
     written.map_err(|error| error.to_string())
 }
 
-fn run(is_stripbook: bool) -> Result<(), String> {
+fn run(language: fn(&[u8], &mut Vec<u8>)) -> Result<(), String> {
     let (mut text, mut out) = (Vec::new(), Vec::new());
     let read = std::io::stdin().read_to_end(&mut text);
     read.map_err(|error| error.to_string())?;
-    if is_stripbook {
-        stripbook::run(&text, &mut out);
-    } else {
-        script::run(&text, &mut out);
-    }
+    language(&text, &mut out);
     print(&out)
 }
 
 fn write_script(arguments: &Arguments) -> Result<(), String> {
-    let seed = arguments.number("--seed", None)?;
     let calls = arguments.number("--calls", None)?;
+    if let Some(letter) = arguments.value("--growth") {
+        return write_growth_script(arguments, letter, calls);
+    }
+    let seed = arguments.number("--seed", None)?;
     if arguments.has("--stripbook") {
         let bad_end = arguments.has("--bad-end");
         return print(&scripts::stripbook_script(seed, calls, bad_end));
+    }
+    if arguments.has("--rooms") {
+        return print(&rooms::rooms_script(seed, calls));
     }
     print(&scripts::script(&Options {
         seed,
@@ -112,6 +121,23 @@ fn write_script(arguments: &Arguments) -> Result<(), String> {
         shows: !arguments.has("--plain"),
         damage: arguments.value("--profile") == Some("damage"),
     }))
+}
+
+fn write_growth_script(arguments: &Arguments, letter: &str, calls: u64) -> Result<(), String> {
+    let number = |option, range: std::ops::RangeInclusive<usize>| {
+        let number = arguments.number(option, None)? as usize;
+        range
+            .contains(&number)
+            .then_some(number)
+            .ok_or(format!("{option}: {number}?"))
+    };
+    let size = growth::Size {
+        log_blocks: number("--log", 2..=MAX_LOG_BLOCKS)?,
+        pages: number("--pages", 1..=MAX_PAGES)?,
+        chain: number("--chain", 4..=MAX_SLOTS)?,
+    };
+    let script = growth::growth_script(size, letter.bytes().next().unwrap_or(0), calls);
+    print(&script.ok_or(format!("--growth: {letter}?"))?)
 }
 
 fn run_fuzz(arguments: &Arguments) -> Result<(), String> {
