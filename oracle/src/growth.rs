@@ -14,7 +14,7 @@ const UNSTORED_PAGES: usize = 3;
 /// Transactions of one version that a log block holds.
 const BLOCK_TRANSACTIONS: usize = (BLOCK - LOG_HEADER) / (VERSION_BYTES + COMMIT_BYTES);
 
-#[derive(Clone, Copy)]
+#[derive(Clone, Copy, Debug)]
 pub struct Size {
     pub log_blocks: usize,
     pub pages: usize,

@@ -2,8 +2,10 @@
 
 use oracle::damage::{self, Tally};
 use oracle::fuzz::{report, run_seed, Reached};
+use oracle::growth::{growth_script, Size};
 use oracle::judge::Strictness;
 use oracle::profiles::{by_name, by_seed, PROFILES};
+use oracle::rooms::rooms_script;
 use oracle::rules::Sound;
 use oracle::scripts::{script, stripbook_script, Options};
 
@@ -100,6 +102,45 @@ fn stripbook_scripts_end_at_a_line_of_another_form() {
         oracle::stripbook::run(&ended, &mut same);
         assert_eq!(out, same);
         assert_eq!(out.iter().filter(|&&byte| byte == b'\n').count(), 100);
+    }
+}
+
+/// No refusal among the answers, and as many as lines.
+fn all_accepted(script: &[u8]) -> bool {
+    let out = answers(script);
+    let lines = script.iter().filter(|&&byte| byte == b'\n').count();
+    let refused = out
+        .split(|&byte| byte == b'\n')
+        .any(|line| line.ends_with(b" -"));
+    answered(&out) == lines && !refused
+}
+
+#[test]
+fn rooms_are_filled_and_no_call_is_refused() {
+    let script = rooms_script(7, 20_000);
+    assert!(all_accepted(&script));
+    for letter in b"FOXBWERCAQLSPK" {
+        let mut lines = script.split(|&byte| byte == b'\n');
+        assert!(lines.any(|line| line.first() == Some(letter)));
+    }
+    let out = answers(&script);
+    let mut lines = out.split(|&byte| byte == b'\n');
+    assert!(lines.any(|line| line == b"W 0 957"));
+}
+
+#[test]
+fn calls_over_a_filled_medium_are_accepted() {
+    for (log_blocks, pages, chain) in [(2, 1, 15), (2, 64, 15), (5, 7, 4), (32, 64, 960)] {
+        let size = Size {
+            log_blocks,
+            pages,
+            chain,
+        };
+        for letter in *b"OQLPZ" {
+            let script = growth_script(size, letter, 3).unwrap();
+            assert!(all_accepted(&script), "{size:?} {letter}");
+        }
+        assert!(growth_script(size, b'B', 3).is_none());
     }
 }
 

@@ -1,0 +1,29 @@
+# Shared by the parts of the bench: where the programs are, and how a run is timed.
+
+oracle=oracle/target/release/oracle
+# Each may be given with arguments, as in REPLAY='other/program run'.
+read -ra stripbook <<<"${STRIPBOOK:-target/bin/stripbook}"
+read -ra replay <<<"${REPLAY:-target/bin/replay}"
+
+work=$(mktemp -d)
+trap 'rm -rf "$work"' EXIT
+TIMEFORMAT='%U %S %R'
+
+# LOG IN OUT COMMAND...: runs the command; its processor time and elapsed time, in seconds, go behind the log.
+timed() {
+    local log=$1 in=$2 out=$3
+    shift 3
+    { time "$@" <"$in" >"$out" 2>&3; } 3>&2 2>>"$log"
+}
+
+# LOG: the median of processor times, and of elapsed times.
+medians() {
+    local middle=$(($(wc -l <"$1") / 2 + 1))
+    echo "$(awk '{ print $1 + $2 }' "$1" | sort -g | sed -n "${middle}p")" \
+        "$(awk '{ print $3 }' "$1" | sort -g | sed -n "${middle}p")"
+}
+
+# LOG: the least processor time.
+least() {
+    awk '{ print $1 + $2 }' "$1" | sort -g | head -n 1
+}
