@@ -1,6 +1,7 @@
 //! The strip history in plain Rust: a byte-exact store, the book that judges it, and random
 //! histories.
 
+pub mod bench;
 pub mod book;
 pub mod chain;
 pub mod checkpoint;
@@ -9,7 +10,6 @@ pub mod edits;
 pub mod expect;
 pub mod format;
 pub mod fuzz;
-pub mod growth;
 pub mod history;
 pub mod journal;
 pub mod judge;
@@ -19,13 +19,11 @@ pub mod open;
 pub mod pages;
 pub mod profiles;
 pub mod random;
-pub mod rooms;
 pub mod rules;
 pub mod script;
 pub mod scripts;
 pub mod shadow;
 pub mod shrink;
-pub mod sql;
 pub mod state;
 pub mod stripbook;
 pub mod transactions;

@@ -1,5 +1,6 @@
 //! The oracle's commands.
 
+use oracle::bench::{growth, rooms, sql};
 use oracle::damage::{self, Tally};
 use oracle::fuzz::{self, Reached};
 use oracle::judge::Strictness;
@@ -7,7 +8,7 @@ use oracle::layout::{MAX_LOG_BLOCKS, MAX_PAGES, MAX_SLOTS};
 use oracle::profiles::{self, Profile, PROFILES};
 use oracle::rules::Sound;
 use oracle::scripts::{self, Options};
-use oracle::{growth, rooms, script, sql, stripbook};
+use oracle::{script, stripbook};
 use std::io::{Read, Write};
 use std::process::ExitCode;
 

@@ -1,11 +1,11 @@
 //! A fixed set of seeds: random histories against the book, damaged media, scripts.
 
+use oracle::bench::growth::{growth_script, Size};
+use oracle::bench::rooms::rooms_script;
 use oracle::damage::{self, Tally};
 use oracle::fuzz::{report, run_seed, Reached};
-use oracle::growth::{growth_script, Size};
 use oracle::judge::Strictness;
 use oracle::profiles::{by_name, by_seed, PROFILES};
-use oracle::rooms::rooms_script;
 use oracle::rules::Sound;
 use oracle::scripts::{script, stripbook_script, Options};
 
