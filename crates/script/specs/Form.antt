@@ -1,5 +1,5 @@
--- The form of a line: a letter, then words, each behind one space. All words but the last are decimal numbers; the last is
--- read as a decimal number and as hex digits, and the letter decides which of the two it takes.
+-- The form of a line: a letter, then words, each behind one space. All words but the last are decimal numbers. The last
+-- is read as a decimal number and as hex digits, and the letter decides which of the two it takes.
 use Prim.Native.Nat.{ℕ, zero, suc}
 use mathlib.Core.Bool.{Bool, true, false, cond}
 use mathlib.Core.Option.{Option, none, some}
@@ -8,12 +8,13 @@ use lib.ListN.{length}
 use lib.Dec.{ltb}
 use Rattle.script.specs.Words.{isIn, wordsOf, numberOf, hexBytes}
 
--- a word as a decimal number, as a value of 32 hex digits, and as a byte of two
+-- replay: "numbers decimal", "values as 32 hex digits", "one byte (two hex digits)": a word read in these three ways
 pub record Word : Type 0 where
   pub number : Option ℕ
   pub value : Option (List ℕ)
   pub byte : Option (List ℕ)
 
+-- replay: "numbers decimal", "values as 32 hex digits": what a word is, read in each way
 unfoldable pub wordOf : List ℕ → Word
 wordOf w = record { number = numberOf w; value = hexBytes 16 w; byte = hexBytes 1 w }
 
@@ -23,7 +24,7 @@ pub data Form : Type 0 where
   bare : ℕ → Form  -- a letter alone
   ending : ℕ → List ℕ → Word → Form  -- a letter, numbers, and the last word
 
--- a number in front of those of a form
+-- 01: "W number record byte" and the like: a number in front of those of a form
 abbrev pub behind : Option ℕ → Form → Form
 behind none f = other
 behind (some n) other = other
@@ -47,12 +48,12 @@ byWords ([] ∷ ws) = other
 byWords ((k ∷ []) ∷ ws) = cond (isLetter k) (afterLetter k ws) other
 byWords ((a ∷ (b ∷ w)) ∷ ws) = other
 
--- no letter takes more than four words
+-- replay: `L record t1 t2 bytes`: no letter takes more than four words
 unfoldable pub limited : Form → Form
 limited other = other
 limited (bare k) = bare k
 limited (ending k ns w) = cond (ltb 3 (length ns)) other (ending k ns w)
 
--- the form of a line, given by its bytes without the newline
+-- 01: "the first line of another form": the form of a line, given by its bytes without the newline
 unfoldable pub formOf : List ℕ → Form
 formOf bs = limited (byWords (wordsOf bs))

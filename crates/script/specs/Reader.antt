@@ -11,7 +11,7 @@ use Rattle.script.specs.declared.line.Taken.{Taken}
 use Rattle.script.specs.Words.{hexDigit}
 use Rattle.script.specs.Form.{Word, Form, other, bare, ending, isLetter}
 
--- nothing taken yet
+-- 01: "reads lines": nothing taken yet
 unfoldable pub noLine : Line
 noLine = record {
   letter = 0;
@@ -27,7 +27,7 @@ noLine = record {
   bad = false;
 }
 
--- 01: "another form", whatever comes
+-- 01: "the first line of another form": one that is so already, whatever comes
 unfoldable pub spoilt : Line → Line
 spoilt l = record {
   letter = l .letter;
@@ -67,7 +67,7 @@ withLetter l b = cond (isLetter b) (lettered l b) (spoilt l)
 unfoldable pub isNumber : Line → Bool
 isNumber l = cond (eqb (l .hexes) 0) false (l .number)
 
--- another word begins
+-- reading 17: "exactly one space": another word begins
 unfoldable pub nextWord : Line → Line
 nextWord l = record {
   letter = l .letter;
@@ -94,15 +94,16 @@ withSpace l =
 unfoldable pub staysNumber : Line → ℕ → Bool
 staysNumber l d = cond (l .number) (cond (ltb d 10) (ltb (10 * l .last + d) (2 ^ 64)) false) false
 
--- how many hex digits there are with one more; 33 stands for more than a word may have
+-- replay: "values as 32 hex digits": how many there are with one more; 33 stands for more than a word may have
 unfoldable pub oneMore : ℕ → ℕ
 oneMore n = cond (leb 32 n) 33 (n + 1)
 
--- a hex digit behind a number of 64 bits
+-- replay: "hex digits": one behind a number of 64 bits
 unfoldable pub pushed : ℕ → ℕ → ℕ
 pushed n d = n % 2 ^ 60 * 16 + d
 
--- a digit behind the last word: the number that it is in decimal; the first sixteen hex digits go to the high half
+-- replay: "numbers decimal", "hex digits": a digit behind the last word goes to the number that it is in decimal, and to
+-- the high half of its hex digits if it is one of the first sixteen, else to the low half
 unfoldable pub withDigit : Line → ℕ → Line
 withDigit l d = record {
   letter = l .letter;
@@ -118,7 +119,7 @@ withDigit l d = record {
   bad = l .bad;
 }
 
--- a byte that is no digit: the last word is neither a number nor hex digits
+-- 01: "the first line of another form": behind a byte that is no digit the last word is neither a number nor hex digits
 unfoldable pub noWord : Line → Line
 noWord l = record {
   letter = l .letter;
@@ -134,28 +135,28 @@ noWord l = record {
   bad = l .bad;
 }
 
--- one byte more
+-- 01: "reads lines": one byte more
 unfoldable pub grown : Line → ℕ → Line
 grown l b =
     cond (eqb b 32) (withSpace l)
     (cond (eqb (l .letter) 0) (withLetter l b)
     (cond (eqb (l .count) 0) (spoilt l) (cond (ltb (hexDigit b) 16) (withDigit l (hexDigit b)) (noWord l))))
 
--- the bytes of a line one after the other
+-- 01: "reads lines": the bytes of a line one after the other
 unfoldable pub grownBy : Line → List ℕ → Line
 grownBy l [] = l
 grownBy l (b ∷ bs) = grownBy (grown l b) bs
 
--- the numbers before the last word
+-- 01: "W number record byte" and the like: the numbers before the last word
 unfoldable pub doneOf : Line → List ℕ → List ℕ
 doneOf l ns = drop (4 - l .count) (l .fourth ∷ (l .third ∷ (l .second ∷ ns)))
 
--- the k bytes of a number, the most significant first
+-- replay: "values as 32 hex digits": the k bytes of a number, the most significant first
 unfoldable pub wide : ℕ → ℕ → List ℕ
 wide zero n = []
 wide (suc k) n = wide k (n / 256) ++ (n % 256 ∷ [])
 
--- the last word
+-- replay: "numbers decimal", "values as 32 hex digits", "one byte (two hex digits)": the last word
 unfoldable pub lastWord : Line → Word
 lastWord l = record {
   number = cond (isNumber l) (some (l .last)) none;
@@ -163,14 +164,15 @@ lastWord l = record {
   byte = cond (eqb (l .hexes) 2) (some (wide 1 (l .high))) none;
 }
 
--- the form of the line if it ends here
+-- 01: "the first line of another form": the form of the line if it ends here
 unfoldable pub seenOf : Line → Form
 seenOf l =
     cond (l .bad) other
     (cond (eqb (l .letter) 0) other
     (cond (eqb (l .count) 0) (bare (l .letter)) (ending (l .letter) (doneOf l []) (lastWord l))))
 
--- the line that goes on with the bytes, the first of them at place i: up to a newline or to the end of the bytes
+-- 01: "reads lines": the line that goes on with the bytes, the first of them at place i: up to a newline or to the end
+-- of the bytes
 unfoldable pub takeOf : Line → List ℕ → ℕ → Taken
 takeOf l [] i = record { line = l; next = i; ended = false }
 takeOf l (b ∷ bs) i =

@@ -12,7 +12,7 @@ use Rattle.script.specs.declared.line.Line.{Line}
 use Rattle.script.specs.Form.{Word, Form, other, bare, ending, formOf}
 use Rattle.script.specs.Reader.{doneOf, lastWord, seenOf}
 
--- a call with no value
+-- replay: "One call to a line": a call with no value
 unfoldable pub plain : Call → Asked
 plain call = record { call = call; value = zeros 16 }
 
@@ -79,10 +79,10 @@ replayOf (ending k (a ∷ (b ∷ (c ∷ (d ∷ ns)))) w) = plain Other
 unfoldable pub lineOf : List ℕ → Asked
 lineOf bs = replayOf (formOf bs)
 
--- a line of three words or more that ends here
+-- replay: "One call to a line": what a line of three words or more means that ends here
 unfoldable pub manyWords : Line → Asked
 manyWords l = replayOf (ending (l .letter) (doneOf l []) (lastWord l))
 
--- what a line means that was taken byte by byte and ends here
+-- replay: "One call to a line": what a line means that was taken byte by byte and ends here
 unfoldable pub meaningOf : Line → Asked
 meaningOf l = replayOf (seenOf l)

@@ -12,7 +12,7 @@ pub data Step (W : Type 0) : Type 0 where
   stops : Step W
   goes : W → List ℕ → Step W
 
--- what a line prints, and then the lines behind it from the world that it leaves
+-- 01: "per line": what a line prints, and then the lines behind it from the world that it leaves
 abbrev pub followed : {W : Type 0} → Step W → (W → List ℕ) → List ℕ
 followed stops rest = []
 followed (goes w o) rest = o ++ rest w
@@ -22,13 +22,14 @@ unfoldable pub printsFrom : {W : Type 0} → (W → List ℕ → Step W) → W �
 printsFrom does w [] = []
 printsFrom does w (l ∷ ls) = followed (does w l) (λ v. printsFrom does v ls)
 
--- where a run stands: the line begun, the world, whether it goes on, and what it printed
+-- 01: "reads lines": where a run stands: the line begun, the world, whether it goes on, and what it printed
 pub record Stand (W : Type 0) : Type 0 where
   pub line : Line
   pub world : W
   pub on : Bool
   pub out : List ℕ
 
+-- 01: "reads lines": a place of a run by its parts
 abbrev pub stand : {W : Type 0} → Line → W → Bool → List ℕ → Stand W
 stand l w on out = record { line = l; world = w; on = on; out = out }
 
@@ -52,16 +53,16 @@ playOf does t (b ∷ bs) = playOf does (turned does t b) bs
 unfoldable pub finished : {W : Type 0} → (W → Line → Step W) → Stand W → List ℕ
 finished does t = cond (t .on) (cond (eqb (t .line .letter) 0) (t .out) (turned does t 10 .out)) (t .out)
 
--- what was printed is written out
+-- 01: "It prints no header": what was printed is written out
 unfoldable pub written : {W : Type 0} → Stand W → Stand W
 written t = stand (t .line) (t .world) (t .on) []
 
--- what a program writes out over the reads of an input, however they cut it
+-- 01: "It prints no header": what a program writes out over the reads of an input, however they cut it
 unfoldable pub overReads : {W : Type 0} → (W → Line → Step W) → Stand W → List (List ℕ) → List ℕ
 overReads does t [] = finished does t
 overReads does t (p ∷ ps) = playOf does t p .out ++ overReads does (written (playOf does t p)) ps
 
--- the reads put together
+-- 01: "reads lines": the reads put together
 unfoldable pub joinedReads : List (List ℕ) → List ℕ
 joinedReads [] = []
 joinedReads (p ∷ ps) = p ++ joinedReads ps

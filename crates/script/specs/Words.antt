@@ -6,7 +6,7 @@ use mathlib.Core.List.{List, [], _∷_}
 use lib.ListN.{length}
 use lib.Dec.{eqb, ltb, leb}
 
--- a byte in front of the first of the words or lines behind it
+-- 01: "reads lines": a byte in front of the first of the lines behind it, or of the words
 abbrev pub ahead : ℕ → List (List ℕ) → List (List ℕ)
 ahead b [] = (b ∷ []) ∷ []
 ahead b (w ∷ ws) = (b ∷ w) ∷ ws
@@ -22,7 +22,7 @@ unfoldable pub wordsOf : List ℕ → List (List ℕ)
 wordsOf [] = [] ∷ []
 wordsOf (b ∷ bs) = cond (eqb b 32) ([] ∷ wordsOf bs) (ahead b (wordsOf bs))
 
--- is a byte one of those from low to high?
+-- 01: "Numbers are decimal": is a byte one of those from low to high?
 unfoldable pub isIn : ℕ → ℕ → ℕ → Bool
 isIn low high b = leb low b && leb b high
 

@@ -20,7 +20,7 @@ use Rattle.stripbook.specs.declared.call.Call.the-variants.{Begin, Write
 use Rattle.stripbook.specs.Line.{meaningOf}
 use Rattle.stripbook.specs.Room.{outcomeOf, resultOf, lineText, letterOf, printed}
 use Rattle.stripbook.specs.Play.{changeOf, queryOf}
-use Rattle.stripbook.specs.Whole.{World, world, made, stepBy, does}
+use Rattle.stripbook.specs.Whole.{World, world, called, stepBy, does}
 
 -- a line of another form has no letter, and every other line makes its call
 other-stops : (w : World) (call : Call) → letterOf call ≡ 0 → stepBy w call ≡ stops
@@ -32,7 +32,7 @@ other-stops w (Query a b) h = absurd (omega arith)
 other-stops w Cut h = absurd (omega arith)
 other-stops w Other h = refl
 
-call-goes : (w : World) (call : Call) → (letterOf call ≡ 0 → ⊥) → stepBy w call ≡ made call (outcomeOf call (w .state) (w .medium) (w .cache))
+call-goes : (w : World) (call : Call) → (letterOf call ≡ 0 → ⊥) → stepBy w call ≡ called w call
 unfolding stepBy letterOf
 call-goes w (Begin a) h = refl
 call-goes w (Write a b d) h = refl

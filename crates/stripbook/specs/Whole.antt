@@ -20,26 +20,32 @@ pub record World : Type 0 where
   pub medium : List ℕ
   pub cache : List ℕ
 
+-- 01: "Each call gets the state, medium and cache that the call before it left": by its parts
 abbrev pub world : State → List ℕ → List ℕ → World
 world s m c = record { state = s; medium = m; cache = c }
 
--- 01: "per line the letter, 0 or the refusal, and a result": the call of a line is made, and its line printed
+-- 01: "per line the letter, 0 or the refusal, and a result": the call of a line left this outcome, and its line is printed
 abbrev pub made : Call → Outcome → Step World
 made call o = goes (world (o .state) (o .medium) (o .cache)) (printed call o)
 
+-- 01: "Each call gets the state, medium and cache that the call before it left"
+abbrev pub called : World → Call → Step World
+called w call = made call (outcomeOf call (w .state) (w .medium) (w .cache))
+
 -- 01: "the first line of another form ends the run": what a line does that asks for this
 unfoldable pub stepBy : World → Call → Step World
-stepBy w (Begin clock) = made (Begin clock) (outcomeOf (Begin clock) (w .state) (w .medium) (w .cache))
-stepBy w (Write number key byte) = made (Write number key byte) (outcomeOf (Write number key byte) (w .state) (w .medium) (w .cache))
-stepBy w (Commit number clock) = made (Commit number clock) (outcomeOf (Commit number clock) (w .state) (w .medium) (w .cache))
-stepBy w (Query key time) = made (Query key time) (outcomeOf (Query key time) (w .state) (w .medium) (w .cache))
-stepBy w Cut = made Cut (outcomeOf Cut (w .state) (w .medium) (w .cache))
+stepBy w (Begin clock) = called w (Begin clock)
+stepBy w (Write number key byte) = called w (Write number key byte)
+stepBy w (Commit number clock) = called w (Commit number clock)
+stepBy w (Query key time) = called w (Query key time)
+stepBy w Cut = called w Cut
 stepBy w Other = stops
 
 -- 01: "has L = 4, D = 2, formats, opens"
 unfoldable pub opened : Outcome
 opened = openOf (freshMedium 4 2) (zeros (cacheLength 2)) 4 2
 
+-- 01: "has L = 4, D = 2, formats, opens": what the first line finds
 unfoldable pub start : World
 start = world (opened .state) (opened .medium) (opened .cache)
 
