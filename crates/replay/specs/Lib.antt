@@ -1,0 +1,4 @@
+pub mod Text
+pub mod Room
+pub mod Parts
+pub mod Whole

@@ -1,0 +1,150 @@
+// Program `replay`: reads a script of calls from standard input, repeats the history of a room, and prints what each
+// line answers.
+mod look;
+mod parts;
+mod plan;
+mod play;
+mod text;
+mod turn;
+
+use crate::parts::Standing;
+use crate::play::Run;
+use libc::STDIN_FILENO;
+use libc::STDOUT_FILENO;
+use script::line;
+ghost use mathlib.Core.Path.{_≡_};
+ghost use mathlib.Core.Bool.{true, false};
+ghost use mathlib.Core.List.{[]};
+ghost use Prim.Native.Nat.{_≤_, _<_};
+ghost use lib.ListN.{length, take};
+ghost use Rattle.script.specs.Run.{stand, playOf, finished};
+ghost use Rattle.replay.specs.Parts.{roomOf};
+ghost use Rattle.replay.specs.Whole.{does};
+
+// Plays bytes and writes out what they print; not all of them where they print much.
+fn play_out(
+    run: Run,
+    bytes: &[u8],
+    medium: &mut [u8],
+    cache: &mut [u8],
+    buffer: &mut [u8],
+    out: &mut [u8],
+) -> Run
+    requires { ⌜ length (now medium) ≡ 50688 ⌝ }
+    requires { ⌜ length (now cache) ≡ 32768 ⌝ }
+    requires { ⌜ length (now buffer) ≡ 40000 ⌝ }
+    requires { ⌜ length (now out) ≡ 200000 ⌝ }
+    requires { ⌜ 0 < length (now bytes) ⌝ }
+    ensures { λ r. ⌜ (0 < r .next) × (r .next ≤ length (now (bytes .entry))) ⌝ }
+    ensures { λ r. ⌜ stand (r .line) (roomOf (r .standing) (now (medium .exit)) (now (cache .exit)) (r .state)) (r .on) (take (r .n) (now (out .exit))) ≡ playOf does (stand (run .line) (roomOf (run .standing) (now (medium .entry)) (now (cache .entry)) (run .state)) true []) (take (r .next) (now (bytes .entry))) ⌝ }
+{
+    let line = run.line;
+    let standing = run.standing;
+    let state = run.state;
+    let next = play::play(line, standing, state, bytes, medium, cache, buffer, out);
+    let n = next.n;
+    io::write_all(STDOUT_FILENO, &out[..n]);
+    next
+}
+
+// Plays all the bytes.
+fn play_all(
+    run: Run,
+    bytes: &[u8],
+    medium: &mut [u8],
+    cache: &mut [u8],
+    buffer: &mut [u8],
+    out: &mut [u8],
+) -> Run
+    requires { ⌜ length (now medium) ≡ 50688 ⌝ }
+    requires { ⌜ length (now cache) ≡ 32768 ⌝ }
+    requires { ⌜ length (now buffer) ≡ 40000 ⌝ }
+    requires { ⌜ length (now out) ≡ 200000 ⌝ }
+{
+    let mut r = run;
+    let mut i: usize = 0;
+    while i < bytes.len() {
+        if !r.on {
+            return r;
+        }
+        let next = play_out(r, &bytes[i..], medium, cache, buffer, out);
+        i += next.next;
+        r = next;
+    }
+    r
+}
+
+// The end of the input, which ends a line that was begun.
+fn finish(run: Run, medium: &mut [u8], cache: &mut [u8], buffer: &mut [u8], out: &mut [u8]) -> Run
+    requires { ⌜ length (now medium) ≡ 50688 ⌝ }
+    requires { ⌜ length (now cache) ≡ 32768 ⌝ }
+    requires { ⌜ length (now buffer) ≡ 40000 ⌝ }
+    requires { ⌜ length (now out) ≡ 200000 ⌝ }
+    ensures { λ r. ⌜ r .on ≡ false ⌝ }
+    ensures { λ r. ⌜ take (r .n) (now (out .exit)) ≡ finished does (stand (run .line) (roomOf (run .standing) (now (medium .entry)) (now (cache .entry)) (run .state)) true []) ⌝ }
+{
+    let line = run.line;
+    if line.letter == 0 {
+        let mut same = run;
+        same.on = false;
+        same.n = 0;
+        return same;
+    }
+    let mut last = play_out(run, b"\n", medium, cache, buffer, out);
+    last.on = false;
+    last
+}
+
+// Reads once and plays what came.
+fn read_some(
+    run: Run,
+    medium: &mut [u8],
+    cache: &mut [u8],
+    buffer: &mut [u8],
+    out: &mut [u8],
+) -> Run
+    requires { ⌜ length (now medium) ≡ 50688 ⌝ }
+    requires { ⌜ length (now cache) ≡ 32768 ⌝ }
+    requires { ⌜ length (now buffer) ≡ 40000 ⌝ }
+    requires { ⌜ length (now out) ≡ 200000 ⌝ }
+{
+    let mut bytes = io::large_buffer();
+    let got = libc::read(STDIN_FILENO, &mut bytes);
+    if got <= 0 {
+        return finish(run, medium, cache, buffer, out);
+    }
+    let n = io::count(got, &bytes);
+    play_all(run, &bytes[..n], medium, cache, buffer, out)
+}
+
+// The buffers are as long as the largest sizes ask, 32 log blocks and 64 pages, and as the longest answer buffer.
+fn main() {
+    let mut medium = [0u8; 50688];
+    let mut cache = [0u8; 32768];
+    let mut buffer = [0u8; 40000];
+    let mut out = [0u8; 200000];
+    let standing = Standing {
+        stage: 1,
+        blocks: 0,
+        pages: 0,
+    };
+    let state = opening::survey::no_state();
+    let mut run = Run {
+        line: line::empty(),
+        standing: standing,
+        state: state,
+        on: true,
+        n: 0,
+        next: 0,
+    };
+    // A proved loop has to end: it counts its turns down, from a number that no run uses up.
+    let mut turns = u64::MAX;
+    while turns > 0 {
+        if !run.on {
+            return;
+        }
+        let next = read_some(run, &mut medium, &mut cache, &mut buffer, &mut out);
+        run = next;
+        turns -= 1;
+    }
+}

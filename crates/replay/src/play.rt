@@ -1,0 +1,119 @@
+// Everything between a read and a write: the bytes of a read are taken, their lines played, and what they print put into
+// the output.
+use crate::look;
+use crate::parts;
+use crate::parts::Standing;
+use crate::plan;
+use crate::text;
+use crate::turn;
+use script::call;
+use script::line;
+use script::line::Line;
+use store::State;
+ghost use mathlib.Core.Path.{_≡_};
+ghost use mathlib.Core.Bool.{true};
+ghost use mathlib.Core.List.{[]};
+ghost use Prim.Native.Nat.{_≤_, _<_};
+ghost use lib.ListN.{length, take};
+ghost use Rattle.script.specs.Run.{stand, playOf};
+ghost use Rattle.replay.specs.Parts.{roomOf};
+ghost use Rattle.replay.specs.Whole.{does};
+
+// Where a run stands: the line begun, the room and its state, whether the run goes on, how many bytes of the output are
+// to be written, and how many bytes were taken.
+pub struct Run {
+    pub line: Line,
+    pub standing: Standing,
+    pub state: State,
+    pub on: bool,
+    pub n: usize,
+    pub next: usize,
+}
+
+// Takes bytes, and plays each line at its end: up to the end of the bytes or of the run, or until the output may not
+// hold what one more line prints.
+pub fn play(
+    begun: Line,
+    standing: Standing,
+    s: State,
+    bytes: &[u8],
+    medium: &mut [u8],
+    cache: &mut [u8],
+    buffer: &mut [u8],
+    out: &mut [u8],
+) -> Run
+    requires { ⌜ length (now medium) ≡ 50688 ⌝ }
+    requires { ⌜ length (now cache) ≡ 32768 ⌝ }
+    requires { ⌜ length (now buffer) ≡ 40000 ⌝ }
+    requires { ⌜ length (now out) ≡ 200000 ⌝ }
+    requires { ⌜ 0 < length (now bytes) ⌝ }
+    ensures { λ r. ⌜ r .n ≤ 200000 ⌝ }
+    ensures { λ r. ⌜ (0 < r .next) × (r .next ≤ length (now (bytes .entry))) ⌝ }
+    ensures { λ r. ⌜ stand (r .line) (roomOf (r .standing) (now (medium .exit)) (now (cache .exit)) (r .state)) (r .on) (take (r .n) (now (out .exit))) ≡ playOf does (stand begun (roomOf standing (now (medium .entry)) (now (cache .entry)) s) true []) (take (r .next) (now (bytes .entry))) ⌝ }
+{
+    let mut line = begun;
+    let mut t = standing;
+    let mut state = s;
+    let mut n: usize = 0;
+    let mut i: usize = 0;
+    while i < bytes.len() {
+        if 100000 < n {
+            return Run {
+                line: line,
+                standing: t,
+                state: state,
+                on: true,
+                n: n,
+                next: i,
+            };
+        }
+        let taken = line::take(line, bytes, i);
+        let longer = taken.line;
+        if !taken.ended {
+            return Run {
+                line: longer,
+                standing: t,
+                state: state,
+                on: true,
+                n: n,
+                next: bytes.len(),
+            };
+        }
+        i = taken.next;
+        let asked = call::meaning(longer);
+        let asks = asked.call;
+        let p = plan::of(asks);
+        line = line::empty();
+        if parts::reached(t) < p.stage {
+            return Run {
+                line: line,
+                standing: t,
+                state: state,
+                on: false,
+                n: n,
+                next: i,
+            };
+        }
+        if p.looks {
+            let next = look::look(asked, t, state, medium, cache, buffer, out, n);
+            n = next;
+        } else {
+            let turned = turn::turn(asked, p, t, state, medium, cache, buffer);
+            let answer = turned.answer;
+            let next = text::put_answer(out, n, p.letter, answer, [0u8; 16]);
+            n = next;
+            let stands = turned.standing;
+            t = stands;
+            let left = turned.state;
+            state = left;
+        }
+    }
+    Run {
+        line: line,
+        standing: t,
+        state: state,
+        on: true,
+        n: n,
+        next: i,
+    }
+}
