@@ -1,6 +1,1 @@
-pub mod TextLaws
-pub mod RoomLaws
-pub mod TurnLaws
-pub mod PlanLaws
-pub mod LookLaws
 pub mod PlayLaws

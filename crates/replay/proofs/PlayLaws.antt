@@ -21,13 +21,13 @@ use Rattle.script.specs.Run.{Step, stops, goes, Stand, stand, stepped, turned, 
 use Rattle.script.proofs.Cases.{bool-case, no}
 use Rattle.script.proofs.RunLaws.{play-append}
 use Rattle.script.proofs.TakeLaws.{step-on, step-stop}
-use Rattle.replay.specs.declared.parts.Standing.{Standing}
-use Rattle.replay.specs.declared.plan.Plan.{Plan}
-use Rattle.replay.specs.Text.{answerText}
-use Rattle.replay.specs.Room.{Room, Turn, planOf, plays, stays, turnOf}
-use Rattle.replay.specs.Parts.{stageOf, roomOf, leftBy, Prints}
+use Rattle.rooms.specs.declared.parts.Standing.{Standing}
+use Rattle.rooms.specs.declared.plan.Plan.{Plan}
+use Rattle.rooms.specs.Text.{answerText}
+use Rattle.rooms.specs.Room.{Room, Turn, planOf, plays, stays, turnOf}
+use Rattle.rooms.specs.Parts.{stageOf, roomOf, leftBy, Prints}
 use Rattle.replay.specs.Whole.{leaving, stepOf, does}
-use Rattle.replay.proofs.RoomLaws.{stage-in}
+use Rattle.rooms.proofs.RoomLaws.{stage-in}
 
 take-later : (l : Line) (bs : List ℕ) (i : ℕ) → i ≤ takeOf l bs i .next
 unfolding takeOf

@@ -1,4 +1,1 @@
-pub mod Text
-pub mod Room
-pub mod Parts
 pub mod Whole

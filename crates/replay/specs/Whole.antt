@@ -7,7 +7,7 @@ use Rattle.script.specs.declared.line.Line.{Line}
 use Rattle.script.specs.Words.{linesOf}
 use Rattle.script.specs.Replay.{lineOf, meaningOf}
 use Rattle.script.specs.Run.{Step, stops, goes, printsFrom}
-use Rattle.replay.specs.Room.{Room, gone, plays, Turn, turnOf}
+use Rattle.rooms.specs.Room.{Room, gone, plays, Turn, turnOf}
 
 -- what a line leaves, and what it prints
 abbrev pub leaving : Turn → Step Room

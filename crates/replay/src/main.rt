@@ -1,16 +1,11 @@
 // Program `replay`: reads a script of calls from standard input, repeats the history of a room, and prints what each
 // line answers.
-mod look;
-mod parts;
-mod plan;
 mod play;
-mod text;
-mod turn;
 
-use crate::parts::Standing;
 use crate::play::Run;
 use libc::STDIN_FILENO;
 use libc::STDOUT_FILENO;
+use rooms::parts::Standing;
 use script::line;
 ghost use mathlib.Core.Path.{_≡_};
 ghost use mathlib.Core.Bool.{true, false};
@@ -18,7 +13,7 @@ ghost use mathlib.Core.List.{[]};
 ghost use Prim.Native.Nat.{_≤_, _<_};
 ghost use lib.ListN.{length, take};
 ghost use Rattle.script.specs.Run.{stand, playOf, finished};
-ghost use Rattle.replay.specs.Parts.{roomOf};
+ghost use Rattle.rooms.specs.Parts.{roomOf};
 ghost use Rattle.replay.specs.Whole.{does};
 
 // Plays bytes and writes out what they print; not all of them where they print much.

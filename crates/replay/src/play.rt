@@ -1,11 +1,11 @@
 // Everything between a read and a write: the bytes of a read are taken, their lines played, and what they print put into
 // the output.
-use crate::look;
-use crate::parts;
-use crate::parts::Standing;
-use crate::plan;
-use crate::text;
-use crate::turn;
+use rooms::look;
+use rooms::parts;
+use rooms::parts::Standing;
+use rooms::plan;
+use rooms::text;
+use rooms::turn;
 use script::call;
 use script::line;
 use script::line::Line;
@@ -16,7 +16,7 @@ ghost use mathlib.Core.List.{[]};
 ghost use Prim.Native.Nat.{_≤_, _<_};
 ghost use lib.ListN.{length, take};
 ghost use Rattle.script.specs.Run.{stand, playOf};
-ghost use Rattle.replay.specs.Parts.{roomOf};
+ghost use Rattle.rooms.specs.Parts.{roomOf};
 ghost use Rattle.replay.specs.Whole.{does};
 
 // Where a run stands: the line begun, the room and its state, whether the run goes on, how many bytes of the output are

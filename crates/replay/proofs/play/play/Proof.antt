@@ -8,8 +8,8 @@ use lib.ListN.{length, take}
 use borrow.Author.Tests.{not-true, not-false}
 use Rattle.script.specs.Run.{stand, playOf}
 use Rattle.script.proofs.TakeLaws.{step-on}
-use Rattle.replay.specs.declared.plan.Plan.{Plan}
-use Rattle.replay.specs.Parts.{roomOf}
+use Rattle.rooms.specs.declared.plan.Plan.{Plan}
+use Rattle.rooms.specs.Parts.{roomOf}
 use Rattle.replay.specs.Whole.{does}
 use Rattle.replay.proofs.PlayLaws.{play-stop, play-over, play-goes, play-looks, not-played, is-played}
 use borrow.Author.Needs.{needs}

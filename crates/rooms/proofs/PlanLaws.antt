@@ -1,0 +1,88 @@
+-- What the table says of a line decides where it goes: a line from stage 3 on is a call, and of the lines below, those that
+-- change the room are `F`, `O`, `o`, `X` and `Z`.
+use mathlib.Core.Path.{_≡_, refl, sym, ap, _∙_}
+use mathlib.Core.Bool.{Bool, true, false, cond}
+use mathlib.Core.List.{List, [], _∷_}
+use Prim.Native.Nat.{ℕ, _≤_}
+use native.Mathlib.Omega.{arith}
+use lib.ListN.{replicate}
+use lib.Dec.{leb}
+use borrow.Author.Tests.{leb-true}
+use types.Run.{OneOf, miss}
+use denote.Enum.Declared.{tagOf}
+use Rattle.store.specs.declared.State.{State}
+use Rattle.script.specs.declared.call.Call.{Call}
+use Rattle.script.specs.declared.call.Call.the-variants.{Format, Open, OpenSized, Cut, Begin, Write, Erase, Read, Commit, Abort, AsOf, Changes, StoreLog, StorePage, Checkpoint, Block, Page, Poke, Other}
+use Rattle.script.proofs.call.Call.{the-type}
+use Rattle.script.proofs.Cases.{bool-case, no}
+use Rattle.rooms.specs.declared.parts.Standing.{Standing}
+use Rattle.rooms.specs.declared.plan.Plan.{Plan}
+use Rattle.rooms.specs.Room.{Room, Turn, withinBuffer, planOf, pagesIn, rightLength, opening, calling, turnBy}
+use Rattle.rooms.specs.Parts.{stageOf, roomOf}
+use Rattle.rooms.proofs.RoomLaws.{stage-2, pages-in}
+
+-- a line that is known, and its plan
+pub plan-stage : (k j : Call) (p : Plan) (n : ℕ) → p ≡ planOf k → k ≡ j → p .stage ≤ n → planOf j .stage ≤ n
+plan-stage k j p n e f h = rw (e, f) at h
+
+-- a line that asks for more than the buffer is played in no stage
+within-case : {P : Type 0} (bytes stage : ℕ) → (bytes ≤ 40000 → withinBuffer bytes stage ≡ stage → P) → (withinBuffer bytes stage ≡ 4 → P) → P
+unfolding withinBuffer
+within-case bytes stage f g = bool-case (leb bytes 40000) (λ e. f (leb-true _ _ e) (simp e)) (λ e. g (simp e))
+
+pub within-fits : (bytes stage n : ℕ) → withinBuffer bytes stage ≤ n → n ≤ 3 → (bytes ≤ 40000) × (stage ≤ n)
+within-fits bytes stage n h g = within-case bytes stage (λ a e. (a, rw e at h)) (λ e. absurd (omega arith))
+
+pub turn-calls : (k : Call) (v : List ℕ) (r : Room) → planOf k .stage ≡ 3 → calling k v r ≡ turnBy k v r
+unfolding planOf turnBy
+turn-calls (Format l d) v r e = absurd (omega arith)
+turn-calls (Open byte) v r e = absurd (omega arith)
+turn-calls (OpenSized bytes) v r e = within-case bytes 2 (λ a f. absurd (omega arith)) (λ f. absurd (omega arith))
+turn-calls Cut v r e = absurd (omega arith)
+turn-calls (Begin clock) v r e = refl
+turn-calls (Write number key) v r e = refl
+turn-calls (Erase number key) v r e = refl
+turn-calls (Read number key) v r e = refl
+turn-calls (Commit number clock) v r e = refl
+turn-calls (Abort number) v r e = refl
+turn-calls (AsOf key time) v r e = refl
+turn-calls (Changes key t1 t2 bytes) v r e = refl
+turn-calls StoreLog v r e = refl
+turn-calls (StorePage page) v r e = refl
+turn-calls Checkpoint v r e = refl
+turn-calls (Block block) v r e = absurd (omega arith)
+turn-calls (Page page) v r e = absurd (omega arith)
+turn-calls (Poke offset byte) v r e = absurd (omega arith)
+turn-calls Other v r e = absurd (omega arith)
+
+-- the calls that the match on them leaves to its last arm
+abbrev Rest : List ℕ
+Rest = 4 ∷ 5 ∷ 6 ∷ 7 ∷ 8 ∷ 9 ∷ 10 ∷ 11 ∷ 12 ∷ 13 ∷ 14 ∷ 15 ∷ 16 ∷ 18 ∷ []
+
+pub no-rest : (k : Call) (n : ℕ) → OneOf Rest (tagOf the-type k) → planOf k .looks ≡ false → (planOf k .stage ≡ 3 → ⊥) → planOf k .stage ≤ n → n ≤ 3 → ⊥
+unfolding planOf
+no-rest (Format l d) n o e f h g = miss Rest 0 tt o
+no-rest (Open byte) n o e f h g = miss Rest 1 tt o
+no-rest (OpenSized bytes) n o e f h g = miss Rest 2 tt o
+no-rest Cut n o e f h g = miss Rest 3 tt o
+no-rest (Begin clock) n o e f h g = f refl
+no-rest (Write number key) n o e f h g = f refl
+no-rest (Erase number key) n o e f h g = f refl
+no-rest (Read number key) n o e f h g = no (sym e)
+no-rest (Commit number clock) n o e f h g = f refl
+no-rest (Abort number) n o e f h g = f refl
+no-rest (AsOf key time) n o e f h g = no (sym e)
+no-rest (Changes key t1 t2 bytes) n o e f h g = no (sym e)
+no-rest StoreLog n o e f h g = f refl
+no-rest (StorePage page) n o e f h g = f refl
+no-rest Checkpoint n o e f h g = f refl
+no-rest (Block block) n o e f h g = no (sym e)
+no-rest (Page page) n o e f h g = no (sym e)
+no-rest (Poke offset byte) n o e f h g = miss Rest 17 tt o
+no-rest Other n o e f h g = omega arith
+
+-- a cache of the right length
+pub open-right : (t : Standing) (m c : List ℕ) (s : State) (n byte : ℕ) (x : Turn) → 2 ≤ stageOf t → n ≡ rightLength (t .pages) → x ≡ opening 79 (roomOf t m c s) (replicate n byte)
+    → x ≡ opening 79 (roomOf t m c s) (replicate (rightLength (pagesIn (roomOf t m c s))) byte)
+open-right t m c s n byte x h e f =
+    f ∙ ap (λ (j : ℕ). opening 79 (roomOf t m c s) (replicate j byte)) (e ∙ ap rightLength (sym (pages-in t m c s (stage-2 t h))))
