@@ -4,15 +4,15 @@ use mathlib.Core.Path.{_≡_, refl, sym, ap, _∙_}
 use mathlib.Core.Bool.{Bool, true, false, cond}
 use mathlib.Core.Option.{Option, none, some}
 use mathlib.Core.List.{List, [], _∷_}
-use Prim.Native.Nat.{ℕ, zero, suc, _+_, _-_, _≤_, _<_}
+use Prim.Native.Nat.{ℕ, suc, _+_, _-_, _≤_, _<_}
 use native.Mathlib.Omega.{arith}
-use lib.ListN.{length, drop, length-drop}
+use lib.ListN.{length}
 use lib.Dec.{eqb, ltb, leb}
 use borrow.Author.Tests.{ltb-true, leb-true, leb-false, eqb-true, eqb-false, lt-ltb, le-ltb, eq-eqb, ne-eqb}
 use Rattle.script.specs.declared.line.Line.{Line}
 use Rattle.script.specs.Words.{ahead, wordsOf, isIn, numberOf, hexDigit}
 use Rattle.script.specs.Form.{Word, wordOf, Form, other, bare, ending, behind, afterLetter, isLetter, byWords, limited, formOf}
-use Rattle.script.specs.Reader.{noLine, spoilt, lettered, withLetter, isNumber, nextWord, withSpace, withDigit, noWord, grown, grownBy, doneOf, lastWord, seenOf}
+use Rattle.script.specs.Reader.{noLine, spoilt, lettered, withLetter, isNumber, nextWord, withSpace, withDigit, noWord, grown, grownBy, doneOf, seenOf}
 use Rattle.script.specs.Replay.{replayOf, lineOf, meaningOf}
 use Rattle.layout.proofs.Choose.{cond-elim}
 use Rattle.script.proofs.Cases.{bool-case, no}

@@ -1,5 +1,5 @@
 -- What a begun line shows if it ends: past the first questions its letter, and the numbers by their count.
-use mathlib.Core.Path.{_≡_, refl, sym, ap, _∙_}
+use mathlib.Core.Path.{_≡_, ap}
 use mathlib.Core.Bool.{true, false}
 use mathlib.Core.List.{List, [], _∷_}
 use Prim.Native.Nat.{ℕ, _-_, _≤_}
@@ -7,7 +7,7 @@ use native.Mathlib.Omega.{arith}
 use lib.ListN.{length, drop, length-drop}
 use borrow.Author.Tests.{eq-eqb, ne-eqb}
 use Rattle.script.specs.declared.line.Line.{Line}
-use Rattle.script.specs.Form.{Form, other, bare, ending}
+use Rattle.script.specs.Form.{other, bare, ending}
 use Rattle.script.specs.Reader.{doneOf, lastWord, seenOf}
 
 module _ (l : Line) where

@@ -1,9 +1,9 @@
 -- A digit behind a number: the number stays below 2^64 just if it did before or the digit has room.
 use mathlib.Core.Path.{_≡_, refl, sym, _∙_}
-use mathlib.Core.Bool.{Bool, true, false, cond, not}
+use mathlib.Core.Bool.{Bool, true, false, not}
 use Prim.Native.Nat.{ℕ, _+_, _*_, _^_, _≤_, _<_}
 use native.Mathlib.Omega.{arith}
-use lib.Dec.{eqb, ltb, leb}
+use lib.Dec.{ltb, leb}
 use borrow.Author.Tests.{ltb-true, leb-true, leb-false, not-false, lt-ltb, le-ltb}
 use Rattle.script.specs.declared.line.Line.{Line}
 use Rattle.script.specs.Words.{isIn}

@@ -1,7 +1,7 @@
 -- The form of a line: a letter, then words, each behind one space. All words but the last are decimal numbers. The last
 -- is read as a decimal number and as hex digits, and the letter decides which of the two it takes.
-use Prim.Native.Nat.{ℕ, zero, suc}
-use mathlib.Core.Bool.{Bool, true, false, cond}
+use Prim.Native.Nat.{ℕ}
+use mathlib.Core.Bool.{Bool, true, cond}
 use mathlib.Core.Option.{Option, none, some}
 use mathlib.Core.List.{List, [], _∷_}
 use lib.ListN.{length}

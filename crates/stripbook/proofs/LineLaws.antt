@@ -1,23 +1,22 @@
 -- A line of numbers alone: its form closes with the last of them, so that the numbers of the form are those of the words.
 -- No letter of the script takes four numbers, and another byte takes none.
 use mathlib.Core.Path.{_≡_, refl, sym, ap, _∙_}
-use mathlib.Core.Bool.{Bool, true, false, cond, not}
+use mathlib.Core.Bool.{Bool, true, false, not}
 use mathlib.Core.Option.{Option, none, some}
 use mathlib.Core.List.{List, [], _∷_, _++_}
-use Prim.Native.Nat.{ℕ, zero, suc, _+_, _≤_, _<_}
+use Prim.Native.Nat.{ℕ, suc, _<_}
 use native.Mathlib.Omega.{arith}
 use lib.ListN.{length}
-use lib.Dec.{eqb, ltb}
+use lib.Dec.{eqb}
 use borrow.Author.Tests.{eqb-true, lt-ltb, not-true, not-false}
 use Rattle.script.specs.declared.line.Line.{Line}
 use Rattle.script.specs.Words.{wordsOf, isIn, numberOf, joined, numbersOf}
-use Rattle.script.specs.Form.{Word, wordOf, Form, other, bare, ending, behind, afterLetter, isLetter, byWords as formBy, limited, formOf}
-use Rattle.script.specs.Reader.{noLine, isNumber, grownBy, doneOf, lastWord, seenOf}
+use Rattle.script.specs.Form.{wordOf, Form, other, bare, ending, behind, afterLetter, isLetter, byWords as formBy, limited, formOf}
+use Rattle.script.specs.Reader.{noLine, isNumber, grownBy, doneOf, lastWord}
 use Rattle.script.proofs.Cases.{bool-case, no}
 use Rattle.script.proofs.Meaning.{after-case, line-form}
 use Rattle.script.proofs.ReaderLaws.{seen-bad, seen-none, seen-bare, seen-words}
-use Rattle.stripbook.specs.declared.call.Call.{Call}
-use Rattle.stripbook.specs.declared.call.Call.the-variants.{Begin, Write, Commit, Query, Cut, Other}
+use Rattle.stripbook.specs.declared.call.Call.the-variants.{Other}
 use Rattle.stripbook.specs.Line.{callOf, callIf, byWords, lineOf, closed, formCall, meaningOf}
 
 -- the five letters

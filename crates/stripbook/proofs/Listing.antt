@@ -3,7 +3,7 @@ use mathlib.Core.Path.{_≡_, refl}
 use mathlib.Core.List.{List, [], _∷_}
 use Prim.Native.Nat.{ℕ}
 use Rattle.layout.specs.Field.{enc, dec}
-use Rattle.layout.specs.Part.{part, splice}
+use Rattle.layout.specs.Part.{splice}
 use Rattle.layout.specs.Equal.{eqList, allZero}
 use Rattle.layout.specs.Cells.{flat}
 use Rattle.layout.specs.Block.{blk, put, logBlockAt, pageBlockAt, mediumLength, cacheLength, pageOf, slotIn, slotAt, endPlace, blockOfEnd}
@@ -13,7 +13,6 @@ use Rattle.layout.specs.Item.{itemBytes, headOf, valueOf, pairOf, numberItem, v
 use Rattle.layout.specs.Journal.{versionBody, recordBytes, recordSize, logBytes, sequenceOf, usedOf, parse, bodyOf, parsed, emptyBlock, addRecord, usedForm, recordForm}
 use Rattle.layout.specs.Table.{pairBytes, pairAt, tablePair, blockPair, putPair, pairForm}
 use Rattle.layout.specs.Master.{masterBytes, fieldOf, masterOf, oldestOn}
-use Rattle.store.specs.declared.State.{State}
 use Rattle.store.specs.Answer.{refusalNumber, answerNumber, answerValue}
 use Rattle.store.specs.Places.{first, placeAt, findActive, findCommitted, ringPlace, findFree, timeUnder, storedUnder, raised, lowered}
 use Rattle.store.specs.State.{inRange, fits, noState, withPlace, withPhase}

@@ -1,7 +1,7 @@
 -- A turn of the loop over the bytes of a read: the run behind a line is that of the line's call, made and printed.
 use mathlib.Core.Path.{_≡_, refl, sym, ap, _∙_}
-use mathlib.Core.Bool.{Bool, true, false}
-use mathlib.Core.List.{List, [], _∷_, _++_}
+use mathlib.Core.Bool.{true, false}
+use mathlib.Core.List.{List, _++_}
 use Prim.Native.Nat.{ℕ, _<_}
 use native.Mathlib.Omega.{arith}
 use lib.ListN.{length, drop, getD}
@@ -12,7 +12,7 @@ use Rattle.store.specs.CurrentRead.{reads}
 use Rattle.script.specs.declared.line.Line.{Line}
 use Rattle.script.specs.declared.line.Taken.{Taken}
 use Rattle.script.specs.Reader.{noLine, takeOf}
-use Rattle.script.specs.Run.{Step, stops, goes, stand, stepped, playOf}
+use Rattle.script.specs.Run.{Step, stops, stand, stepped, playOf}
 use Rattle.script.proofs.RunLaws.{play-off}
 use Rattle.script.proofs.TakeLaws.{step-ends}
 use Rattle.stripbook.specs.declared.call.Call.{Call}

@@ -5,10 +5,10 @@ use mathlib.Core.Bool.{true}
 use mathlib.Core.List.{List, []}
 use Prim.Native.Nat.{ℕ}
 use Rattle.script.specs.Reader.{noLine}
-use Rattle.script.specs.Run.{Step, stops, stand, overReads, joinedReads}
+use Rattle.script.specs.Run.{stand, overReads, joinedReads}
 use Rattle.script.proofs.RunLaws.{whole-reads}
 use Rattle.stripbook.specs.Line.{lineOf}
-use Rattle.stripbook.specs.Whole.{World, stepBy, start, printsOf, does}
+use Rattle.stripbook.specs.Whole.{stepBy, start, printsOf, does}
 use Rattle.stripbook.proofs.LineLaws.{line-call, no-letter}
 
 pub prints : (ps : List (List ℕ)) → overReads does (stand noLine start true []) ps ≡ printsOf (joinedReads ps)

@@ -1,12 +1,12 @@
 -- What a line of `stripbook` means: from its bytes, without the newline, to the call that it asks for.
 use Prim.Native.Nat.{ℕ}
-use mathlib.Core.Bool.{Bool, true, false, cond}
+use mathlib.Core.Bool.{cond}
 use mathlib.Core.Option.{Option, none, some}
 use mathlib.Core.List.{List, [], _∷_, _++_}
 use lib.Dec.{eqb, ltb}
 use Rattle.script.specs.declared.line.Line.{Line}
 use Rattle.script.specs.Words.{wordsOf, numbersOf}
-use Rattle.script.specs.Form.{Word, Form, other, bare, ending}
+use Rattle.script.specs.Form.{Form, other, bare, ending}
 use Rattle.script.specs.Reader.{seenOf}
 use Rattle.stripbook.specs.declared.call.Call.{Call}
 use Rattle.stripbook.specs.declared.call.Call.the-variants.{Begin, Write, Commit, Query, Cut, Other}

@@ -10,7 +10,7 @@ ghost use mathlib.Core.List.{_++_};
 ghost use Prim.Native.Nat.{_+_, _≤_};
 ghost use lib.ListN.{length, take};
 ghost use Rattle.layout.specs.Block.{zeros};
-ghost use mathlib.Core.Bool.{true, false, cond};
+ghost use mathlib.Core.Bool.{true, false};
 ghost use Rattle.store.specs.Answer.{answerNumber, leaves};
 ghost use Rattle.store.specs.Open.{openOf};
 ghost use Rattle.store.specs.CurrentRead.{reads};

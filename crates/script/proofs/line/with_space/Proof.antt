@@ -1,6 +1,5 @@
 -- The tests of the definition, in its order.
 use borrow.Author.Tests.{not-true, not-false, le-leb, lt-leb, eq-eqb, ne-eqb}
-use native.Mathlib.Omega.{arith}
 use Rattle.script.specs.Reader.{withSpace}
 use borrow.Author.Needs.{needs}
 use Rattle.script.proofs.line.with_space.Statement.{statement}

@@ -1,5 +1,5 @@
 -- One byte is set behind the first n.
-use mathlib.Core.Path.{_≡_, refl, sym, ap, _∙_}
+use mathlib.Core.Path.{refl}
 use Rattle.script.proofs.PrintLaws.{put-byte}
 use borrow.Author.Needs.{needs}
 use Rattle.script.proofs.print.byte.Statement.{statement}

@@ -1,8 +1,8 @@
 -- Invariant: the first bytes of the text stand behind the first n.
-use mathlib.Core.Path.{_≡_, refl, sym, ap, _∙_}
-use Prim.Native.Nat.{ℕ, _+_, _-_, _*_, _≤_, _<_}
+use mathlib.Core.Path.{_≡_, refl}
+use Prim.Native.Nat.{_+_, _-_, _≤_}
 use native.Mathlib.Omega.{arith}
-use lib.ListN.{length, take, drop, length-take, length-set}
+use lib.ListN.{length, take, length-set}
 use mathlib.Core.List.{_++_}
 use Rattle.script.proofs.PrintLaws.{bytes-start, bytes-turn, bytes-end}
 use borrow.Author.Needs.{needs}

@@ -1,7 +1,7 @@
 -- The fewest digits are those of the definition.
-use mathlib.Core.Path.{_≡_, refl, sym, ap, _∙_}
+use mathlib.Core.Path.{ap, _∙_}
 use native.Mathlib.Omega.{arith}
-use lib.ListN.{length, take, drop, length-take, length-set}
+use lib.ListN.{take, length-take}
 use Prim.Native.Nat.{ℕ}
 use mathlib.Core.List.{List, _++_}
 use Rattle.script.proofs.PrintLaws.{digits-decimal, fewest-20}

@@ -1,5 +1,4 @@
 -- `X` alone takes no number.
-use borrow.Author.Tests.{eq-eqb}
 use mathlib.Core.Path.{sym}
 use Rattle.stripbook.specs.Line.{callOf}
 use Rattle.stripbook.proofs.LineLaws.{none-not}
