@@ -10,14 +10,16 @@ use lib.Dec.{leb}
 use borrow.Author.Tests.{leb-true}
 use types.Run.{OneOf, miss}
 use denote.Enum.Declared.{tagOf}
+use Rattle.store.specs.declared.Answer.the-variants.{Done}
 use Rattle.store.specs.declared.State.{State}
+use Rattle.store.specs.Answer.{leaves}
 use Rattle.script.specs.declared.call.Call.{Call}
 use Rattle.script.specs.declared.call.Call.the-variants.{Format, Open, OpenSized, Cut, Begin, Write, Erase, Read, Commit, Abort, AsOf, Changes, StoreLog, StorePage, Checkpoint, Block, Page, Poke, Other}
 use Rattle.script.proofs.call.Call.{the-type}
 use Rattle.script.proofs.Cases.{bool-case, no}
 use Rattle.rooms.specs.declared.parts.Standing.{Standing}
 use Rattle.rooms.specs.declared.plan.Plan.{Plan}
-use Rattle.rooms.specs.Room.{Room, Turn, withinBuffer, planOf, pagesIn, rightLength, opening, calling, turnBy}
+use Rattle.rooms.specs.Room.{Room, Turn, withinBuffer, planOf, pagesIn, rightLength, opening, outcomeOf, calling, turnBy}
 use Rattle.rooms.specs.Parts.{stageOf, roomOf}
 use Rattle.rooms.proofs.RoomLaws.{stage-2, pages-in}
 
@@ -55,7 +57,33 @@ turn-calls (Page page) v r e = absurd (omega arith)
 turn-calls (Poke offset byte) v r e = absurd (omega arith)
 turn-calls Other v r e = absurd (omega arith)
 
--- the calls that the match on them leaves to its last arm
+-- the lines that the match on the calls leaves to its last arm
+abbrev Calls : List ℕ
+Calls = 0 ∷ 1 ∷ 2 ∷ 3 ∷ 7 ∷ 10 ∷ 11 ∷ 15 ∷ 16 ∷ 17 ∷ 18 ∷ []
+
+pub no-call : (k : Call) (v : List ℕ) (s : State) (m c : List ℕ) → OneOf Calls (tagOf the-type k) → planOf k .looks ≡ false → leaves Done s m c ≡ outcomeOf k v s m c
+unfolding planOf outcomeOf
+no-call (Format l d) v s m c o e = refl
+no-call (Open byte) v s m c o e = refl
+no-call (OpenSized bytes) v s m c o e = refl
+no-call Cut v s m c o e = refl
+no-call (Begin clock) v s m c o e = absurd (miss Calls 4 tt o)
+no-call (Write number key) v s m c o e = absurd (miss Calls 5 tt o)
+no-call (Erase number key) v s m c o e = absurd (miss Calls 6 tt o)
+no-call (Read number key) v s m c o e = no (sym e)
+no-call (Commit number clock) v s m c o e = absurd (miss Calls 8 tt o)
+no-call (Abort number) v s m c o e = absurd (miss Calls 9 tt o)
+no-call (AsOf key time) v s m c o e = no (sym e)
+no-call (Changes key t1 t2 bytes) v s m c o e = no (sym e)
+no-call StoreLog v s m c o e = absurd (miss Calls 12 tt o)
+no-call (StorePage page) v s m c o e = absurd (miss Calls 13 tt o)
+no-call Checkpoint v s m c o e = absurd (miss Calls 14 tt o)
+no-call (Block block) v s m c o e = refl
+no-call (Page page) v s m c o e = refl
+no-call (Poke offset byte) v s m c o e = refl
+no-call Other v s m c o e = refl
+
+-- the lines that the match on those that change a room leaves to its last arm
 abbrev Rest : List ℕ
 Rest = 4 ∷ 5 ∷ 6 ∷ 7 ∷ 8 ∷ 9 ∷ 10 ∷ 11 ∷ 12 ∷ 13 ∷ 14 ∷ 15 ∷ 16 ∷ 18 ∷ []
 

@@ -9,6 +9,12 @@ use lib.ListN.{length, take, drop, getD, drop-of-length-le}
 use lib.Seq.{drop-cons, drop-drop}
 use lib.Dec.{eqb}
 use borrow.Author.Tests.{eq-eqb, ne-eqb}
+use types.Run.{OneOf, miss}
+use denote.Enum.Declared.{tagOf}
+use Rattle.store.specs.declared.Answer.{Answer}
+use Rattle.store.specs.declared.Answer.the-variants.{Refused, Done, Begun, Written, Committed, Opened, Missing, Erased, Present, Listed}
+use Rattle.store.specs.Answer.{answerNumber}
+use Rattle.store.proofs.Answer.{the-type}
 use Rattle.rooms.specs.Text.{changeText, changesText, allAre}
 
 -- parts of a line, each put behind the one before
@@ -52,3 +58,17 @@ module _ (n : ℕ) (bs : List ℕ) (i : ℕ) where
   pub are-end : length bs ≤ i → allAre n (drop i bs) ≡ true
   unfolding allAre
   are-end h = ap (allAre n) (drop-of-length-le bs h)
+
+-- an answer that is no refusal
+pub no-refusal : (a : Answer) → OneOf (1 ∷ 2 ∷ 3 ∷ 4 ∷ 5 ∷ 6 ∷ 7 ∷ 8 ∷ 9 ∷ []) (tagOf the-type a) → 0 ≡ answerNumber a
+unfolding answerNumber
+no-refusal (Refused r) o = absurd (miss (1 ∷ 2 ∷ 3 ∷ 4 ∷ 5 ∷ 6 ∷ 7 ∷ 8 ∷ 9 ∷ []) 0 tt o)
+no-refusal Done o = refl
+no-refusal (Begun n) o = refl
+no-refusal (Written k) o = refl
+no-refusal (Committed t) o = refl
+no-refusal (Opened t) o = refl
+no-refusal Missing o = refl
+no-refusal Erased o = refl
+no-refusal Present o = refl
+no-refusal (Listed k) o = refl

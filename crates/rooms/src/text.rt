@@ -14,15 +14,7 @@ pub fn refusal(answer: Answer) -> u64
 {
     match answer {
         Answer::Refused(r) => print::number_of(r),
-        Answer::Done => 0,
-        Answer::Begun(_) => 0,
-        Answer::Written(_) => 0,
-        Answer::Committed(_) => 0,
-        Answer::Opened(_) => 0,
-        Answer::Missing => 0,
-        Answer::Erased => 0,
-        Answer::Present => 0,
-        Answer::Listed(_) => 0,
+        _ => 0,
     }
 }
 

@@ -161,30 +161,20 @@ fn change(asked: Asked, s: State, medium: &mut [u8], cache: &mut [u8]) -> Ended
 {
     let call = asked.call;
     match call {
-        Call::Format(_, _) => same(s),
-        Call::Open(_) => same(s),
-        Call::OpenSized(_) => same(s),
-        Call::Cut => same(s),
         Call::Begin(clock) => transactions::begin::begin(s, medium, cache, clock),
         Call::Write(number, key) => {
             let value = asked.value;
             transactions::write::write(s, medium, cache, number, key, value)
         }
         Call::Erase(number, key) => transactions::erase::erase(s, medium, cache, number, key),
-        Call::Read(_, _) => same(s),
         Call::Commit(number, clock) => {
             transactions::commit::commit(s, medium, cache, number, clock)
         }
         Call::Abort(number) => transactions::abort::abort(s, medium, cache, number),
-        Call::AsOf(_, _) => same(s),
-        Call::Changes(_, _, _, _) => same(s),
         Call::StoreLog => stores::store_log::store_log(s, medium, cache),
         Call::StorePage(page) => stores::store_page::store_page(s, medium, cache, page),
         Call::Checkpoint => stores::checkpoint::checkpoint(s, medium, cache),
-        Call::Block(_) => same(s),
-        Call::Page(_) => same(s),
-        Call::Poke(_, _) => same(s),
-        Call::Other => same(s),
+        _ => same(s),
     }
 }
 
