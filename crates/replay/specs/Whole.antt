@@ -9,7 +9,7 @@ use Rattle.script.specs.Replay.{lineOf, meaningOf}
 use Rattle.script.specs.Run.{Step, stops, goes, printsFrom}
 use Rattle.rooms.specs.Room.{Room, gone, plays, Turn, turnOf}
 
--- what a line leaves, and what it prints
+-- replay, the columns "call" and "prints": what a line leaves, and what it prints
 abbrev pub leaving : Turn → Step Room
 leaving t = goes (t .room) (t .text)
 
@@ -21,7 +21,7 @@ stepOf a r = cond (plays (a .call) r) (leaving (turnOf a r)) stops
 unfoldable pub says : Room → List ℕ → Step Room
 says r bytes = stepOf (lineOf bytes) r
 
--- the same for a line that was taken byte by byte
+-- replay: "One call to a line": the same for a line that was taken byte by byte
 unfoldable pub does : Room → Line → Step Room
 does r l = stepOf (meaningOf l) r
 

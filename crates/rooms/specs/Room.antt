@@ -67,7 +67,7 @@ stageIn gone = 1
 stageIn (shut l d m) = 2
 stageIn (ready l d m c s) = 3
 
--- replay, `o bytes` and `L`: "at most 40000"; a longer one is of another form
+-- replay, `o bytes` and `L`: "at most 40000": no line asks for more, and no stage plays a call that would
 unfoldable pub withinBuffer : ℕ → ℕ → ℕ
 withinBuffer bytes stage = cond (leb bytes 40000) stage 4
 
@@ -100,7 +100,7 @@ planOf Other = plan 0 4 false
 unfoldable pub plays : Call → Room → Bool
 plays call r = leb (planOf call .stage) (stageIn r)
 
--- what a line leaves, and what it prints
+-- replay, the columns "call" and "prints": what a line leaves, and what it prints
 pub record Turn : Type 0 where
   pub room : Room
   pub text : List ℕ
@@ -174,7 +174,7 @@ called letter l d o = record {
   text = answerText letter (o .answer) (o .value) ++ cond (eqb letter 76) (listText (o .answer) (o .buffer)) [];
 }
 
--- the same on a room; one that is not opened stays, for the line is not played
+-- replay: "any other line ends the run": the same on a room; one that is not opened stays, for it does not play the line
 unfoldable pub calling : Call → List ℕ → Room → Turn
 calling call v gone = record { room = gone; text = [] }
 calling call v (shut l d m) = record { room = shut l d m; text = [] }
