@@ -8,7 +8,7 @@ BEGIN {
     title["L"] = "log blocks L"; title["D"] = "pages D"; title["chain"] = "versions of the record"
     fixed["L"] = "D = 64, 15 versions a record"; fixed["D"] = "L = 32, 15 versions a record"; fixed["chain"] = "L = 32, D = 64"
     colour["replay"] = "#1f5fbf"; colour["oracle"] = "#c8641e"
-    left = 92; top = 96; wide = 250; high = 150; gap_x = 46; gap_y = 62
+    left = 92; top = 96; wide = 250; high = 150; gap_x = 54; gap_y = 62
 }
 
 $1 != "M" {
@@ -64,7 +64,7 @@ function panel(row, column,    c, s, i, v, decade, many) {
     c = call[row]; s = size[column]; key = c " " s
     px0 = left + (column - 1) * (wide + gap_x); py0 = top + (row - 1) * (high + gap_y)
     low = nice(least[c], 0); top_value = nice(most[c], 1)
-    many = top_value / low > 200
+    many = top_value / low > 999
     for (decade = 0.01; decade <= top_value * 1.001; decade *= 10)
         for (i = 1; i <= 3; i++) {
             v = decade * substr("125", i, 1)
