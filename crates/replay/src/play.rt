@@ -30,6 +30,19 @@ pub struct Run {
     pub next: usize,
 }
 
+fn stands(line: Line, standing: Standing, state: State, on: bool, n: usize, next: usize) -> Run
+    ensures { λ r. ⌜ r ≡ record { line = line; standing = standing; state = state; on = on; n = n; next = next } ⌝ }
+{
+    Run {
+        line: line,
+        standing: standing,
+        state: state,
+        on: on,
+        n: n,
+        next: next,
+    }
+}
+
 // Takes bytes, and plays each line at its end: up to the end of the bytes or of the run, or until the output may not
 // hold what one more line prints.
 pub fn play(
@@ -58,26 +71,12 @@ pub fn play(
     let mut i: usize = 0;
     while i < bytes.len() {
         if 100000 < n {
-            return Run {
-                line: line,
-                standing: t,
-                state: state,
-                on: true,
-                n: n,
-                next: i,
-            };
+            return stands(line, t, state, true, n, i);
         }
         let taken = line::take(line, bytes, i);
         let longer = taken.line;
         if !taken.ended {
-            return Run {
-                line: longer,
-                standing: t,
-                state: state,
-                on: true,
-                n: n,
-                next: bytes.len(),
-            };
+            return stands(longer, t, state, true, n, bytes.len());
         }
         i = taken.next;
         let asked = call::meaning(longer);
@@ -85,14 +84,7 @@ pub fn play(
         let p = plan::of(asks);
         line = line::empty();
         if parts::reached(t) < p.stage {
-            return Run {
-                line: line,
-                standing: t,
-                state: state,
-                on: false,
-                n: n,
-                next: i,
-            };
+            return stands(line, t, state, false, n, i);
         }
         if p.looks {
             let next = look::look(asked, t, state, medium, cache, buffer, out, n);
@@ -102,18 +94,11 @@ pub fn play(
             let answer = turned.answer;
             let next = text::put_answer(out, n, p.letter, answer, [0u8; 16]);
             n = next;
-            let stands = turned.standing;
-            t = stands;
+            let moved = turned.standing;
+            t = moved;
             let left = turned.state;
             state = left;
         }
     }
-    Run {
-        line: line,
-        standing: t,
-        state: state,
-        on: true,
-        n: n,
-        next: i,
-    }
+    stands(line, t, state, true, n, i)
 }

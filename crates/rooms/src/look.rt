@@ -72,8 +72,8 @@ fn put_list(out: &mut [u8], n: usize, answer: Answer, buffer: &[u8]) -> usize
             let k = count as usize;
             let a = text::put_changes(out, n, k, buffer);
             let at = 32 * k;
-            let is_kept = text::all_are(&buffer[at..], 170);
-            text::put_kept(out, a, is_kept)
+            let kept = text::all_are(&buffer[at..], 170);
+            text::put_kept(out, a, kept)
         }
         _ => n,
     }

@@ -103,12 +103,12 @@ pub fn all_are(bytes: &[u8], b: u8) -> bool
 }
 
 // Whether the answer buffer behind a list was left as it was.
-pub fn put_kept(out: &mut [u8], n: usize, is_kept: bool) -> usize
+pub fn put_kept(out: &mut [u8], n: usize, kept: bool) -> usize
     requires { ⌜ n + 9 ≤ length (now out) ⌝ }
     ensures { λ r. ⌜ r ≤ n + 9 ⌝ }
-    ensures { λ r. ⌜ take r (now (out .exit)) ≡ take n (now (out .entry)) ++ keptText «is_kept» ⌝ }
+    ensures { λ r. ⌜ take r (now (out .exit)) ≡ take n (now (out .entry)) ++ keptText kept ⌝ }
 {
-    if is_kept {
+    if kept {
         return print::bytes(out, n, b"= kept\n");
     }
     print::bytes(out, n, b"= spoilt\n")

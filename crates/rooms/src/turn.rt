@@ -145,6 +145,7 @@ fn poke(t: Standing, s: State, medium: &mut [u8], offset: u64, byte: u8) -> Turn
     }
 }
 
+// A line that is no call leaves the store as it is.
 fn same(s: State) -> Ended
     ensures { λ r. ⌜ r ≡ record { answer = Done; state = s } ⌝ }
 {
@@ -198,6 +199,7 @@ fn make(asked: Asked, t: Standing, s: State, medium: &mut [u8], cache: &mut [u8]
     }
 }
 
+// What no line leaves: the match on the lines that change a room has an arm for the others.
 fn stay(t: Standing, s: State) -> Turned {
     Turned {
         standing: t,
