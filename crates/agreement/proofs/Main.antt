@@ -8,13 +8,13 @@ use mathlib.Core.Path.{_≡_, refl, sym, _∙_, subst}
 use lib.Dec.{eqb, ltb}
 use lib.ListN.{length}
 use borrow.Author.Tests.{eqb-true, eqb-false, eq-eqb, ltb-true}
-use Rattle.layout.specs.Block.{mediumLength, cacheLength, zeros}
+use Rattle.fields.specs.Block.{mediumLength, cacheLength, zeros}
 use Rattle.layout.specs.Slot.{kindForm}
 use Rattle.layout.specs.Journal.{Record}
-use Rattle.layout.proofs.FieldLaws.{Bytes}
-use Rattle.layout.proofs.CellLaws.{bytes-cons, bytes-zeros}
-use Rattle.layout.proofs.EqualLaws.{zero-zeros}
-use Rattle.layout.proofs.Choose.{and-0, and-1}
+use Rattle.fields.proofs.FieldLaws.{Bytes}
+use Rattle.fields.proofs.CellLaws.{bytes-cons, bytes-zeros}
+use Rattle.fields.proofs.EqualLaws.{zero-zeros}
+use Rattle.fields.proofs.Choose.{and-0, and-1}
 use Rattle.store.specs.declared.Answer.the-variants.{Opened}
 use Rattle.store.specs.declared.Refusal.the-variants.{BadCache}
 use Rattle.store.specs.declared.Phase.{Phase}

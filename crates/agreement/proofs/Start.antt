@@ -9,9 +9,9 @@ use mathlib.Core.Path.{_≡_, refl, sym, ap, _∙_}
 use lib.ListN.{length, take, drop}
 use lib.Seq.{take-append-le, take-all}
 use Rattle.layout.proofs.PageLaws.{part-zeros, page-empty}
-use Rattle.layout.specs.Block.{blk, zeros, pageBlockAt}
-use Rattle.layout.specs.Field.{dec}
-use Rattle.layout.specs.Part.{part}
+use Rattle.fields.specs.Block.{blk, zeros, pageBlockAt}
+use Rattle.fields.specs.Field.{dec}
+use Rattle.fields.specs.Part.{part}
 use Rattle.layout.specs.Item.{pairOf}
 use Rattle.layout.specs.Journal.{sequenceOf}
 use Rattle.layout.specs.Master.{masterBytes}
@@ -19,7 +19,7 @@ use Rattle.layout.specs.Page.{pageBytes}
 use Rattle.layout.specs.Table.{tablePair, blockPair}
 use Rattle.layout.specs.declared.item.Pair.{Pair}
 use Rattle.layout.specs.declared.master.Fields.{Fields}
-use Rattle.layout.proofs.CellLaws.{part-behind}
+use Rattle.fields.proofs.CellLaws.{part-behind}
 use Rattle.layout.proofs.MasterLaws.{length-masterBytes}
 use Rattle.layout.proofs.PlaceLaws.{page-block-low, page-block-high}
 use Rattle.layout.proofs.TableLaws.{tablePair-is}

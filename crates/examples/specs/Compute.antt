@@ -2,11 +2,11 @@
 use Prim.Native.Nat.{ℕ}
 use mathlib.Core.Bool.{Bool, true, _&&_}
 use mathlib.Core.List.{List, [], _∷_}
-use Rattle.layout.specs.Field.{enc, dec}
-use Rattle.layout.specs.Part.{splice}
-use Rattle.layout.specs.Equal.{eqList, allZero}
-use Rattle.layout.specs.Cells.{flat}
-use Rattle.layout.specs.Block.{blk, put, logBlockAt, pageBlockAt, mediumLength, cacheLength, pageOf, slotIn, slotAt, endPlace, blockOfEnd}
+use Rattle.fields.specs.Field.{enc, dec}
+use Rattle.fields.specs.Part.{splice}
+use Rattle.fields.specs.Equal.{eqList, allZero}
+use Rattle.fields.specs.Cells.{flat}
+use Rattle.fields.specs.Block.{blk, put, logBlockAt, pageBlockAt, mediumLength, cacheLength, pageOf, slotIn, slotAt, endPlace, blockOfEnd}
 use Rattle.layout.specs.Slot.{codeOf, sharedField, slotBytes, slotState, cellOf, stamped, kindForm, slotForm}
 use Rattle.layout.specs.Page.{pageBytes, pageEnd, pageUsed, pageSlot, cellsFrom, pageCells, putCell, stampCell, slotFormAt, slotsForm, pageForm, putVersion, stampVersion, cacheSlot}
 use Rattle.layout.specs.Item.{itemBytes, headOf, valueOf, pairOf, numberItem, versionItem, commitItem, byTag, itemOf}

@@ -10,16 +10,16 @@ use lib.Dec.{ltb, eqb}
 use lib.ListN.{length, take, set, length-set, length-take}
 use lib.Seq.{drop-set-lt, take-set-le, getD-set-same}
 use borrow.Author.Tests.{ltb-true, ltb-false, eqb-true, eqb-false}
-use Rattle.layout.specs.Field.{enc, dec}
-use Rattle.layout.specs.Part.{part, splice}
-use Rattle.layout.specs.Block.{blk, pageOf, slotIn}
+use Rattle.fields.specs.Field.{enc, dec}
+use Rattle.fields.specs.Part.{part, splice}
+use Rattle.fields.specs.Block.{blk, pageOf, slotIn}
 use Rattle.layout.specs.Slot.{Cell, slotBytes, stamped}
 use Rattle.layout.specs.Page.{pageEnd, pageUsed, pageSlot, putCell, stampCell, putVersion, stampVersion, cacheSlot}
-use Rattle.layout.proofs.PartLaws.{length-splice, part-before, part-after, part-splice}
-use Rattle.layout.proofs.FieldLaws.{length-enc, read-back}
-use Rattle.layout.proofs.BlockLaws.{length-put, length-blk, part-blk, blk-same, blk-other}
+use Rattle.fields.proofs.PartLaws.{length-splice, part-before, part-after, part-splice}
+use Rattle.fields.proofs.FieldLaws.{length-enc, read-back}
+use Rattle.fields.proofs.BlockLaws.{length-put, length-blk, part-blk, blk-same, blk-other}
 use Rattle.layout.proofs.PlaceLaws.{slot-at-is, slots-in-page}
-use Rattle.layout.proofs.CellLaws.{getD-before}
+use Rattle.fields.proofs.CellLaws.{getD-before}
 use Rattle.layout.proofs.SlotLaws.{length-stamped}
 use Rattle.layout.proofs.PageLaws.{length-pageSlot}
 

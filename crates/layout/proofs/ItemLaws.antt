@@ -9,8 +9,8 @@ use lib.ListN.{length, getD, take, drop, length-drop, length-append}
 use lib.Seq.{take-at}
 use lib.Dec.{eqb, leb, ltb}
 use borrow.Author.Tests.{ne-eqb, eq-eqb, le-ltb, le-leb, leb-true, ltb-false, eqb-true}
-use Rattle.layout.specs.Field.{enc, dec}
-use Rattle.layout.specs.Part.{part}
+use Rattle.fields.specs.Field.{enc, dec}
+use Rattle.fields.specs.Part.{part}
 use Rattle.layout.specs.Item.{itemBytes, itemOf, byTag, ofLength, headOf, pairOf, versionItem, commitItem, numberItem}
 use Rattle.layout.specs.declared.item.VersionHead.{VersionHead}
 use Rattle.layout.specs.declared.item.Pair.{Pair}
@@ -18,10 +18,10 @@ use Rattle.layout.specs.declared.item.Area.{Area}
 use Rattle.layout.specs.declared.item.Area.the-variants.{Journal, Master}
 use Rattle.layout.specs.declared.item.Item.{Item}
 use Rattle.layout.specs.declared.item.Item.the-variants.{End, Version, Commit, Number, Damaged}
-use Rattle.layout.proofs.Choose.{cond-elim}
-use Rattle.layout.proofs.PartLaws.{lent-rest, length-part}
-use Rattle.layout.proofs.FieldLaws.{Bytes, length-enc, dec-enc}
-use Rattle.layout.proofs.ReadLaws.{part-join, part-cons, enc-part}
+use Rattle.fields.proofs.Choose.{cond-elim}
+use Rattle.fields.proofs.PartLaws.{lent-rest, length-part}
+use Rattle.fields.proofs.FieldLaws.{Bytes, length-enc, dec-enc}
+use Rattle.fields.proofs.ReadLaws.{part-join, part-cons, enc-part}
 
 -- past the tests of the length: the tag, the length that was read and the body as `&bytes[3..]`
 pub item-at : (a : Area) (bs : List ℕ) (len : ℕ) → (length bs ≡ 0 → ⊥) → 3 ≤ length bs → len ≡ dec (part bs 1 2)

@@ -9,19 +9,19 @@ use lib.ListN.{length, drop, length-append, length-take, length-drop, length-rep
 use lib.Seq.{drop-drop, drop-at}
 use lib.Dec.{leb}
 use borrow.Author.Tests.{le-leb, leb-true}
-use Rattle.layout.specs.Field.{enc, dec}
-use Rattle.layout.specs.Part.{part, splice}
-use Rattle.layout.specs.Equal.{allZero}
-use Rattle.layout.specs.Block.{zeros}
-use Rattle.layout.specs.Cells.{flat}
+use Rattle.fields.specs.Field.{enc, dec}
+use Rattle.fields.specs.Part.{part, splice}
+use Rattle.fields.specs.Equal.{allZero}
+use Rattle.fields.specs.Block.{zeros}
+use Rattle.fields.specs.Cells.{flat}
 use Rattle.layout.specs.Journal.{Record, recordBytes, recordSize, logBytes, sequenceOf, usedOf, parse, bodyOf, parsed, emptyBlock, addRecord, usedForm}
-use Rattle.layout.proofs.Choose.{and-0, and-1}
-use Rattle.layout.proofs.PartLaws.{length-splice, length-part, part-splice, part-before, part-after}
-use Rattle.layout.proofs.FieldLaws.{Bytes, length-enc, bytes-take, bytes-drop, read-back}
-use Rattle.layout.proofs.EqualLaws.{zero-true, zero-zeros}
-use Rattle.layout.proofs.WriteLaws.{splice-left, splice-right, splice-whole}
-use Rattle.layout.proofs.ReadLaws.{part-mid, dec-mid, part-join, enc-part}
-use Rattle.layout.proofs.CellLaws.{Each, each-append, flat-snoc, splice-zeros}
+use Rattle.fields.proofs.Choose.{and-0, and-1}
+use Rattle.fields.proofs.PartLaws.{length-splice, length-part, part-splice, part-before, part-after}
+use Rattle.fields.proofs.FieldLaws.{Bytes, length-enc, bytes-take, bytes-drop, read-back}
+use Rattle.fields.proofs.EqualLaws.{zero-true, zero-zeros}
+use Rattle.fields.proofs.WriteLaws.{splice-left, splice-right, splice-whole}
+use Rattle.fields.proofs.ReadLaws.{part-mid, dec-mid, part-join, enc-part}
+use Rattle.fields.proofs.CellLaws.{Each, each-append, flat-snoc, splice-zeros}
 use Rattle.layout.proofs.RecordLaws.{RecordSized, ValueFits, length-recordBytes}
 use Rattle.layout.proofs.ParseLaws.{value-fits, parse-flat, flat-parse, parse-sized}
 

@@ -1,15 +1,6 @@
-pub mod PartLaws
-pub mod FieldLaws
-pub mod Choose
-pub mod EqualLaws
-pub mod PrefixLaws
-pub mod WriteLaws
 pub mod PlaceLaws
 pub mod ItemLaws
 pub mod RecordLaws
-pub mod ReadLaws
-pub mod CellLaws
-pub mod BlockLaws
 pub mod SlotLaws
 pub mod PageLaws
 pub mod ParseLaws
@@ -17,4 +8,3 @@ pub mod JournalLaws
 pub mod TableLaws
 pub mod MasterLaws
 pub mod CacheLaws
-pub mod HalfLaws

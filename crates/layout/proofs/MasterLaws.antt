@@ -10,10 +10,10 @@ use lib.ListN.{length, take, drop, length-append, length-drop, take-append-drop}
 use lib.Seq.{take-at, drop-at, drop-drop}
 use lib.Dec.{eqb}
 use borrow.Author.Tests.{eq-eqb, eqb-true}
-use Rattle.layout.specs.Field.{enc, dec}
-use Rattle.layout.specs.Part.{part, splice}
-use Rattle.layout.specs.Equal.{allZero}
-use Rattle.layout.specs.Block.{zeros, blk, put}
+use Rattle.fields.specs.Field.{enc, dec}
+use Rattle.fields.specs.Part.{part, splice}
+use Rattle.fields.specs.Equal.{allZero}
+use Rattle.fields.specs.Block.{zeros, blk, put}
 use Rattle.layout.specs.Item.{itemBytes, itemOf}
 use Rattle.layout.specs.Master.{masterBytes, numberOf, fieldOf, fetch, masterOf, oldestOn}
 use Rattle.layout.specs.declared.item.Area.the-variants.{Master as InMaster}
@@ -23,13 +23,13 @@ use Rattle.layout.specs.declared.master.Fields.{Fields}
 use Rattle.layout.specs.declared.master.Value.{Value}
 use Rattle.layout.specs.declared.master.Value.the-variants.{Of, Missing}
 use Rattle.layout.specs.declared.master.Found.the-variants.{Whole, Broken}
-use Rattle.layout.proofs.Choose.{cond-elim}
-use Rattle.layout.proofs.EqualLaws.{zero-true, zero-zeros}
-use Rattle.layout.proofs.FieldLaws.{Bytes, length-enc, bytes-enc, bytes-drop}
-use Rattle.layout.proofs.PartLaws.{lent-rest}
-use Rattle.layout.proofs.CellLaws.{lay, splice-zeros, bytes-cons, bytes-append, bytes-zeros}
-use Rattle.layout.proofs.BlockLaws.{part-blk, blk-same, blk-other}
-use Rattle.layout.proofs.ReadLaws.{enc-part}
+use Rattle.fields.proofs.Choose.{cond-elim}
+use Rattle.fields.proofs.EqualLaws.{zero-true, zero-zeros}
+use Rattle.fields.proofs.FieldLaws.{Bytes, length-enc, bytes-enc, bytes-drop}
+use Rattle.fields.proofs.PartLaws.{lent-rest}
+use Rattle.fields.proofs.CellLaws.{lay, splice-zeros, bytes-cons, bytes-append, bytes-zeros}
+use Rattle.fields.proofs.BlockLaws.{part-blk, blk-same, blk-other}
+use Rattle.fields.proofs.ReadLaws.{enc-part}
 use Rattle.layout.proofs.ItemLaws.{Holds, Told, told, widthOf, number-back, item-again}
 use Rattle.layout.proofs.RecordLaws.{length-itemBytes, dec-part-lt}
 

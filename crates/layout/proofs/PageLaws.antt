@@ -11,20 +11,20 @@ use lib.Dec.{ltb, leb, eqb}
 use lib.ListN.{length, drop, getD, set, length-append, length-set, length-replicate, replicate-append-replicate}
 use lib.Seq.{take-all}
 use borrow.Author.Tests.{lt-ltb, le-ltb, le-leb, leb-true, ltb-true, ltb-false, eqb-true, eqb-false}
-use Rattle.layout.specs.Field.{enc}
-use Rattle.layout.specs.Part.{part, splice}
-use Rattle.layout.specs.Equal.{allZero}
-use Rattle.layout.specs.Block.{zeros, slotIn}
-use Rattle.layout.specs.Cells.{flat}
+use Rattle.fields.specs.Field.{enc}
+use Rattle.fields.specs.Part.{part, splice}
+use Rattle.fields.specs.Equal.{allZero}
+use Rattle.fields.specs.Block.{zeros, slotIn}
+use Rattle.fields.specs.Cells.{flat}
 use Rattle.layout.specs.Slot.{Cell, slotBytes, cellOf, stamped, slotForm}
 use Rattle.layout.specs.Page.{pageBytes, pageEnd, pageUsed, pageSlot, cellsFrom, pageCells, putCell, stampCell, slotFormAt, slotsForm, pageForm}
 use Rattle.layout.specs.declared.slot.Slot.the-variants.{Empty}
-use Rattle.layout.proofs.Choose.{and-0, and-1}
-use Rattle.layout.proofs.PartLaws.{length-part}
-use Rattle.layout.proofs.FieldLaws.{Bytes, length-enc, dec-enc, bytes-take, bytes-drop, bytes-enc}
-use Rattle.layout.proofs.EqualLaws.{zero-true, zero-zeros}
-use Rattle.layout.proofs.ReadLaws.{part-join, part-cons, enc-part}
-use Rattle.layout.proofs.CellLaws.{Each, bytes-cons, bytes-append, bytes-zeros, bytes-flat, each-at, each-map, Cells, splice-behind, part-behind, length-flat, cell-at, cell-set, cell-add}
+use Rattle.fields.proofs.Choose.{and-0, and-1}
+use Rattle.fields.proofs.PartLaws.{length-part}
+use Rattle.fields.proofs.FieldLaws.{Bytes, length-enc, dec-enc, bytes-take, bytes-drop, bytes-enc}
+use Rattle.fields.proofs.EqualLaws.{zero-true, zero-zeros}
+use Rattle.fields.proofs.ReadLaws.{part-join, part-cons, enc-part}
+use Rattle.fields.proofs.CellLaws.{Each, bytes-cons, bytes-append, bytes-zeros, bytes-flat, each-at, each-map, Cells, splice-behind, part-behind, length-flat, cell-at, cell-set, cell-add}
 use Rattle.layout.proofs.SlotLaws.{SlotSized, SlotHolds, cellStamped, length-slotBytes, sized-length, bytes-slotBytes, cell-slotBytes, form-slotBytes, slot-again, cell-sized, cell-holds, stamped-bytes}
 
 -- ---- the loop of `page::in_form`; b is the test of slot i

@@ -7,16 +7,16 @@ use native.Mathlib.Omega.{arith}
 use mathlib.Core.List.{List, [], _∷_, _++_}
 use lib.ListN.{length, take, drop, length-append, length-drop, take-append-drop}
 use lib.Seq.{drop-drop, drop-at}
-use Rattle.layout.specs.Cells.{flat}
+use Rattle.fields.specs.Cells.{flat}
 use Rattle.layout.specs.Item.{itemOf, headOf, pairOf, valueOf}
 use Rattle.layout.specs.Journal.{Record, version, commit, versionBody, recordBytes, recordSize, Parsed, onward, parseMore, parse}
 use Rattle.layout.specs.declared.item.Area.the-variants.{Journal}
 use Rattle.layout.specs.declared.item.Item.{Item}
 use Rattle.layout.specs.declared.item.Item.the-variants.{End, Version, Commit, Number, Damaged}
-use Rattle.layout.proofs.PartLaws.{lent-rest}
-use Rattle.layout.proofs.FieldLaws.{Bytes, bytes-drop}
+use Rattle.fields.proofs.PartLaws.{lent-rest}
+use Rattle.fields.proofs.FieldLaws.{Bytes, bytes-drop}
 use Rattle.layout.proofs.ItemLaws.{Told, told, content-back, item-again}
-use Rattle.layout.proofs.CellLaws.{Each}
+use Rattle.fields.proofs.CellLaws.{Each}
 use Rattle.layout.proofs.RecordLaws.{VersionSized, PairSized, RecordSized, ValueFits, length-recordBytes, version-back, commit-back, value-back, version-again, commit-again, version-sized, pair-sized}
 
 -- one more record, read at `at` from the bytes as `&bytes[at..]`

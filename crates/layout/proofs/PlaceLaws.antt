@@ -5,7 +5,7 @@ use Prim.Native.Nat.{ℕ, _+_, _*_, _/_, _%_, _≤_, _<_}
 use native.Mathlib.Nat.{div-add-mod, mod-lt, mul-le-mul-left}
 use native.Mathlib.Decide.{decLt}
 use native.Mathlib.Omega.{arith}
-use Rattle.layout.specs.Block.{logBlockAt, pageBlockAt, mediumLength, cacheLength, pageOf, slotIn, slotAt, endPlace, blockOfEnd}
+use Rattle.fields.specs.Block.{logBlockAt, pageBlockAt, mediumLength, cacheLength, pageOf, slotIn, slotAt, endPlace, blockOfEnd}
 
 -- two sequences less than a round apart have different places in the ring
 pub ring : (l s n : ℕ) → s < n → n < s + l → s % l ≢ n % l

@@ -7,10 +7,10 @@ use mathlib.Core.List.{List, [], _∷_, _++_, append-assoc}
 use lib.ListN.{length, getD, drop, set, length-append}
 use lib.Seq.{getD-at}
 use borrow.Author.Tests.{le-leb}
-use Rattle.layout.specs.Field.{enc, dec}
-use Rattle.layout.specs.Part.{part, splice}
-use Rattle.layout.specs.Block.{zeros}
-use Rattle.layout.specs.Cells.{flat}
+use Rattle.fields.specs.Field.{enc, dec}
+use Rattle.fields.specs.Part.{part, splice}
+use Rattle.fields.specs.Block.{zeros}
+use Rattle.fields.specs.Cells.{flat}
 use Rattle.layout.specs.Item.{itemBytes, itemOf, byTag, headOf, pairOf, valueOf, versionItem, commitItem}
 use Rattle.layout.specs.Journal.{Record, version, commit, versionBody, recordBytes, recordSize, logBytes, emptyBlock, usedOf, addRecord}
 use Rattle.layout.specs.Table.{pairBytes}
@@ -18,11 +18,11 @@ use Rattle.layout.specs.declared.item.VersionHead.{VersionHead}
 use Rattle.layout.specs.declared.item.Pair.{Pair}
 use Rattle.layout.specs.declared.item.Area.the-variants.{Journal}
 use Rattle.layout.specs.declared.item.Item.the-variants.{Version, Commit}
-use Rattle.layout.proofs.PartLaws.{splice-is, length-part}
-use Rattle.layout.proofs.FieldLaws.{Bytes, length-enc, dec-lt, bytes-take, bytes-drop}
-use Rattle.layout.proofs.ReadLaws.{part-mid, dec-mid, part-join, part-cons, enc-part}
+use Rattle.fields.proofs.PartLaws.{splice-is, length-part}
+use Rattle.fields.proofs.FieldLaws.{Bytes, length-enc, dec-lt, bytes-take, bytes-drop}
+use Rattle.fields.proofs.ReadLaws.{part-mid, dec-mid, part-join, part-cons, enc-part}
 use Rattle.layout.proofs.ItemLaws.{item-bytes}
-use Rattle.layout.proofs.WriteLaws.{set-splice, splice-then, set-then, splice-whole}
+use Rattle.fields.proofs.WriteLaws.{set-splice, splice-then, set-then, splice-whole}
 
 pub length-versionBody : (h : VersionHead) (v : List ℕ) → length v ≡ 16 → length (versionBody h v) ≡ 30
 unfolding versionBody

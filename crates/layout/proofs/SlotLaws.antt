@@ -9,19 +9,19 @@ use lib.Dec.{eqb}
 use lib.ListN.{length, take, drop, getD, set, length-set}
 use lib.Seq.{take-all, getD-set-same, getD-set-other, drop-set-lt}
 use borrow.Author.Tests.{eqb-true}
-use Rattle.layout.specs.Field.{enc, dec}
-use Rattle.layout.specs.Part.{part, splice}
-use Rattle.layout.specs.Equal.{allZero}
+use Rattle.fields.specs.Field.{enc, dec}
+use Rattle.fields.specs.Part.{part, splice}
+use Rattle.fields.specs.Equal.{allZero}
 use Rattle.layout.specs.Slot.{Cell, codeOf, sharedField, slotBytes, stateOf, slotState, cellOf, stamped, kindForm, slotForm}
 use Rattle.layout.specs.declared.slot.Slot.{Slot}
 use Rattle.layout.specs.declared.slot.Slot.the-variants.{Empty, Waiting, Stamped}
-use Rattle.layout.proofs.Choose.{cond-elim, and-0, and-1}
-use Rattle.layout.proofs.PartLaws.{length-splice, length-part, part-before, part-after}
-use Rattle.layout.proofs.FieldLaws.{Bytes, length-enc, dec-enc, dec-lt, bytes-take, bytes-drop, bytes-enc, read-back}
-use Rattle.layout.proofs.EqualLaws.{zero-true}
-use Rattle.layout.proofs.WriteLaws.{splice-none, set-splice, splice-whole}
-use Rattle.layout.proofs.ReadLaws.{part-join, part-cons, enc-part}
-use Rattle.layout.proofs.CellLaws.{lay, lay-set, getD-before, bytes-cons, bytes-append}
+use Rattle.fields.proofs.Choose.{cond-elim, and-0, and-1}
+use Rattle.fields.proofs.PartLaws.{length-splice, length-part, part-before, part-after}
+use Rattle.fields.proofs.FieldLaws.{Bytes, length-enc, dec-enc, dec-lt, bytes-take, bytes-drop, bytes-enc, read-back}
+use Rattle.fields.proofs.EqualLaws.{zero-true}
+use Rattle.fields.proofs.WriteLaws.{splice-none, set-splice, splice-whole}
+use Rattle.fields.proofs.ReadLaws.{part-join, part-cons, enc-part}
+use Rattle.fields.proofs.CellLaws.{lay, lay-set, getD-before, bytes-cons, bytes-append}
 
 -- the fields of a slot lie within their bytes
 pub record SlotSized (c : Cell) : Type 0 where

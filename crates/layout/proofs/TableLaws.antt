@@ -7,19 +7,19 @@ use native.Mathlib.Omega.{arith}
 use mathlib.Core.List.{List, [], _++_, append-nil}
 use lib.ListN.{length, getD, set}
 use lib.Seq.{take-all}
-use Rattle.layout.specs.Field.{enc}
-use Rattle.layout.specs.Part.{part, splice}
-use Rattle.layout.specs.Block.{blk, put}
-use Rattle.layout.specs.Cells.{flat}
+use Rattle.fields.specs.Field.{enc}
+use Rattle.fields.specs.Part.{part, splice}
+use Rattle.fields.specs.Block.{blk, put}
+use Rattle.fields.specs.Cells.{flat}
 use Rattle.layout.specs.Item.{pairOf}
 use Rattle.layout.specs.Table.{pairBytes, pairAt, tablePair, blockPair, putPair}
 use Rattle.layout.specs.declared.item.Pair.{Pair}
-use Rattle.layout.proofs.PartLaws.{length-splice, part-splice, part-before, part-after, part-part}
-use Rattle.layout.proofs.FieldLaws.{Bytes, length-enc, bytes-enc}
-use Rattle.layout.proofs.WriteLaws.{splice-then}
+use Rattle.fields.proofs.PartLaws.{length-splice, part-splice, part-before, part-after, part-part}
+use Rattle.fields.proofs.FieldLaws.{Bytes, length-enc, bytes-enc}
+use Rattle.fields.proofs.WriteLaws.{splice-then}
 use Rattle.layout.proofs.RecordLaws.{PairSized, length-pairBytes, pair-back, commit-again}
-use Rattle.layout.proofs.CellLaws.{Cells, each-of, bytes-append, bytes-flat, length-flat, cell-at, cell-set}
-use Rattle.layout.proofs.BlockLaws.{blk-same, blk-other}
+use Rattle.fields.proofs.CellLaws.{Cells, each-of, bytes-append, bytes-flat, length-flat, cell-at, cell-set}
+use Rattle.fields.proofs.BlockLaws.{blk-same, blk-other}
 
 pub bytes-pairBytes : (p : Pair) → Bytes (pairBytes p)
 unfolding pairBytes

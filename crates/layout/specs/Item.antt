@@ -4,8 +4,8 @@ use mathlib.Core.Bool.{Bool, true, false, cond}
 use mathlib.Core.List.{List, [], _∷_, _++_}
 use lib.ListN.{length, getD, drop}
 use lib.Dec.{eqb, leb, ltb}
-use Rattle.layout.specs.Field.{enc, dec}
-use Rattle.layout.specs.Part.{part}
+use Rattle.fields.specs.Field.{enc, dec}
+use Rattle.fields.specs.Part.{part}
 use Rattle.layout.specs.declared.item.VersionHead.{VersionHead}
 use Rattle.layout.specs.declared.item.Pair.{Pair}
 use Rattle.layout.specs.declared.item.Area.{Area}

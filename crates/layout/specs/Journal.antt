@@ -4,11 +4,11 @@ use mathlib.Core.Bool.{Bool, true, false, _&&_}
 use mathlib.Core.List.{List, [], _∷_, _++_}
 use lib.ListN.{length, drop}
 use lib.Dec.{leb}
-use Rattle.layout.specs.Field.{enc, dec}
-use Rattle.layout.specs.Part.{part, splice}
-use Rattle.layout.specs.Equal.{allZero}
-use Rattle.layout.specs.Block.{zeros}
-use Rattle.layout.specs.Cells.{flat}
+use Rattle.fields.specs.Field.{enc, dec}
+use Rattle.fields.specs.Part.{part, splice}
+use Rattle.fields.specs.Equal.{allZero}
+use Rattle.fields.specs.Block.{zeros}
+use Rattle.fields.specs.Cells.{flat}
 use Rattle.layout.specs.Slot.{kindForm}
 use Rattle.layout.specs.Item.{itemBytes, itemOf, valueOf}
 use Rattle.layout.specs.Table.{pairBytes}

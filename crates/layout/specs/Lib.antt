@@ -1,8 +1,3 @@
-pub mod Field
-pub mod Part
-pub mod Equal
-pub mod Cells
-pub mod Block
 pub mod Slot
 pub mod Page
 pub mod Item

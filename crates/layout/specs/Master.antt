@@ -4,10 +4,10 @@ use mathlib.Core.Bool.{Bool, true, false, cond}
 use mathlib.Core.List.{List, [], _∷_, _++_}
 use lib.ListN.{drop}
 use lib.Dec.{eqb}
-use Rattle.layout.specs.Field.{enc, dec}
-use Rattle.layout.specs.Part.{part}
-use Rattle.layout.specs.Equal.{allZero}
-use Rattle.layout.specs.Block.{zeros}
+use Rattle.fields.specs.Field.{enc, dec}
+use Rattle.fields.specs.Part.{part}
+use Rattle.fields.specs.Equal.{allZero}
+use Rattle.fields.specs.Block.{zeros}
 use Rattle.layout.specs.Item.{itemBytes, itemOf}
 use Rattle.layout.specs.declared.item.Area.the-variants.{Master as InMaster}
 use Rattle.layout.specs.declared.item.Item.{Item}

@@ -4,11 +4,11 @@ use mathlib.Core.Bool.{Bool, true, false, cond, _&&_}
 use mathlib.Core.List.{List, [], _∷_, _++_}
 use lib.ListN.{length, getD, set}
 use lib.Dec.{eqb, leb, ltb}
-use Rattle.layout.specs.Field.{enc, dec}
-use Rattle.layout.specs.Part.{part, splice}
-use Rattle.layout.specs.Equal.{allZero}
-use Rattle.layout.specs.Block.{zeros, slotIn, slotAt, pageOf, blk, put}
-use Rattle.layout.specs.Cells.{flat}
+use Rattle.fields.specs.Field.{enc, dec}
+use Rattle.fields.specs.Part.{part, splice}
+use Rattle.fields.specs.Equal.{allZero}
+use Rattle.fields.specs.Block.{zeros, slotIn, slotAt, pageOf, blk, put}
+use Rattle.fields.specs.Cells.{flat}
 use Rattle.layout.specs.Slot.{Cell, slotBytes, cellOf, stamped, slotForm}
 
 -- 01: "32 header bytes (end place of the last record put in it, 8; used slots, 1; zeros), then 15 slots of 32 bytes"

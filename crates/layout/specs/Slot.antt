@@ -4,9 +4,9 @@ use mathlib.Core.Bool.{Bool, true, false, cond, _&&_, _||_}
 use mathlib.Core.List.{List, [], _∷_, _++_}
 use lib.ListN.{getD, set}
 use lib.Dec.{eqb}
-use Rattle.layout.specs.Field.{enc, dec}
-use Rattle.layout.specs.Part.{part, splice}
-use Rattle.layout.specs.Equal.{allZero}
+use Rattle.fields.specs.Field.{enc, dec}
+use Rattle.fields.specs.Part.{part, splice}
+use Rattle.fields.specs.Equal.{allZero}
 use Rattle.layout.specs.declared.slot.Slot.{Slot}
 use Rattle.layout.specs.declared.slot.Slot.the-variants.{Empty, Waiting, Stamped}
 

@@ -41,11 +41,11 @@ pub fn version_head(body: &[u8]) -> VersionHead
     ensures { λ r. ⌜ r ≡ headOf (now (body .entry)) ⌝ }
 {
     VersionHead {
-        slot: crate::field::get2(body, 0),
+        slot: fields::field::get2(body, 0),
         key: body[2],
         kind: body[3],
-        earlier: crate::field::get2(body, 4),
-        number: TxNumber(crate::field::get8(body, 6)),
+        earlier: fields::field::get2(body, 4),
+        number: TxNumber(fields::field::get8(body, 6)),
     }
 }
 
@@ -55,8 +55,8 @@ pub fn read_pair(body: &[u8]) -> Pair
     ensures { λ r. ⌜ r ≡ pairOf (now (body .entry)) ⌝ }
 {
     Pair {
-        number: TxNumber(crate::field::get8(body, 0)),
-        time: CommitTime(crate::field::get8(body, 8)),
+        number: TxNumber(fields::field::get8(body, 0)),
+        time: CommitTime(fields::field::get8(body, 8)),
     }
 }
 
@@ -94,7 +94,7 @@ fn number_item(tag: u8, want: usize, len: u64, body: &[u8]) -> Item
     if body.len() < want {
         return Item::Damaged;
     }
-    Item::Number(tag, crate::field::get(&body[..want]))
+    Item::Number(tag, fields::field::get(&body[..want]))
 }
 
 // The first item of the bytes. One match over the tag serves both areas; an unknown tag, a wrong length and an item
@@ -109,7 +109,7 @@ pub fn read(area: Area, bytes: &[u8]) -> Item
         return Item::Damaged;
     }
     let tag = bytes[0];
-    let len = crate::field::get2(bytes, 1);
+    let len = fields::field::get2(bytes, 1);
     let body = &bytes[3..];
     match tag {
         1 => match area {

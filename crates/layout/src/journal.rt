@@ -12,7 +12,7 @@ pub fn sequence(block: &[u8]) -> u64
     requires { ⌜ length (now block) ≡ 512 ⌝ }
     ensures { λ r. ⌜ r ≡ sequenceOf (now (block .entry)) ⌝ }
 {
-    crate::field::get8(block, 0)
+    fields::field::get8(block, 0)
 }
 
 // The used bytes of a block, counted from its start.
@@ -20,7 +20,7 @@ pub fn used(block: &[u8]) -> u64
     requires { ⌜ length (now block) ≡ 512 ⌝ }
     ensures { λ r. ⌜ r ≡ usedOf (now (block .entry)) ⌝ }
 {
-    crate::field::get2(block, 8)
+    fields::field::get2(block, 8)
 }
 
 // Makes the block an empty one of the sequence.
@@ -28,9 +28,9 @@ pub fn begin(block: &mut [u8], sequence: u64)
     requires { ⌜ length (now block) ≡ 512 ⌝ }
     ensures { λ _. ⌜ now (block .exit) ≡ emptyBlock sequence ⌝ }
 {
-    crate::block::clear(block);
-    crate::field::put8(block, 0, sequence);
-    crate::field::put2(block, 8, 10);
+    fields::block::clear(block);
+    fields::field::put8(block, 0, sequence);
+    fields::field::put2(block, 8, 10);
 }
 
 // Writes the body of a version record.
@@ -39,12 +39,12 @@ fn write_version(body: &mut [u8], head: VersionHead, value: &[u8])
     requires { ⌜ length (now value) ≡ 16 ⌝ }
     ensures { λ _. ⌜ now (body .exit) ≡ versionBody head (now (value .entry)) ⌝ }
 {
-    crate::field::put2(body, 0, head.slot);
+    fields::field::put2(body, 0, head.slot);
     body[2] = head.key;
     body[3] = head.kind;
-    crate::field::put2(body, 4, head.earlier);
-    crate::field::put8(body, 6, head.number.0);
-    crate::block::copy(&mut body[14..30], value);
+    fields::field::put2(body, 4, head.earlier);
+    fields::field::put8(body, 6, head.number.0);
+    fields::block::copy(&mut body[14..30], value);
 }
 
 // Writes the body of a commit record.
@@ -52,8 +52,8 @@ fn write_commit(body: &mut [u8], pair: Pair)
     requires { ⌜ length (now body) ≡ 16 ⌝ }
     ensures { λ _. ⌜ now (body .exit) ≡ pairBytes pair ⌝ }
 {
-    crate::field::put8(body, 0, pair.number.0);
-    crate::field::put8(body, 8, pair.time.0);
+    fields::field::put8(body, 0, pair.number.0);
+    fields::field::put8(body, 8, pair.time.0);
 }
 
 // Puts a version record behind the used bytes.
@@ -65,10 +65,10 @@ pub fn add_version(block: &mut [u8], head: VersionHead, value: &[u8])
 {
     let at = used(block) as usize;
     block[at] = 1;
-    crate::field::put2(block, at + 1, 30);
+    fields::field::put2(block, at + 1, 30);
     let a = at + 3;
     write_version(&mut block[a..a + 30], head, value);
-    crate::field::put2(block, 8, (at + 33) as u64);
+    fields::field::put2(block, 8, (at + 33) as u64);
 }
 
 // Puts a commit record behind the used bytes.
@@ -79,10 +79,10 @@ pub fn add_commit(block: &mut [u8], pair: Pair)
 {
     let at = used(block) as usize;
     block[at] = 2;
-    crate::field::put2(block, at + 1, 16);
+    fields::field::put2(block, at + 1, 16);
     let a = at + 3;
     write_commit(&mut block[a..a + 16], pair);
-    crate::field::put2(block, 8, (at + 19) as u64);
+    fields::field::put2(block, 8, (at + 19) as u64);
 }
 
 // Are the used bytes in range, and zeros behind them?
@@ -97,5 +97,5 @@ pub fn in_form(block: &[u8]) -> bool
     if 512 < n {
         return false;
     }
-    crate::block::all_zero(&block[n..])
+    fields::block::all_zero(&block[n..])
 }

@@ -1,6 +1,4 @@
 // The bytes of the medium: fields, slots, pages, log records and blocks, the pair table and the master.
-pub mod block;
-pub mod field;
 pub mod item;
 pub mod journal;
 pub mod master;

@@ -6,8 +6,8 @@ use crate::item::Item;
 ghost use mathlib.Core.Path.{_≡_};
 ghost use Prim.Native.Nat.{_+_, _≤_, _<_, _*_};
 ghost use lib.ListN.{length};
-ghost use Rattle.layout.specs.Part.{splice};
-ghost use Rattle.layout.specs.Field.{enc};
+ghost use Rattle.fields.specs.Part.{splice};
+ghost use Rattle.fields.specs.Field.{enc};
 ghost use Rattle.layout.specs.Item.{itemBytes};
 ghost use Rattle.layout.specs.Master.{masterBytes, fieldOf, masterOf, oldestOn};
 
@@ -71,7 +71,7 @@ pub fn read(block: &[u8]) -> Found
     let Value::Of(t) = field(5, &block[32..]) else {
         return Found::Broken;
     };
-    if !crate::block::all_zero(&block[43..]) {
+    if !fields::block::all_zero(&block[43..]) {
         return Found::Broken;
     }
     Found::Whole(Fields {
@@ -89,8 +89,8 @@ fn put_short(block: &mut [u8], at: usize, tag: u8, n: u64)
     ensures { λ _. ⌜ now (block .exit) ≡ splice (now (block .entry)) at (itemBytes tag (enc 2 n)) ⌝ }
 {
     block[at] = tag;
-    crate::field::put2(block, at + 1, 2);
-    crate::field::put2(block, at + 3, n);
+    fields::field::put2(block, at + 1, 2);
+    fields::field::put2(block, at + 3, n);
 }
 
 // Writes a field of eight bytes at `at`.
@@ -99,8 +99,8 @@ fn put_long(block: &mut [u8], at: usize, tag: u8, n: u64)
     ensures { λ _. ⌜ now (block .exit) ≡ splice (now (block .entry)) at (itemBytes tag (enc 8 n)) ⌝ }
 {
     block[at] = tag;
-    crate::field::put2(block, at + 1, 8);
-    crate::field::put8(block, at + 3, n);
+    fields::field::put2(block, at + 1, 8);
+    fields::field::put8(block, at + 3, n);
 }
 
 // Writes the master.
@@ -108,7 +108,7 @@ pub fn write(block: &mut [u8], f: Fields)
     requires { ⌜ length (now block) ≡ 512 ⌝ }
     ensures { λ _. ⌜ now (block .exit) ≡ masterBytes f ⌝ }
 {
-    crate::block::clear(block);
+    fields::block::clear(block);
     put_short(block, 0, 1, f.blocks);
     put_short(block, 5, 2, f.pages);
     put_long(block, 10, 3, f.oldest);
@@ -121,5 +121,5 @@ pub fn oldest(medium: &[u8]) -> u64
     requires { ⌜ 21 ≤ length (now medium) ⌝ }
     ensures { λ r. ⌜ r ≡ oldestOn (now (medium .entry)) ⌝ }
 {
-    crate::field::get8(medium, 13)
+    fields::field::get8(medium, 13)
 }

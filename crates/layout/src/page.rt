@@ -5,8 +5,8 @@ use crate::TxNumber;
 ghost use mathlib.Core.Path.{_≡_};
 ghost use Prim.Native.Nat.{_+_, _≤_, _<_, _*_};
 ghost use lib.ListN.{length, getD};
-ghost use Rattle.layout.specs.Block.{pageOf};
-ghost use Rattle.layout.specs.Page.{pageEnd, pageUsed, putCell, stampCell, pageForm, slotFormAt, putVersion, stampVersion};
+ghost use Rattle.fields.specs.Block.{pageOf};
+ghost use Rattle.layout.specs.Page.{pageEnd, pageUsed, putCell, stampCell, pageForm, slotFormAt, putVersion};
 ghost use Rattle.layout.specs.declared.slot.Slot.the-variants.{Waiting};
 
 // The end place of the last record put into the page.
@@ -14,7 +14,7 @@ pub fn end(page: &[u8]) -> EndPlace
     requires { ⌜ length (now page) ≡ 512 ⌝ }
     ensures { λ r. ⌜ r .0 ≡ pageEnd (now (page .entry)) ⌝ }
 {
-    EndPlace(crate::field::get8(page, 0))
+    EndPlace(fields::field::get8(page, 0))
 }
 
 // How many slots of the page are used.
@@ -41,7 +41,7 @@ pub fn put_waiting(
     requires { ⌜ length (now value) ≡ 16 ⌝ }
     ensures { λ _. ⌜ now (page .exit) ≡ putCell (now (page .entry)) i (end .0) (record { state = Waiting number; key = key; kind = kind; earlier = earlier; value = now (value .entry) }) ⌝ }
 {
-    crate::field::put8(page, 0, end.0);
+    fields::field::put8(page, 0, end.0);
     page[8] = (i + 1) as u8;
     let a = 32 + 32 * i;
     crate::slot::write_waiting(&mut page[a..a + 32], number, key, kind, earlier, value);
@@ -68,7 +68,7 @@ pub fn slot_in_form(page: &[u8], i: usize) -> bool
     if i < page[8] as usize {
         return crate::slot::in_form(slot);
     }
-    crate::block::all_zero(slot)
+    fields::block::all_zero(slot)
 }
 
 // Is the page in form?
@@ -79,7 +79,7 @@ pub fn in_form(page: &[u8]) -> bool
     if 15 < page[8] {
         return false;
     }
-    if !crate::block::all_zero(&page[9..32]) {
+    if !fields::block::all_zero(&page[9..32]) {
         return false;
     }
     let mut i: usize = 0;
@@ -120,15 +120,4 @@ pub fn put_version(
         earlier,
         value,
     );
-}
-
-// Stamps slot n of the store: its page of the cache, then its slot, lent on.
-pub fn stamp_version(cache: &mut [u8], n: u64, time: CommitTime)
-    requires { ⌜ n < 960 ⌝ }
-    requires { ⌜ 512 * pageOf n + 512 ≤ length (now cache) ⌝ }
-    ensures { λ _. ⌜ now (cache .exit) ≡ stampVersion (now (cache .entry)) n (time .0) ⌝ }
-{
-    let i = (n % 15) as usize;
-    let a = (512 * (n / 15)) as usize;
-    stamp(&mut cache[a..a + 512], i, time);
 }

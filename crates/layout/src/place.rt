@@ -2,7 +2,7 @@
 use crate::EndPlace;
 ghost use mathlib.Core.Path.{_≡_};
 ghost use Prim.Native.Nat.{_+_, _≤_, _<_, _*_, _^_};
-ghost use Rattle.layout.specs.Block.{logBlockAt, pageBlockAt, mediumLength, cacheLength, pageOf, slotIn, slotAt, endPlace, blockOfEnd};
+ghost use Rattle.fields.specs.Block.{logBlockAt, pageBlockAt, mediumLength, cacheLength, pageOf, slotIn, slotAt, endPlace, blockOfEnd};
 
 // The block of a sequence.
 pub fn log_block(blocks: u64, sequence: u64) -> usize

@@ -4,8 +4,8 @@ use crate::TxNumber;
 ghost use mathlib.Core.Path.{_≡_};
 ghost use Prim.Native.Nat.{_+_, _≤_, _<_, _*_};
 ghost use lib.ListN.{length, getD};
-ghost use Rattle.layout.specs.Field.{dec};
-ghost use Rattle.layout.specs.Part.{part};
+ghost use Rattle.fields.specs.Field.{dec};
+ghost use Rattle.fields.specs.Part.{part};
 ghost use Rattle.layout.specs.Slot.{slotState, slotBytes, stamped, kindForm, slotForm};
 ghost use Rattle.layout.specs.declared.slot.Slot.the-variants.{Waiting};
 
@@ -22,8 +22,8 @@ pub fn read(slot: &[u8]) -> Slot
 {
     let code = slot[0];
     match code {
-        1 => Slot::Waiting(TxNumber(crate::field::get8(slot, 8))),
-        2 => Slot::Stamped(CommitTime(crate::field::get8(slot, 8))),
+        1 => Slot::Waiting(TxNumber(fields::field::get8(slot, 8))),
+        2 => Slot::Stamped(CommitTime(fields::field::get8(slot, 8))),
         _ => Slot::Empty,
     }
 }
@@ -45,11 +45,11 @@ pub fn write_waiting(
     slot[1] = key;
     slot[2] = kind;
     slot[3] = 0;
-    crate::field::put2(slot, 4, earlier);
+    fields::field::put2(slot, 4, earlier);
     slot[6] = 0;
     slot[7] = 0;
-    crate::field::put8(slot, 8, number.0);
-    crate::block::copy(&mut slot[16..32], value);
+    fields::field::put8(slot, 8, number.0);
+    fields::block::copy(&mut slot[16..32], value);
 }
 
 // Puts a time in place of the number.
@@ -58,7 +58,7 @@ pub fn stamp(slot: &mut [u8], time: CommitTime)
     ensures { λ _. ⌜ now (slot .exit) ≡ stamped (now (slot .entry)) (time .0) ⌝ }
 {
     slot[0] = 2;
-    crate::field::put8(slot, 8, time.0);
+    fields::field::put8(slot, 8, time.0);
 }
 
 // Is the kind 0, or 1 with a value of zeros?
@@ -71,7 +71,7 @@ pub fn kind_in_form(kind: u8, value: &[u8]) -> bool
     if kind != 1 {
         return false;
     }
-    crate::block::all_zero(value)
+    fields::block::all_zero(value)
 }
 
 // Is the slot in form for one that holds a version?
@@ -85,7 +85,7 @@ pub fn in_form(slot: &[u8]) -> bool
     if slot[3] != 0 {
         return false;
     }
-    if !crate::block::all_zero(&slot[6..8]) {
+    if !fields::block::all_zero(&slot[6..8]) {
         return false;
     }
     kind_in_form(slot[2], &slot[16..32])

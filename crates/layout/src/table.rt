@@ -22,8 +22,8 @@ pub fn write(block: &mut [u8], i: usize, pair: Pair)
     ensures { λ _. ⌜ now (block .exit) ≡ putPair (now (block .entry)) i pair ⌝ }
 {
     let a = 16 * i;
-    crate::field::put8(block, a, pair.number.0);
-    crate::field::put8(block, a + 8, pair.time.0);
+    fields::field::put8(block, a, pair.number.0);
+    fields::field::put8(block, a + 8, pair.time.0);
 }
 
 // Has an empty place time 0?

@@ -9,12 +9,12 @@ use mathlib.Core.Option.{Option, none, some}
 use mathlib.Core.List.{List, [], _∷_}
 use lib.ListN.{length}
 use lib.Dec.{eqb}
-use Rattle.layout.specs.Block.{zeros}
-use Rattle.layout.specs.Part.{splice}
-use Rattle.layout.specs.Cells.{flat}
+use Rattle.fields.specs.Block.{zeros}
+use Rattle.fields.specs.Part.{splice}
+use Rattle.fields.specs.Cells.{flat}
 use Rattle.layout.specs.Slot.{Cell}
-use Rattle.layout.proofs.Choose.{cond-elim}
-use Rattle.layout.proofs.PartLaws.{length-splice}
+use Rattle.fields.proofs.Choose.{cond-elim}
+use Rattle.fields.proofs.PartLaws.{length-splice}
 use Rattle.store.specs.declared.Answer.{Answer}
 use Rattle.store.specs.declared.Answer.the-variants.{Refused, Done, Begun, Written, Committed, Opened, Missing, Erased, Present, Listed}
 use Rattle.store.specs.declared.Best.{Best}

@@ -9,14 +9,14 @@ use native.Mathlib.Omega.{arith}
 use lib.ListN.{length, drop, length-set}
 use lib.Dec.{leb, ltb}
 use borrow.Author.Tests.{ltb-true, leb-true}
-use Rattle.layout.specs.Block.{zeros, put}
+use Rattle.fields.specs.Block.{zeros, put}
 use Rattle.layout.specs.Journal.{Record, version, commit, recordSize, sequenceOf, usedOf, emptyBlock, addRecord}
 use Rattle.layout.specs.Master.{oldestOn}
 use Rattle.layout.specs.declared.item.VersionHead.{VersionHead}
 use Rattle.layout.specs.declared.slot.Slot.{Slot}
 use Rattle.layout.specs.declared.slot.Slot.the-variants.{Empty, Waiting, Stamped}
-use Rattle.layout.proofs.Choose.{and-1}
-use Rattle.layout.proofs.BlockLaws.{length-put}
+use Rattle.fields.proofs.Choose.{and-1}
+use Rattle.fields.proofs.BlockLaws.{length-put}
 use Rattle.layout.proofs.CacheLaws.{length-putVersion}
 use Rattle.layout.proofs.JournalLaws.{length-emptyBlock, sequence-emptyBlock, used-emptyBlock, length-addRecord, sequence-addRecord, used-addRecord}
 use Rattle.store.specs.declared.Place.{Place}

@@ -10,12 +10,12 @@ use mathlib.Core.List.{List, [], _∷_}
 use lib.ListN.{length, length-append, length-replicate}
 use lib.Dec.{eqb}
 use borrow.Author.Tests.{eqb-true}
-use Rattle.layout.specs.Block.{mediumLength, cacheLength}
+use Rattle.fields.specs.Block.{mediumLength, cacheLength}
 use Rattle.layout.specs.Journal.{Record, version, commit}
 use Rattle.layout.specs.declared.item.VersionHead.{VersionHead}
-use Rattle.layout.proofs.Choose.{and-1}
-use Rattle.layout.proofs.PartLaws.{length-part}
-use Rattle.layout.proofs.BlockLaws.{length-put}
+use Rattle.fields.proofs.Choose.{and-1}
+use Rattle.fields.proofs.PartLaws.{length-part}
+use Rattle.fields.proofs.BlockLaws.{length-put}
 use Rattle.layout.proofs.CacheLaws.{length-putVersion}
 use Rattle.layout.proofs.MasterLaws.{length-masterBytes}
 use Rattle.store.specs.declared.Phase.the-variants.{Idle, FirstStored, SecondStored}

@@ -10,11 +10,11 @@ use mathlib.Core.List.{List}
 use lib.ListN.{length}
 use lib.Dec.{ltb}
 use borrow.Author.Tests.{ltb-true}
-use Rattle.layout.specs.Block.{blk, put, logBlockAt, pageBlockAt, cacheLength}
+use Rattle.fields.specs.Block.{blk, put, logBlockAt, pageBlockAt, cacheLength}
 use Rattle.layout.specs.Journal.{Record, sequenceOf, recordSize}
 use Rattle.layout.specs.Page.{pageSlot}
 use Rattle.layout.specs.Slot.{slotState}
-use Rattle.layout.proofs.BlockLaws.{length-put, length-blk, blk-other}
+use Rattle.fields.proofs.BlockLaws.{length-put, length-blk, blk-other}
 use Rattle.layout.proofs.CacheLaws.{length-stampCell}
 use Rattle.layout.proofs.TableLaws.{length-pairs}
 use Rattle.layout.proofs.MasterLaws.{length-masterBytes}

@@ -9,7 +9,7 @@ use native.Mathlib.Decide.{decLt}
 use lib.ListN.{length, length-set, length-replicate}
 use lib.Dec.{eqb, leb, ltb}
 use borrow.Author.Tests.{ltb-true, leb-true, eqb-true}
-use Rattle.layout.specs.Block.{blk, put, mediumLength, cacheLength, pageOf, logBlockAt, pageBlockAt}
+use Rattle.fields.specs.Block.{blk, put, mediumLength, cacheLength, pageOf, logBlockAt, pageBlockAt}
 use Rattle.layout.specs.Slot.{Cell}
 use Rattle.layout.specs.Page.{pageForm, pageUsed, putCell, putVersion}
 use Rattle.layout.specs.Journal.{Record, version, commit, sequenceOf, usedOf, usedForm, parsed}
@@ -17,9 +17,9 @@ use Rattle.layout.specs.Master.{masterOf, oldestOn}
 use Rattle.layout.specs.Table.{tablePair, pairForm}
 use Rattle.layout.specs.declared.CommitTime.{CommitTime}
 use Rattle.layout.specs.declared.item.VersionHead.{VersionHead}
-use Rattle.layout.proofs.Choose.{and-0, and-1}
-use Rattle.layout.proofs.PartLaws.{part-part, part-before}
-use Rattle.layout.proofs.BlockLaws.{length-blk}
+use Rattle.fields.proofs.Choose.{and-0, and-1}
+use Rattle.fields.proofs.PartLaws.{part-part, part-before}
+use Rattle.fields.proofs.BlockLaws.{length-blk}
 use Rattle.layout.proofs.PlaceLaws.{log-in-medium}
 use Rattle.layout.proofs.PageLaws.{page-form}
 use Rattle.layout.proofs.CacheLaws.{putCell-used, length-putVersion, putVersion-page, putVersion-beside}

@@ -9,7 +9,7 @@ use mathlib.Core.Option.{Option, some}
 use mathlib.Core.List.{List, [], _∷_}
 use lib.ListN.{length}
 use lib.Dec.{eqb}
-use Rattle.layout.specs.Block.{zeros, mediumLength, cacheLength}
+use Rattle.fields.specs.Block.{zeros, mediumLength, cacheLength}
 use Rattle.store.specs.declared.Answer.the-variants.{Refused, Opened}
 use Rattle.store.specs.declared.Phase.the-variants.{Idle, FirstStored, SecondStored}
 use Rattle.store.specs.declared.Refusal.{Refusal}

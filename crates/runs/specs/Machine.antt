@@ -4,8 +4,8 @@ use Prim.Native.Nat.{ℕ, zero, suc, _+_, _*_}
 use mathlib.Core.Bool.{Bool, true, false, not, _&&_}
 use mathlib.Core.Option.{Option, none, some}
 use mathlib.Core.List.{List, [], _∷_}
-use Rattle.layout.specs.Part.{part}
-use Rattle.layout.specs.Equal.{eqList}
+use Rattle.fields.specs.Part.{part}
+use Rattle.fields.specs.Equal.{eqList}
 use Rattle.store.specs.declared.Answer.{Answer}
 use Rattle.store.specs.declared.Answer.the-variants.{Refused, Done, Begun, Written, Committed, Opened, Missing, Erased, Present, Listed}
 use Rattle.store.specs.declared.Place.{Place}

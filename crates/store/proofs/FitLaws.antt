@@ -6,9 +6,9 @@ use Prim.Native.Nat.{ℕ, _*_, _^_, _≤_, _<_}
 use lib.ListN.{length}
 use lib.Dec.{eqb, leb, ltb}
 use borrow.Author.Tests.{ltb-true, leb-true, eqb-true, lt-ltb, le-leb, eq-eqb}
-use Rattle.layout.specs.Block.{mediumLength, cacheLength}
+use Rattle.fields.specs.Block.{mediumLength, cacheLength}
 use Rattle.layout.specs.Journal.{sequenceOf, usedOf}
-use Rattle.layout.proofs.Choose.{and-0, and-1}
+use Rattle.fields.proofs.Choose.{and-0, and-1}
 use Rattle.store.specs.declared.State.{State}
 use Rattle.store.specs.State.{inRange, fits}
 

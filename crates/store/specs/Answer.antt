@@ -3,7 +3,7 @@ use Prim.Native.Nat.{ℕ}
 use mathlib.Core.Bool.{Bool, cond}
 use mathlib.Core.Option.{Option, none, some}
 use mathlib.Core.List.{List, [], _∷_}
-use Rattle.layout.specs.Block.{zeros}
+use Rattle.fields.specs.Block.{zeros}
 use Rattle.store.specs.declared.Refusal.{Refusal}
 use Rattle.store.specs.declared.Refusal.the-variants.{BadSizes, BadCache, Malformed, NoPlace, NotActive, Held, NoSlot, LogFull, NoTime, NotYet, NoPage, NotLogged, Unchanged, ShortBuffer, NoNumber, Unfit}
 use Rattle.store.specs.declared.Answer.{Answer}

@@ -5,11 +5,11 @@ use mathlib.Core.Option.{Option, none, some}
 use mathlib.Core.List.{List, [], _∷_, _++_}
 use lib.ListN.{length}
 use lib.Dec.{eqb, leb, ltb}
-use Rattle.layout.specs.Field.{enc}
-use Rattle.layout.specs.Part.{splice}
-use Rattle.layout.specs.Equal.{eqList}
-use Rattle.layout.specs.Block.{zeros}
-use Rattle.layout.specs.Cells.{flat}
+use Rattle.fields.specs.Field.{enc}
+use Rattle.fields.specs.Part.{splice}
+use Rattle.fields.specs.Equal.{eqList}
+use Rattle.fields.specs.Block.{zeros}
+use Rattle.fields.specs.Cells.{flat}
 use Rattle.layout.specs.Slot.{Cell}
 use Rattle.store.specs.declared.Refusal.{Refusal}
 use Rattle.store.specs.declared.Refusal.the-variants.{Unfit, NotYet, ShortBuffer}

@@ -5,8 +5,8 @@ use mathlib.Core.Option.{Option, none, some}
 use mathlib.Core.List.{List, [], _∷_}
 use lib.ListN.{length, take}
 use lib.Dec.{eqb, leb}
-use Rattle.layout.specs.Block.{put}
-use Rattle.layout.specs.Cells.{flat}
+use Rattle.fields.specs.Block.{put}
+use Rattle.fields.specs.Cells.{flat}
 use Rattle.layout.specs.Table.{pairBytes}
 use Rattle.layout.specs.Master.{masterBytes}
 use Rattle.layout.specs.Journal.{sequenceOf}

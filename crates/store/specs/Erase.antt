@@ -1,7 +1,7 @@
 -- Erase.
 use Prim.Native.Nat.{ℕ}
 use mathlib.Core.List.{List}
-use Rattle.layout.specs.Block.{zeros}
+use Rattle.fields.specs.Block.{zeros}
 use Rattle.store.specs.declared.State.{State}
 use Rattle.store.specs.Answer.{Outcome}
 use Rattle.store.specs.Write.{addOf}

@@ -6,7 +6,7 @@ use mathlib.Core.Option.{Option, none, some}
 use mathlib.Core.List.{List, [], _∷_, _++_}
 use lib.ListN.{length}
 use lib.Dec.{eqb, leb, ltb}
-use Rattle.layout.specs.Block.{blk, logBlockAt, pageBlockAt}
+use Rattle.fields.specs.Block.{blk, logBlockAt, pageBlockAt}
 use Rattle.layout.specs.Page.{pageForm, pageEnd, pageUsed}
 use Rattle.layout.specs.Journal.{Record, version, commit, usedForm, recordForm, parsed}
 use Rattle.layout.specs.Table.{tablePair, pairForm}

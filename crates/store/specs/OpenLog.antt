@@ -4,9 +4,9 @@ use mathlib.Core.Bool.{cond}
 use mathlib.Core.Option.{Option, none, some}
 use mathlib.Core.List.{List, [], _∷_, _++_}
 use lib.Dec.{eqb}
-use Rattle.layout.specs.Field.{dec}
-use Rattle.layout.specs.Part.{part}
-use Rattle.layout.specs.Block.{blk, logBlockAt, endPlace}
+use Rattle.fields.specs.Field.{dec}
+use Rattle.fields.specs.Part.{part}
+use Rattle.fields.specs.Block.{blk, logBlockAt, endPlace}
 use Rattle.layout.specs.Journal.{Record, version, commit, recordSize, sequenceOf, usedOf, parsed, emptyBlock}
 use Rattle.layout.specs.Master.{oldestOn}
 

@@ -4,8 +4,8 @@ use mathlib.Core.Bool.{Bool, true, false, cond}
 use mathlib.Core.List.{List, [], _∷_}
 use lib.ListN.{replicate}
 use lib.Dec.{eqb, ltb}
-use Rattle.layout.specs.Part.{part}
-use Rattle.layout.specs.Block.{blk, pageOf, logBlockAt}
+use Rattle.fields.specs.Part.{part}
+use Rattle.fields.specs.Block.{blk, pageOf, logBlockAt}
 use Rattle.layout.specs.Page.{pageEnd, pageUsed, putVersion}
 use Rattle.layout.specs.Journal.{Record, version, commit}
 use Rattle.layout.specs.declared.item.VersionHead.{VersionHead}

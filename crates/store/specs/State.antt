@@ -3,7 +3,7 @@ use Prim.Native.Nat.{ℕ, _*_, _^_}
 use mathlib.Core.Bool.{Bool, _&&_}
 use lib.ListN.{length, set, replicate}
 use lib.Dec.{eqb, leb, ltb}
-use Rattle.layout.specs.Block.{zeros, mediumLength, cacheLength}
+use Rattle.fields.specs.Block.{zeros, mediumLength, cacheLength}
 use Rattle.layout.specs.Journal.{sequenceOf, usedOf}
 use Rattle.store.specs.declared.Place.{Place}
 use Rattle.store.specs.declared.Phase.{Phase}

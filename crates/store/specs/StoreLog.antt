@@ -4,8 +4,8 @@ use mathlib.Core.Bool.{Bool, not}
 use mathlib.Core.Option.{Option, none, some}
 use mathlib.Core.List.{List, [], _∷_}
 use lib.ListN.{length}
-use Rattle.layout.specs.Equal.{eqList}
-use Rattle.layout.specs.Block.{blk, logBlockAt}
+use Rattle.fields.specs.Equal.{eqList}
+use Rattle.fields.specs.Block.{blk, logBlockAt}
 use Rattle.layout.specs.Journal.{sequenceOf}
 use Rattle.store.specs.declared.Refusal.{Refusal}
 use Rattle.store.specs.declared.Refusal.the-variants.{Unfit, Unchanged}

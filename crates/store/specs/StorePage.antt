@@ -5,8 +5,8 @@ use mathlib.Core.Option.{Option, none, some}
 use mathlib.Core.List.{List, [], _∷_}
 use lib.ListN.{length, set}
 use lib.Dec.{leb, ltb}
-use Rattle.layout.specs.Equal.{eqList}
-use Rattle.layout.specs.Block.{blk, put, pageBlockAt}
+use Rattle.fields.specs.Equal.{eqList}
+use Rattle.fields.specs.Block.{blk, put, pageBlockAt}
 use Rattle.layout.specs.Slot.{slotState}
 use Rattle.layout.specs.Page.{pageSlot, pageEnd, stampCell}
 use Rattle.layout.specs.declared.slot.Slot.{Slot}

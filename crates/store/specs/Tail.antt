@@ -3,7 +3,7 @@ use Prim.Native.Nat.{ℕ, _+_, _^_}
 use mathlib.Core.Bool.{Bool, true, false, _&&_, _||_}
 use mathlib.Core.List.{List}
 use lib.Dec.{leb, ltb}
-use Rattle.layout.specs.Block.{put, logBlockAt, endPlace}
+use Rattle.fields.specs.Block.{put, logBlockAt, endPlace}
 use Rattle.layout.specs.Journal.{Record, recordSize, sequenceOf, usedOf, emptyBlock, addRecord}
 use Rattle.layout.specs.Master.{oldestOn}
 use Rattle.layout.specs.declared.CommitTime.{CommitTime}

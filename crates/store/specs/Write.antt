@@ -5,7 +5,7 @@ use mathlib.Core.Option.{Option, none, some}
 use mathlib.Core.List.{List, [], _∷_}
 use lib.ListN.{length, getD, set}
 use lib.Dec.{eqb, ltb}
-use Rattle.layout.specs.Block.{pageOf}
+use Rattle.fields.specs.Block.{pageOf}
 use Rattle.layout.specs.Slot.{Cell}
 use Rattle.layout.specs.Page.{putVersion}
 use Rattle.layout.specs.Journal.{version, sequenceOf}

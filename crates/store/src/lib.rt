@@ -82,12 +82,6 @@ pub enum Answer {
     Listed(u64),
 }
 
-// What a call leaves: its answer and the state.
-pub struct Ended {
-    pub answer: Answer,
-    pub state: State,
-}
-
 // What a read answers, with the value beside it: zeros where there is none.
 pub struct Reading {
     pub answer: Answer,

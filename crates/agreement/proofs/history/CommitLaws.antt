@@ -8,7 +8,7 @@ use mathlib.Core.Logic.{_⊎_, inl, inr, _≢_}
 use mathlib.Core.Path.{_≡_, refl, sym, ap, _∙_, subst}
 use lib.Dec.{eqb}
 use borrow.Author.Tests.{eqb-true, eqb-false, ne-eqb, eq-eqb}
-use Rattle.layout.proofs.CellLaws.{Each, each-map}
+use Rattle.fields.proofs.CellLaws.{Each, each-map}
 use Rattle.store.specs.declared.Timing.the-variants.{Timed}
 use Rattle.agreement.proofs.history.Ghost.{timing, LoggedCommit, noCommit, find, lastOf, Rising, Once}
 use Rattle.agreement.proofs.history.ListLaws.{same?}

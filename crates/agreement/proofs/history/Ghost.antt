@@ -12,7 +12,7 @@ use Rattle.layout.specs.Slot.{Cell}
 use Rattle.layout.specs.Page.{pageBytes}
 use Rattle.layout.specs.declared.slot.Slot.the-variants.{Waiting, Stamped}
 use Rattle.layout.proofs.RecordLaws.{RecordSized}
-use Rattle.layout.proofs.CellLaws.{Each}
+use Rattle.fields.proofs.CellLaws.{Each}
 use Rattle.layout.proofs.PageLaws.{noCell}
 use Rattle.store.specs.declared.Found.{Found}
 use Rattle.store.specs.declared.Found.the-variants.{At, Nothing}

@@ -8,7 +8,7 @@ use mathlib.Core.Path.{_≡_, refl}
 use lib.Dec.{eqb, ltb}
 use lib.ListN.{length, take, drop, getD}
 use borrow.Author.Tests.{eqb-true, eqb-false, ltb-true, ltb-false}
-use Rattle.layout.proofs.CellLaws.{Each}
+use Rattle.fields.proofs.CellLaws.{Each}
 
 -- ---- cases on numbers
 

@@ -5,10 +5,10 @@ use native.Mathlib.Omega.{arith}
 use mathlib.Core.List.{List, [], _∷_, _++_, append-assoc, append-nil}
 use mathlib.Core.Path.{_≡_, refl, ap, _∙_}
 use lib.ListN.{length, length-append}
-use Rattle.layout.specs.Block.{endPlace}
-use Rattle.layout.specs.Cells.{flat}
+use Rattle.fields.specs.Block.{endPlace}
+use Rattle.fields.specs.Cells.{flat}
 use Rattle.layout.specs.Journal.{Record, version, commit, recordSize, recordBytes}
-use Rattle.layout.proofs.CellLaws.{Each, each-append, each-map}
+use Rattle.fields.proofs.CellLaws.{Each, each-append, each-map}
 use Rattle.layout.proofs.RecordLaws.{RecordSized, length-recordBytes}
 use Rattle.layout.proofs.ParseLaws.{value-fits}
 use Rattle.store.specs.OpenLog.{Placed, placeFrom}

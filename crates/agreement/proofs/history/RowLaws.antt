@@ -11,7 +11,7 @@ use lib.Dec.{eqb}
 use lib.ListN.{length}
 use borrow.Author.Tests.{eq-eqb, ne-eqb}
 use Rattle.layout.specs.Journal.{Record, version, commit}
-use Rattle.layout.proofs.CellLaws.{Each}
+use Rattle.fields.proofs.CellLaws.{Each}
 use Rattle.store.specs.OpenLog.{Placed, numberIn}
 use Rattle.runs.specs.Book.{Row, committed, Version, versions, timeOf, lastTime, hasRow}
 use Rattle.runs.specs.Machine.{timeIn}

@@ -9,7 +9,7 @@ use lib.ListN.{length, take, drop, set, length-drop, length-take, List·getD-app
 use lib.Seq.{take-append-le, drop-append-le, take-suc, getD-drop, getD-take, ext-getD}
 use Rattle.layout.specs.Page.{pageBytes, pageEnd, pageUsed, pageSlot, putCell}
 use Rattle.layout.specs.Slot.{Cell, slotBytes}
-use Rattle.layout.proofs.CellLaws.{Each, each-at}
+use Rattle.fields.proofs.CellLaws.{Each, each-at}
 use Rattle.layout.proofs.SlotLaws.{SlotSized}
 use Rattle.layout.proofs.PageLaws.{noCell, length-pageBytes, end-pageBytes, used-pageBytes, slot-pageBytes, put-pageBytes}
 use Rattle.store.specs.OpenPairs.{waitsUnder}

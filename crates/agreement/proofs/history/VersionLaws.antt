@@ -10,7 +10,7 @@ use lib.Dec.{eqb}
 use lib.ListN.{length, List·getD-append}
 use borrow.Author.Tests.{eqb-true, eqb-false}
 use Rattle.layout.specs.Journal.{Record, version, commit, recordSize}
-use Rattle.layout.proofs.CellLaws.{Each, each-at, each-append, each-map}
+use Rattle.fields.proofs.CellLaws.{Each, each-at, each-append, each-map}
 use Rattle.store.specs.declared.Found.the-variants.{At, Nothing}
 use Rattle.store.specs.OpenLog.{Placed, placeFrom, numberIn}
 use Rattle.agreement.proofs.history.Ghost.{versionsOf, commitsOf, Sound, BlockSound, placeAll, records, LoggedVersion, asVersion, versionsIn, noVersion, at, newestOf, LoggedCommit, asCommit, commitsIn}

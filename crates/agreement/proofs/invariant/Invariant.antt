@@ -7,13 +7,13 @@ use mathlib.Core.List.{List, [], _∷_, _++_}
 use mathlib.Core.Logic.{_⊎_}
 use mathlib.Core.Path.{_≡_}
 use lib.ListN.{length, take, getD}
-use Rattle.layout.specs.Block.{blk, logBlockAt, pageBlockAt, mediumLength, cacheLength, endPlace}
+use Rattle.fields.specs.Block.{blk, logBlockAt, pageBlockAt, mediumLength, cacheLength, endPlace}
 use Rattle.layout.specs.Journal.{Record, logBytes, sequenceOf}
 use Rattle.layout.specs.Master.{masterBytes}
 use Rattle.layout.specs.Table.{tablePair}
 use Rattle.layout.specs.Slot.{Cell}
 use Rattle.layout.specs.declared.master.Fields.{Fields}
-use Rattle.layout.proofs.CellLaws.{Each}
+use Rattle.fields.proofs.CellLaws.{Each}
 use Rattle.store.specs.declared.Life.{Life}
 use Rattle.store.specs.declared.Life.the-variants.{Free, Active, Committed}
 use Rattle.store.specs.declared.Phase.{Phase}

@@ -10,16 +10,16 @@ use mathlib.Core.Path.{_≡_, refl, sym, ap, _∙_}
 use lib.ListN.{length, take, drop, getD, length-append, List·getD-append, length-take, length-drop}
 use lib.Seq.{take-all, take-suc}
 use borrow.Author.Tests.{eqb-true, eq-eqb}
-use Rattle.layout.proofs.CellLaws.{each-map, each-at, Each}
-use Rattle.layout.specs.Block.{blk, pageOf}
+use Rattle.fields.proofs.CellLaws.{each-map, each-at, Each}
+use Rattle.fields.specs.Block.{blk, pageOf}
 use Rattle.layout.specs.Page.{pageSlot}
-use Rattle.layout.specs.Field.{dec}
-use Rattle.layout.specs.Part.{part}
+use Rattle.fields.specs.Field.{dec}
+use Rattle.fields.specs.Part.{part}
 use Rattle.layout.specs.Journal.{Record, version, commit, recordForm}
 use Rattle.layout.specs.Master.{masterBytes, oldestOn}
 use Rattle.layout.specs.Slot.{kindForm, codeOf, sharedField, cellOf, slotState, stateOf, Cell}
-use Rattle.layout.proofs.BlockLaws.{part-blk}
-use Rattle.layout.proofs.FieldLaws.{Bytes}
+use Rattle.fields.proofs.BlockLaws.{part-blk}
+use Rattle.fields.proofs.FieldLaws.{Bytes}
 use Rattle.layout.proofs.MasterLaws.{FieldsSized, MasterParts, master-parts, master-back, oldestOn-is}
 use Rattle.layout.proofs.PageLaws.{noCell, free-pageBytes}
 use Rattle.layout.proofs.CacheLaws.{cache-slot}

@@ -7,9 +7,9 @@ use mathlib.Core.Logic.{_⊎_, inl, inr, _≢_}
 use mathlib.Core.Path.{_≡_, sym, ap, _∙_}
 use lib.ListN.{length, take, drop, length-append, take-append-drop}
 use lib.Seq.{getD-append-add}
-use Rattle.layout.specs.Block.{endPlace}
+use Rattle.fields.specs.Block.{endPlace}
 use Rattle.layout.specs.Journal.{Record}
-use Rattle.layout.proofs.CellLaws.{each-at, each-map, Each}
+use Rattle.fields.proofs.CellLaws.{each-at, each-map, Each}
 use Rattle.store.specs.OpenLog.{Placed, placeFrom}
 use Rattle.agreement.proofs.invariant.MediumFacts.{times-low, commits-split, find-stored, versions-split}
 use Rattle.agreement.proofs.history.Ghost.{versionsOf, commitsOf, sizeOf, BlockSound, noVersion, records, LoggedVersion, versionsIn, at, LoggedCommit, commitsIn, find, Disk}

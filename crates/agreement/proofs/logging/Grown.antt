@@ -11,7 +11,7 @@ use Rattle.layout.specs.Journal.{Record, version, commit}
 use Rattle.layout.specs.Slot.{Cell}
 use Rattle.layout.specs.declared.item.VersionHead.{VersionHead}
 use Rattle.layout.specs.declared.item.Pair.{Pair}
-use Rattle.layout.proofs.CellLaws.{Each, each-append}
+use Rattle.fields.proofs.CellLaws.{Each, each-append}
 use Rattle.layout.proofs.PageLaws.{noCell}
 use Rattle.store.specs.Write.{orNone}
 use Rattle.store.specs.OpenLog.{Placed, numberIn}

@@ -11,19 +11,19 @@ use lib.Dec.{ltb}
 use lib.ListN.{length, take, getD, length-append, List·getD-append}
 use lib.Seq.{getD-append-seam}
 use borrow.Author.Tests.{leb-true, ltb-true}
-use Rattle.layout.specs.Block.{blk, put, logBlockAt, pageBlockAt, endPlace}
-use Rattle.layout.specs.Part.{part}
-use Rattle.layout.specs.Equal.{eqList}
+use Rattle.fields.specs.Block.{blk, put, logBlockAt, pageBlockAt, endPlace}
+use Rattle.fields.specs.Part.{part}
+use Rattle.fields.specs.Equal.{eqList}
 use Rattle.layout.specs.Journal.{Record, recordSize, logBytes, sequenceOf, usedOf, addRecord, emptyBlock}
 use Rattle.layout.specs.Table.{tablePair}
 use Rattle.layout.specs.declared.item.Pair.{Pair}
-use Rattle.layout.proofs.CellLaws.{Each, each-append}
-use Rattle.layout.proofs.BlockLaws.{length-put, blk-same, blk-other}
-use Rattle.layout.proofs.PartLaws.{part-part}
-use Rattle.layout.proofs.EqualLaws.{eq-true, eq-refl}
+use Rattle.fields.proofs.CellLaws.{Each, each-append}
+use Rattle.fields.proofs.BlockLaws.{length-put, blk-same, blk-other}
+use Rattle.fields.proofs.PartLaws.{part-part}
+use Rattle.fields.proofs.EqualLaws.{eq-true, eq-refl}
 use Rattle.layout.proofs.JournalLaws.{addRecord-is}
 use Rattle.layout.proofs.ParseLaws.{value-fits}
-use Rattle.layout.proofs.Choose.{and-0, and-1}
+use Rattle.fields.proofs.Choose.{and-0, and-1}
 use Rattle.layout.specs.Master.{oldestOn}
 use Rattle.layout.proofs.PlaceLaws.{log-blocks-apart, log-page-apart, log-not-first}
 use Rattle.layout.proofs.TableLaws.{tablePair-other}

@@ -9,13 +9,13 @@ use mathlib.Core.Path.{_≡_, refl, sym, ap, _∙_, subst}
 use lib.Dec.{eqb}
 use lib.ListN.{length, take, getD, length-append, List·getD-append}
 use lib.Seq.{getD-append-seam, take-append-le}
-use Rattle.layout.specs.Block.{logBlockAt, endPlace}
-use Rattle.layout.specs.Cells.{flat}
+use Rattle.fields.specs.Block.{logBlockAt, endPlace}
+use Rattle.fields.specs.Cells.{flat}
 use Rattle.layout.specs.Journal.{Record, version, commit, recordSize, recordBytes, logBytes, sequenceOf, usedOf}
 use Rattle.layout.specs.Slot.{Cell}
 use Rattle.layout.specs.declared.item.VersionHead.{VersionHead}
 use Rattle.layout.specs.declared.item.Pair.{Pair}
-use Rattle.layout.proofs.CellLaws.{Each, each-append}
+use Rattle.fields.proofs.CellLaws.{Each, each-append}
 use Rattle.layout.proofs.JournalLaws.{length-logBytes, sequence-logBytes, used-logBytes}
 use Rattle.layout.proofs.PlaceLaws.{log-in-medium}
 use Rattle.store.specs.declared.State.{State}

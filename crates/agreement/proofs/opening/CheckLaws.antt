@@ -8,10 +8,10 @@ use mathlib.Core.Logic.{_⊎_, inl, inr, _≢_}
 use mathlib.Core.Path.{_≡_, refl}
 use lib.Dec.{eqb}
 use borrow.Author.Tests.{eq-eqb, ne-eqb}
-use Rattle.layout.specs.Block.{logBlockAt, pageBlockAt}
+use Rattle.fields.specs.Block.{logBlockAt, pageBlockAt}
 use Rattle.layout.specs.Journal.{Record}
 use Rattle.layout.specs.Master.{oldestOn}
-use Rattle.layout.proofs.CellLaws.{Each}
+use Rattle.fields.proofs.CellLaws.{Each}
 use Rattle.store.specs.OpenLog.{Placed, readCount}
 use Rattle.store.specs.OpenConditions.{Checks, holds, each, eachList, tableBlockOf, tableChecks, logChecks, blockChecks, pageChecks}
 use Rattle.agreement.proofs.history.ListLaws.{same?}

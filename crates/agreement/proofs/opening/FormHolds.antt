@@ -11,12 +11,12 @@ use lib.Dec.{eqb, leb, ltb}
 use lib.ListN.{length, take, drop, getD, length-take}
 use lib.Seq.{drop-cons}
 use borrow.Author.Tests.{eq-eqb, ne-eqb, le-leb, lt-ltb}
-use Rattle.layout.specs.Block.{blk, pageBlockAt}
+use Rattle.fields.specs.Block.{blk, pageBlockAt}
 use Rattle.layout.specs.Journal.{Record, version, commit, recordSize, recordForm, Parsed, parsed, usedForm}
 use Rattle.layout.specs.Master.{masterOf, oldestOn}
 use Rattle.layout.specs.Page.{pageForm, pageEnd}
 use Rattle.layout.specs.Table.{tablePair, pairForm}
-use Rattle.layout.proofs.CellLaws.{Each, each-at}
+use Rattle.fields.proofs.CellLaws.{Each, each-at}
 use Rattle.layout.proofs.JournalLaws.{parsed-logBytes, usedForm-logBytes}
 use Rattle.layout.proofs.MasterLaws.{master-back}
 use Rattle.layout.proofs.PageLaws.{form-pageBytes}

@@ -9,11 +9,11 @@ use mathlib.Core.Path.{_≡_, refl, sym, ap, _∙_}
 use lib.Dec.{eqb, leb, ltb}
 use lib.ListN.{length}
 use borrow.Author.Tests.{eqb-true, eq-eqb, ne-eqb, le-leb, lt-ltb}
-use Rattle.layout.specs.Block.{blk}
+use Rattle.fields.specs.Block.{blk}
 use Rattle.layout.specs.Page.{pageUsed}
 use Rattle.layout.specs.Slot.{Cell}
 use Rattle.layout.specs.Table.{tablePair}
-use Rattle.layout.proofs.CellLaws.{each-at}
+use Rattle.fields.proofs.CellLaws.{each-at}
 use Rattle.store.specs.declared.Timing.{Timing}
 use Rattle.store.specs.declared.Timing.the-variants.{Timed, Untimed}
 use Rattle.store.specs.Chain.{cellAt, isVersion, versionOf, versionTime, newest}

@@ -10,8 +10,8 @@ use lib.Dec.{eqb}
 use lib.ListN.{take}
 use borrow.Author.Tests.{eqb-true, eqb-false}
 use Rattle.layout.specs.Table.{tablePair}
-use Rattle.layout.proofs.CellLaws.{Each}
-use Rattle.layout.proofs.Choose.{and-0, and-1}
+use Rattle.fields.proofs.CellLaws.{Each}
+use Rattle.fields.proofs.Choose.{and-0, and-1}
 use Rattle.store.specs.declared.Found.{Found}
 use Rattle.store.specs.declared.Found.the-variants.{At, Nothing}
 use Rattle.store.specs.Chain.{isTimed}

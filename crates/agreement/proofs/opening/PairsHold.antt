@@ -13,7 +13,7 @@ use borrow.Author.Tests.{eqb-true, eq-eqb, ne-eqb, le-leb, lt-ltb}
 use Rattle.layout.specs.Journal.{Record, version, commit}
 use Rattle.layout.specs.Slot.{Cell}
 use Rattle.layout.specs.Table.{tablePair}
-use Rattle.layout.proofs.CellLaws.{Each, each-map}
+use Rattle.fields.proofs.CellLaws.{Each, each-map}
 use Rattle.store.specs.declared.Found.{Found}
 use Rattle.store.specs.declared.Found.the-variants.{At, Nothing}
 use Rattle.store.specs.declared.Timing.the-variants.{Timed, Untimed}

@@ -6,7 +6,7 @@ use mathlib.Core.List.{List, []}
 use mathlib.Core.Logic.{_⊎_, inl, inr}
 use mathlib.Core.Path.{_≡_, refl, sym, _∙_}
 use lib.ListN.{length, getD}
-use Rattle.layout.proofs.CellLaws.{Each, each-at, each-map}
+use Rattle.fields.proofs.CellLaws.{Each, each-at, each-map}
 use Rattle.store.specs.declared.Life.{Life}
 use Rattle.store.specs.declared.Life.the-variants.{Free, Active, Committed}
 use Rattle.store.specs.Places.{placeAt}

@@ -12,10 +12,10 @@ use lib.Dec.{eqb}
 use lib.ListN.{length, take, drop, getD, length-append, length-drop, take-append-drop, drop-of-length-le}
 use lib.Seq.{drop-cons, length-take-le, take-all, getD-append-seam}
 use borrow.Author.Tests.{eq-eqb, ne-eqb}
-use Rattle.layout.specs.Block.{logBlockAt, endPlace}
-use Rattle.layout.specs.Cells.{flat}
+use Rattle.fields.specs.Block.{logBlockAt, endPlace}
+use Rattle.fields.specs.Cells.{flat}
 use Rattle.layout.specs.Journal.{Record, Parsed, logBytes, recordBytes, sequenceOf, parsed, emptyBlock}
-use Rattle.layout.proofs.CellLaws.{Each, each-at, each-map, each-append}
+use Rattle.fields.proofs.CellLaws.{Each, each-at, each-map, each-append}
 use Rattle.layout.proofs.JournalLaws.{sequence-logBytes, used-logBytes, parsed-logBytes}
 use Rattle.store.specs.OpenLog.{Placed, placeFrom, numberIn, blockOf, matching, loggedFrom, readCount, readLog, tailAfter, readTail, logEnd, aboveAll, nextNumber, lastTime, commitUnder}
 use Rattle.store.specs.OpenPairs.{timeOfCommitment, endOfCommitment, timeOrZero}

@@ -12,7 +12,7 @@ use lib.ListN.{length, take, getD}
 use lib.Seq.{take-suc, take-length, length-take-le}
 use borrow.Author.Tests.{eqb-true, eqb-false}
 use Rattle.layout.specs.Journal.{Record, version, commit}
-use Rattle.layout.proofs.CellLaws.{Each, each-map}
+use Rattle.fields.proofs.CellLaws.{Each, each-map}
 use Rattle.store.specs.OpenLog.{Placed, numberIn, commitUnder, commitIn, orElse, Commitment, aboveAll, latest, timeIn}
 use Rattle.store.specs.OpenPairs.{timeOfCommitment, endOfCommitment, timeOrZero}
 use Rattle.agreement.proofs.history.CommitLaws.{timed}

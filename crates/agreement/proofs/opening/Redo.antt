@@ -12,13 +12,13 @@ use lib.Dec.{eqb, ltb}
 use lib.ListN.{length, take, drop, getD, length-append, length-drop, List·getD-append, length-replicate, getD-replicate, List·getD-eq-default, replicate}
 use lib.Seq.{drop-cons, drop-append-seam, getD-append-add}
 use borrow.Author.Tests.{lt-ltb, le-ltb, eq-eqb}
-use Rattle.layout.specs.Block.{blk, pageOf, pageBlockAt, cacheLength, mediumLength}
+use Rattle.fields.specs.Block.{blk, pageOf, pageBlockAt, cacheLength, mediumLength}
 use Rattle.layout.specs.Page.{pageEnd, pageUsed, putVersion}
 use Rattle.layout.specs.Slot.{Cell}
 use Rattle.layout.specs.Journal.{Record, version, commit}
-use Rattle.layout.proofs.CellLaws.{each-at}
+use Rattle.fields.proofs.CellLaws.{each-at}
 use Rattle.layout.proofs.CacheLaws.{length-putVersion}
-use Rattle.layout.proofs.PartLaws.{length-part, part-part}
+use Rattle.fields.proofs.PartLaws.{length-part, part-part}
 use Rattle.store.specs.Write.{cellFor, touched}
 use Rattle.store.specs.OpenLog.{Placed, readLog}
 use Rattle.store.specs.OpenRedo.{Redone, pagesOn, applies, redoIf, redoRecord, redo, redoOne, nextInPage, redoChecks, usedIn, untouched}

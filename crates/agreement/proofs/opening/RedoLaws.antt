@@ -10,10 +10,10 @@ use lib.Dec.{eqb}
 use lib.ListN.{length, getD, set, length-set}
 use lib.Seq.{getD-set-same, getD-set-other}
 use borrow.Author.Tests.{eqb-true, eqb-false}
-use Rattle.layout.specs.Block.{blk, cacheLength, pageOf}
+use Rattle.fields.specs.Block.{blk, cacheLength, pageOf}
 use Rattle.layout.specs.Page.{putVersion}
 use Rattle.layout.specs.Slot.{Cell}
-use Rattle.layout.proofs.CellLaws.{Each}
+use Rattle.fields.proofs.CellLaws.{Each}
 use Rattle.layout.proofs.SlotLaws.{SlotSized}
 use Rattle.layout.proofs.CacheLaws.{putVersion-page, putVersion-beside}
 use Rattle.store.specs.Write.{touched}

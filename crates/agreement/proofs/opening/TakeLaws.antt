@@ -12,7 +12,7 @@ use lib.Dec.{eqb, ltb}
 use lib.ListN.{length, getD, set, length-set}
 use borrow.Author.Tests.{lt-ltb, le-ltb, ltb-true, ltb-false, eqb-true, eqb-false}
 use Rattle.layout.specs.Slot.{Cell}
-use Rattle.layout.proofs.CellLaws.{Each, each-map}
+use Rattle.fields.proofs.CellLaws.{Each, each-map}
 use Rattle.store.specs.declared.Found.{Found}
 use Rattle.store.specs.declared.Found.the-variants.{At, Nothing}
 use Rattle.store.specs.declared.Life.{Life}

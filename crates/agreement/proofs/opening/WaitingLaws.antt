@@ -12,8 +12,8 @@ use lib.ListN.{length, getD}
 use borrow.Author.Tests.{ltb-true, ltb-false, eqb-true, eqb-false, eq-eqb}
 use Rattle.layout.specs.declared.slot.Slot.{Slot}
 use Rattle.layout.specs.declared.slot.Slot.the-variants.{Empty, Waiting, Stamped}
-use Rattle.layout.proofs.CellLaws.{Each, each-map, each-at}
-use Rattle.layout.proofs.Choose.{cond-elim}
+use Rattle.fields.proofs.CellLaws.{Each, each-map, each-at}
+use Rattle.fields.proofs.Choose.{cond-elim}
 use Rattle.store.specs.Chain.{cellAt}
 use Rattle.store.specs.OpenPairs.{waitsUnder, countWaiting, insert, insertIf, withWaiting, waitingNumbers}
 use Rattle.agreement.proofs.history.ListLaws.{split}

@@ -8,7 +8,7 @@ use mathlib.Core.Option.{none}
 use mathlib.Core.Path.{_≡_, refl, sym, ap, _∙_, subst}
 use lib.Dec.{eqb}
 use borrow.Author.Tests.{eqb-true, ne-eqb}
-use Rattle.layout.proofs.Choose.{and-0, and-1}
+use Rattle.fields.proofs.Choose.{and-0, and-1}
 use Rattle.runs.specs.Moments.{begins, Run, worldAfter, bookAt, seenAt, traceAt, Among, anySeen}
 use Rattle.runs.specs.Event.{Call, Event, opening, cut, call, begin, write, erase, current-read, commit, abort, as-of, changes, store-log, store-page, checkpoint, Observation}
 use Rattle.runs.specs.Book.{Row, committed, Opened, Book, timeOf, hasRow, isOpen, close, add, fall, entered, feed}

@@ -9,7 +9,7 @@ use mathlib.Core.Option.{Option, none, some}
 use mathlib.Core.Path.{_≡_, refl, _∙_, subst}
 use lib.Dec.{eqb, leb, ltb}
 use borrow.Author.Tests.{eqb-true, ltb-true, ltb-false}
-use Rattle.layout.proofs.Choose.{and-0, and-1}
+use Rattle.fields.proofs.Choose.{and-0, and-1}
 use Rattle.runs.specs.Event.{Event, call, current-read, as-of, changes, Strip, missing, Observation}
 use Rattle.runs.specs.Book.{Version, Row, version, committed, Book, blank, versions, timeOf, add, fall, stripOf, isSome, currentOf, Dated, laterOf, datedOf, bestBelow, lastBelow, stripAt, asOf, differs, linesAt, linesBelow, linesOf, Fits}
 use Rattle.runs.specs.Machine.{formatted}

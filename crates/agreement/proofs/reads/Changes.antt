@@ -8,14 +8,14 @@ use mathlib.Core.Option.{Option}
 use mathlib.Core.Path.{_≡_, refl, ap, _∙_}
 use lib.Dec.{eqb, ltb}
 use lib.ListN.{length, drop, length-append, length-replicate}
-use Rattle.layout.specs.Field.{enc}
-use Rattle.layout.specs.Part.{splice}
-use Rattle.layout.specs.Equal.{eqList}
-use Rattle.layout.specs.Block.{zeros}
-use Rattle.layout.specs.Cells.{flat}
+use Rattle.fields.specs.Field.{enc}
+use Rattle.fields.specs.Part.{splice}
+use Rattle.fields.specs.Equal.{eqList}
+use Rattle.fields.specs.Block.{zeros}
+use Rattle.fields.specs.Cells.{flat}
 use Rattle.layout.specs.Journal.{Record}
-use Rattle.layout.proofs.FieldLaws.{length-enc}
-use Rattle.layout.proofs.PartLaws.{splice-is}
+use Rattle.fields.proofs.FieldLaws.{length-enc}
+use Rattle.fields.proofs.PartLaws.{splice-is}
 use Rattle.store.specs.declared.Best.{Best}
 use Rattle.store.specs.declared.State.{State}
 use Rattle.store.specs.Places.{timeUnder}

@@ -10,7 +10,7 @@ use lib.Dec.{eqb}
 use lib.ListN.{length, take}
 use Rattle.layout.specs.Journal.{Record}
 use Rattle.layout.specs.Slot.{Cell}
-use Rattle.layout.specs.Block.{zeros}
+use Rattle.fields.specs.Block.{zeros}
 use Rattle.store.proofs.ChainLaws.{unless-some}
 use Rattle.store.specs.declared.Found.{Found}
 use Rattle.store.specs.declared.Found.the-variants.{At, Nothing}

@@ -10,11 +10,11 @@ use lib.Dec.{eqb}
 use lib.ListN.{length, take, getD, length-take, length-append}
 use lib.Seq.{getD-take}
 use borrow.Author.Tests.{eqb-false, ne-eqb}
-use Rattle.layout.specs.Block.{logBlockAt, pageBlockAt, put}
+use Rattle.fields.specs.Block.{logBlockAt, pageBlockAt, put}
 use Rattle.layout.specs.Journal.{sequenceOf, Record}
-use Rattle.layout.proofs.BlockLaws.{length-put, blk-same, blk-other}
+use Rattle.fields.proofs.BlockLaws.{length-put, blk-same, blk-other}
 use Rattle.layout.proofs.MasterLaws.{length-masterBytes}
-use Rattle.layout.proofs.CellLaws.{each-append, each-map}
+use Rattle.fields.proofs.CellLaws.{each-append, each-map}
 use Rattle.layout.specs.Master.{masterBytes}
 use Rattle.layout.proofs.PlaceLaws.{log-not-first, page-not-first, first-in-medium}
 use Rattle.layout.specs.Table.{tablePair}

@@ -11,9 +11,9 @@ use lib.Dec.{leb}
 use lib.ListN.{length, take, drop, getD, set, length-set, length-take, length-drop, List·getD-eq-default}
 use lib.Seq.{getD-take, getD-drop, ext-getD, getD-set-same, getD-set-other}
 use borrow.Author.Tests.{eq-eqb, leb-true}
-use Rattle.layout.specs.Block.{blk}
-use Rattle.layout.specs.Field.{dec}
-use Rattle.layout.specs.Part.{part}
+use Rattle.fields.specs.Block.{blk}
+use Rattle.fields.specs.Field.{dec}
+use Rattle.fields.specs.Part.{part}
 use Rattle.layout.specs.Journal.{Record}
 use Rattle.layout.specs.Page.{pageBytes, pageSlot, stampCell}
 use Rattle.layout.specs.Slot.{Cell, slotState, cellOf, stateOf, codeOf, sharedField}
@@ -21,7 +21,7 @@ use Rattle.layout.specs.declared.TxNumber.{TxNumber}
 use Rattle.layout.specs.declared.CommitTime.{CommitTime}
 use Rattle.layout.specs.declared.slot.Slot.{Slot}
 use Rattle.layout.specs.declared.slot.Slot.the-variants.{Empty, Waiting, Stamped}
-use Rattle.layout.proofs.CellLaws.{Each, each-at}
+use Rattle.fields.proofs.CellLaws.{Each, each-at}
 use Rattle.layout.proofs.PageLaws.{noCell, free-pageBytes, stamp-pageBytes}
 use Rattle.layout.proofs.SlotLaws.{SlotSized, cellStamped, cell-slotBytes}
 use Rattle.store.specs.declared.Found.{Found}

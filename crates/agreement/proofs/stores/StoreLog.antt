@@ -6,8 +6,8 @@ use mathlib.Core.List.{List, [], _∷_, _++_}
 use mathlib.Core.Path.{_≡_, sym, ap, _∙_, subst}
 use lib.ListN.{length}
 use lib.Seq.{take-all}
-use Rattle.layout.specs.Block.{put, logBlockAt, endPlace}
-use Rattle.layout.specs.Cells.{flat}
+use Rattle.fields.specs.Block.{put, logBlockAt, endPlace}
+use Rattle.fields.specs.Cells.{flat}
 use Rattle.layout.specs.Journal.{Record, logBytes, usedOf, recordBytes}
 use Rattle.layout.specs.Table.{tablePair}
 use Rattle.layout.proofs.JournalLaws.{used-logBytes}

@@ -11,12 +11,12 @@ use lib.Dec.{eqb}
 use lib.ListN.{length, getD, set, length-set}
 use lib.Seq.{getD-set-same, getD-set-other}
 use borrow.Author.Tests.{eq-eqb, ne-eqb, ltb-true, leb-true}
-use Rattle.layout.specs.Block.{blk, put, logBlockAt, pageBlockAt, mediumLength, cacheLength}
+use Rattle.fields.specs.Block.{blk, put, logBlockAt, pageBlockAt, mediumLength, cacheLength}
 use Rattle.layout.specs.Journal.{Record}
 use Rattle.layout.specs.Page.{pageEnd}
 use Rattle.layout.specs.Table.{tablePair}
-use Rattle.layout.proofs.BlockLaws.{length-put, blk-same, blk-other}
-use Rattle.layout.proofs.CellLaws.{Each}
+use Rattle.fields.proofs.BlockLaws.{length-put, blk-same, blk-other}
+use Rattle.fields.proofs.CellLaws.{Each}
 use Rattle.layout.proofs.PlaceLaws.{log-page-apart, page-blocks-apart, page-block-low}
 use Rattle.layout.proofs.SlotLaws.{SlotSized}
 use Rattle.layout.proofs.TableLaws.{tablePair-other}

@@ -10,9 +10,9 @@ use mathlib.Core.Path.{_≡_, refl, sym, ap, _∙_}
 use lib.Dec.{leb}
 use lib.ListN.{length, getD}
 use borrow.Author.Tests.{leb-true, leb-false}
-use Rattle.layout.specs.Block.{logBlockAt, pageBlockAt, put}
+use Rattle.fields.specs.Block.{logBlockAt, pageBlockAt, put}
 use Rattle.layout.specs.Journal.{Record}
-use Rattle.layout.proofs.BlockLaws.{length-put, blk-other}
+use Rattle.fields.proofs.BlockLaws.{length-put, blk-other}
 use Rattle.layout.proofs.PlaceLaws.{log-not-first, page-not-first, first-in-medium}
 use Rattle.layout.specs.Table.{tablePair}
 use Rattle.layout.specs.declared.item.Pair.{Pair}

@@ -10,7 +10,7 @@ use lib.Dec.{eqb}
 use lib.ListN.{length, set}
 use borrow.Author.Tests.{eqb-true, eq-eqb, ne-eqb, ltb-true}
 use Rattle.layout.specs.Journal.{Record}
-use Rattle.layout.proofs.CellLaws.{Each, each-at, each-map}
+use Rattle.fields.proofs.CellLaws.{Each, each-at, each-map}
 use Rattle.store.specs.declared.Life.the-variants.{Active}
 use Rattle.store.specs.declared.Place.{Place}
 use Rattle.store.specs.declared.Found.the-variants.{At}

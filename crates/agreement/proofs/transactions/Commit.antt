@@ -12,7 +12,7 @@ use lib.ListN.{length, set}
 use borrow.Author.Tests.{eqb-true, eqb-false, ltb-true}
 use Rattle.layout.specs.Journal.{Record, commit, recordForm, recordSize}
 use Rattle.layout.specs.declared.CommitTime.{CommitTime}
-use Rattle.layout.proofs.CellLaws.{each-append}
+use Rattle.fields.proofs.CellLaws.{each-append}
 use Rattle.store.specs.declared.Place.{Place}
 use Rattle.store.specs.Tail.{Logged, logged, mayLog, tailEnd}
 use Rattle.store.specs.OpenLog.{Placed, numberIn}

@@ -9,13 +9,13 @@ use mathlib.Core.Path.{_≡_, refl, sym, ap, _∙_, subst}
 use lib.ListN.{length, set, length-append, List·getD-append}
 use lib.Seq.{getD-append-seam}
 use borrow.Author.Tests.{ltb-true}
-use Rattle.layout.specs.Block.{pageOf}
+use Rattle.fields.specs.Block.{pageOf}
 use Rattle.layout.specs.Page.{putVersion}
 use Rattle.layout.specs.Slot.{Cell, kindForm}
 use Rattle.layout.specs.Journal.{Record, recordForm, recordSize, sequenceOf, version as versionRecord}
 use Rattle.layout.specs.declared.item.VersionHead.{VersionHead}
-use Rattle.layout.proofs.FieldLaws.{Bytes}
-use Rattle.layout.proofs.CellLaws.{each-append}
+use Rattle.fields.proofs.FieldLaws.{Bytes}
+use Rattle.fields.proofs.CellLaws.{each-append}
 use Rattle.layout.proofs.JournalLaws.{sequence-logBytes}
 use Rattle.store.specs.declared.Place.{Place}
 use Rattle.store.specs.Tail.{Logged, logged, tailEnd}

@@ -11,12 +11,12 @@ use lib.Dec.{eqb}
 use lib.ListN.{length, getD, length-append, List·getD-append}
 use lib.Seq.{getD-append-seam}
 use borrow.Author.Tests.{eq-eqb, ne-eqb, eqb-true}
-use Rattle.layout.specs.Block.{pageOf}
+use Rattle.fields.specs.Block.{pageOf}
 use Rattle.layout.specs.Page.{putVersion}
 use Rattle.layout.specs.Journal.{Record}
 use Rattle.layout.specs.Slot.{Cell}
 use Rattle.layout.proofs.CacheLaws.{length-putVersion}
-use Rattle.layout.proofs.CellLaws.{Each}
+use Rattle.fields.proofs.CellLaws.{Each}
 use Rattle.layout.proofs.PageLaws.{noCell}
 use Rattle.layout.proofs.SlotLaws.{SlotSized}
 use Rattle.store.specs.declared.Found.{Found}

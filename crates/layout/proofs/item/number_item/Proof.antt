@@ -7,7 +7,7 @@ use Rattle.layout.proofs.item.number_item.Statement.{statement}
 use Rattle.layout.proofs.item.number_item.Tie as tie
 use Rattle.layout.proofs.item.number_item.Reads as reads
 use Rattle.layout.proofs.item.number_item.Lts as lts
-use Rattle.layout.proofs.field.get.Reads as get-reads
+use Rattle.fields.proofs.field.get.Reads as get-reads
 
 returns : tie.Need-returns
 unfolding numberItem

@@ -10,7 +10,7 @@ use Rattle.layout.proofs.item.read.Statement.{statement}
 use Rattle.layout.proofs.item.read.Tie as tie
 use Rattle.layout.proofs.item.read.Reads as reads
 use Rattle.layout.proofs.item.read.Lts as lts
-use Rattle.layout.proofs.field.get2.Reads as get2-reads
+use Rattle.fields.proofs.field.get2.Reads as get2-reads
 use Rattle.layout.proofs.item.commit_item.Reads as commit-item-reads
 use Rattle.layout.proofs.item.number_item.Reads as number-item-reads
 use Rattle.layout.proofs.item.version_item.Reads as version-item-reads

@@ -5,8 +5,8 @@ use Rattle.layout.proofs.item.version_head.Statement.{statement}
 use Rattle.layout.proofs.item.version_head.Tie as tie
 use Rattle.layout.proofs.item.version_head.Reads as reads
 use Rattle.layout.proofs.item.version_head.Lts as lts
-use Rattle.layout.proofs.field.get2.Reads as get2-reads
-use Rattle.layout.proofs.field.get8.Reads as get8-reads
+use Rattle.fields.proofs.field.get2.Reads as get2-reads
+use Rattle.fields.proofs.field.get8.Reads as get8-reads
 
 get2-requires : tie.Need-get2-requires
 get2-requires c κs = search needs

@@ -1,15 +1,15 @@
 -- `journal::begin` meets its contract: zeros, and then the two fields of an empty block.
 use mathlib.Core.Path.{ap, _∙_}
-use Rattle.layout.specs.Block.{zeros}
+use Rattle.fields.specs.Block.{zeros}
 use Rattle.layout.proofs.RecordLaws.{begin-is}
 use borrow.Author.Needs.{needs}
 use Rattle.layout.proofs.journal.begin.Statement.{statement}
 use Rattle.layout.proofs.journal.begin.Tie as tie
 use Rattle.layout.proofs.journal.begin.Reads as reads
 use Rattle.layout.proofs.journal.begin.Lts as lts
-use Rattle.layout.proofs.block.clear.Reads as clear-reads
-use Rattle.layout.proofs.field.put2.Reads as put2-reads
-use Rattle.layout.proofs.field.put8.Reads as put8-reads
+use Rattle.fields.proofs.block.clear.Reads as clear-reads
+use Rattle.fields.proofs.field.put2.Reads as put2-reads
+use Rattle.fields.proofs.field.put8.Reads as put8-reads
 
 clear-requires : tie.Need-clear-requires
 clear-requires c κs = search needs

@@ -1,13 +1,13 @@
 -- `journal::in_form` meets its contract: the code asks what `usedForm` asks, in the same order.
 use borrow.Author.Tests.{le-leb, lt-leb}
 use Rattle.layout.specs.Journal.{usedForm}
-use Rattle.layout.proofs.PartLaws.{lent-rest}
+use Rattle.fields.proofs.PartLaws.{lent-rest}
 use borrow.Author.Needs.{needs}
 use Rattle.layout.proofs.journal.in_form.Statement.{statement}
 use Rattle.layout.proofs.journal.in_form.Tie as tie
 use Rattle.layout.proofs.journal.in_form.Reads as reads
 use Rattle.layout.proofs.journal.in_form.Lts as lts
-use Rattle.layout.proofs.block.all_zero.Reads as all-zero-reads
+use Rattle.fields.proofs.block.all_zero.Reads as all-zero-reads
 use Rattle.layout.proofs.journal.used.Reads as used-reads
 
 used-requires : tie.Need-used-requires

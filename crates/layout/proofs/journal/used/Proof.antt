@@ -5,7 +5,7 @@ use Rattle.layout.proofs.journal.used.Statement.{statement}
 use Rattle.layout.proofs.journal.used.Tie as tie
 use Rattle.layout.proofs.journal.used.Reads as reads
 use Rattle.layout.proofs.journal.used.Lts as lts
-use Rattle.layout.proofs.field.get2.Reads as get2-reads
+use Rattle.fields.proofs.field.get2.Reads as get2-reads
 
 get2-requires : tie.Need-get2-requires
 get2-requires c κs = search needs

@@ -6,7 +6,7 @@ use Rattle.layout.proofs.journal.write_commit.Statement.{statement}
 use Rattle.layout.proofs.journal.write_commit.Tie as tie
 use Rattle.layout.proofs.journal.write_commit.Reads as reads
 use Rattle.layout.proofs.journal.write_commit.Lts as lts
-use Rattle.layout.proofs.field.put8.Reads as put8-reads
+use Rattle.fields.proofs.field.put8.Reads as put8-reads
 
 put8-requires : tie.Need-put8-requires
 put8-requires c κs = search needs

@@ -2,15 +2,15 @@
 use mathlib.Core.Path.{_∙_}
 use native.Mathlib.Omega.{arith}
 use lib.ListN.{length-set}
-use Rattle.layout.proofs.FieldLaws.{length-enc}
+use Rattle.fields.proofs.FieldLaws.{length-enc}
 use Rattle.layout.proofs.RecordLaws.{item-written}
 use borrow.Author.Needs.{needs}
 use Rattle.layout.proofs.master.put_long.Statement.{statement}
 use Rattle.layout.proofs.master.put_long.Tie as tie
 use Rattle.layout.proofs.master.put_long.Reads as reads
 use Rattle.layout.proofs.master.put_long.Lts as lts
-use Rattle.layout.proofs.field.put2.Reads as put2-reads
-use Rattle.layout.proofs.field.put8.Reads as put8-reads
+use Rattle.fields.proofs.field.put2.Reads as put2-reads
+use Rattle.fields.proofs.field.put8.Reads as put8-reads
 
 slice-write-block : tie.Need-slice-write-block
 slice-write-block c = search needs

@@ -2,14 +2,14 @@
 use mathlib.Core.Path.{_∙_}
 use native.Mathlib.Omega.{arith}
 use lib.ListN.{length-set}
-use Rattle.layout.proofs.FieldLaws.{length-enc}
+use Rattle.fields.proofs.FieldLaws.{length-enc}
 use Rattle.layout.proofs.RecordLaws.{item-written}
 use borrow.Author.Needs.{needs}
 use Rattle.layout.proofs.master.put_short.Statement.{statement}
 use Rattle.layout.proofs.master.put_short.Tie as tie
 use Rattle.layout.proofs.master.put_short.Reads as reads
 use Rattle.layout.proofs.master.put_short.Lts as lts
-use Rattle.layout.proofs.field.put2.Reads as put2-reads
+use Rattle.fields.proofs.field.put2.Reads as put2-reads
 
 slice-write-block : tie.Need-slice-write-block
 slice-write-block c = search needs

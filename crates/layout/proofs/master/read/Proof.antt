@@ -5,7 +5,7 @@ use Prim.Native.Nat.{ℕ}
 use mathlib.Core.List.{List}
 use lib.ListN.{drop}
 use borrow.Author.Tests.{not-true, not-false}
-use Rattle.layout.specs.Equal.{allZero}
+use Rattle.fields.specs.Equal.{allZero}
 use Rattle.layout.specs.Master.{fieldOf, masterOf}
 use Rattle.layout.specs.declared.master.Value.the-variants.{Of}
 use Rattle.layout.proofs.MasterLaws.{rest-field, rest-zero}
@@ -14,7 +14,7 @@ use Rattle.layout.proofs.master.read.Statement.{statement}
 use Rattle.layout.proofs.master.read.Tie as tie
 use Rattle.layout.proofs.master.read.Reads as reads
 use Rattle.layout.proofs.master.read.Lts as lts
-use Rattle.layout.proofs.block.all_zero.Reads as all-zero-reads
+use Rattle.fields.proofs.block.all_zero.Reads as all-zero-reads
 use Rattle.layout.proofs.master.field.Reads as field-reads
 
 -- the block at each field, what the field read is, and the number that it holds

@@ -6,7 +6,7 @@ use Rattle.layout.proofs.master.write.Statement.{statement}
 use Rattle.layout.proofs.master.write.Tie as tie
 use Rattle.layout.proofs.master.write.Reads as reads
 use Rattle.layout.proofs.master.write.Lts as lts
-use Rattle.layout.proofs.block.clear.Reads as clear-reads
+use Rattle.fields.proofs.block.clear.Reads as clear-reads
 use Rattle.layout.proofs.master.put_long.Reads as put-long-reads
 use Rattle.layout.proofs.master.put_short.Reads as put-short-reads
 

@@ -10,7 +10,7 @@ use Rattle.layout.proofs.page.in_form.Statement.{statement}
 use Rattle.layout.proofs.page.in_form.Tie as tie
 use Rattle.layout.proofs.page.in_form.Reads as reads
 use Rattle.layout.proofs.page.in_form.Lts as lts
-use Rattle.layout.proofs.block.all_zero.Reads as all-zero-reads
+use Rattle.fields.proofs.block.all_zero.Reads as all-zero-reads
 use Rattle.layout.proofs.page.slot_in_form.Reads as slot-in-form-reads
 
 abbrev Inv-loop : tie.InvT-loop

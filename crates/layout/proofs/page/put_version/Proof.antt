@@ -2,9 +2,9 @@
 use mathlib.Core.Path.{ap, _∙_}
 use Prim.Native.Nat.{_*_, _/_}
 use native.Mathlib.Omega.{arith}
-use Rattle.layout.specs.Part.{splice}
-use Rattle.layout.specs.Block.{blk, put, pageOf}
-use Rattle.layout.proofs.PartLaws.{lent-back, lent-part}
+use Rattle.fields.specs.Part.{splice}
+use Rattle.fields.specs.Block.{blk, put, pageOf}
+use Rattle.fields.proofs.PartLaws.{lent-back, lent-part}
 use Rattle.layout.specs.Page.{putVersion}
 use borrow.Author.Needs.{needs}
 use Rattle.layout.proofs.page.put_version.Statement.{statement}

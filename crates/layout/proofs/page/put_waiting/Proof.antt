@@ -3,15 +3,15 @@ use mathlib.Core.Path.{_∙_}
 use Prim.Native.Nat.{_+_, _*_}
 use native.Mathlib.Omega.{arith}
 use lib.ListN.{set, length-set}
-use Rattle.layout.specs.Block.{slotIn}
+use Rattle.fields.specs.Block.{slotIn}
 use Rattle.layout.specs.Page.{putCell}
-use Rattle.layout.proofs.PartLaws.{lent-back}
+use Rattle.fields.proofs.PartLaws.{lent-back}
 use borrow.Author.Needs.{needs}
 use Rattle.layout.proofs.page.put_waiting.Statement.{statement}
 use Rattle.layout.proofs.page.put_waiting.Tie as tie
 use Rattle.layout.proofs.page.put_waiting.Reads as reads
 use Rattle.layout.proofs.page.put_waiting.Lts as lts
-use Rattle.layout.proofs.field.put8.Reads as put8-reads
+use Rattle.fields.proofs.field.put8.Reads as put8-reads
 use Rattle.layout.proofs.slot.write_waiting.Reads as write-waiting-reads
 
 put8-requires : tie.Need-put8-requires

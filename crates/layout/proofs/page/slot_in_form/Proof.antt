@@ -2,14 +2,14 @@
 use native.Mathlib.Nat.{add-sub-cancel-left}
 use native.Mathlib.Omega.{arith}
 use borrow.Author.Tests.{lt-ltb, le-ltb}
-use Rattle.layout.specs.Block.{slotIn}
+use Rattle.fields.specs.Block.{slotIn}
 use Rattle.layout.specs.Page.{pageUsed, pageSlot, slotFormAt}
 use borrow.Author.Needs.{needs}
 use Rattle.layout.proofs.page.slot_in_form.Statement.{statement}
 use Rattle.layout.proofs.page.slot_in_form.Tie as tie
 use Rattle.layout.proofs.page.slot_in_form.Reads as reads
 use Rattle.layout.proofs.page.slot_in_form.Lts as lts
-use Rattle.layout.proofs.block.all_zero.Reads as all-zero-reads
+use Rattle.fields.proofs.block.all_zero.Reads as all-zero-reads
 use Rattle.layout.proofs.slot.in_form.Reads as in-form-reads
 
 mul-a : tie.Need-mul-a

@@ -2,10 +2,10 @@
 use mathlib.Core.Path.{ap, _∙_}
 use Prim.Native.Nat.{_+_, _*_}
 use native.Mathlib.Omega.{arith}
-use Rattle.layout.specs.Part.{splice}
-use Rattle.layout.specs.Block.{slotIn}
+use Rattle.fields.specs.Part.{splice}
+use Rattle.fields.specs.Block.{slotIn}
 use Rattle.layout.specs.Page.{stampCell, pageSlot}
-use Rattle.layout.proofs.PartLaws.{lent-back, lent-part}
+use Rattle.fields.proofs.PartLaws.{lent-back, lent-part}
 use borrow.Author.Needs.{needs}
 use Rattle.layout.proofs.page.stamp.Statement.{statement}
 use Rattle.layout.proofs.page.stamp.Tie as tie

@@ -1,6 +1,6 @@
 -- `place::block_of_end` meets its contract: an end place of 0 is told apart only to keep the subtraction above zero.
 use native.Mathlib.Omega.{arith}
-use Rattle.layout.specs.Block.{blockOfEnd}
+use Rattle.fields.specs.Block.{blockOfEnd}
 use borrow.Author.Needs.{needs}
 use Rattle.layout.proofs.place.block_of_end.Statement.{statement}
 use Rattle.layout.proofs.place.block_of_end.Tie as tie

@@ -1,6 +1,6 @@
 -- `place::cache_length` meets its contract: the code is the definition.
 use mathlib.Core.Path.{refl}
-use Rattle.layout.specs.Block.{cacheLength}
+use Rattle.fields.specs.Block.{cacheLength}
 use borrow.Author.Needs.{needs}
 use Rattle.layout.proofs.place.cache_length.Statement.{statement}
 use Rattle.layout.proofs.place.cache_length.Tie as tie

@@ -1,6 +1,6 @@
 -- `place::end_place` meets its contract: the code is the definition, and the sum stays below 2 ^ 58.
 use mathlib.Core.Path.{refl}
-use Rattle.layout.specs.Block.{endPlace}
+use Rattle.fields.specs.Block.{endPlace}
 use borrow.Author.Needs.{needs}
 use Rattle.layout.proofs.place.end_place.Statement.{statement}
 use Rattle.layout.proofs.place.end_place.Tie as tie

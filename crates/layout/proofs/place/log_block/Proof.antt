@@ -2,7 +2,7 @@
 use mathlib.Core.Path.{refl}
 use native.Mathlib.Nat.{mod-lt}
 use native.Mathlib.Omega.{arith}
-use Rattle.layout.specs.Block.{logBlockAt}
+use Rattle.fields.specs.Block.{logBlockAt}
 use borrow.Author.Needs.{needs}
 use Rattle.layout.proofs.place.log_block.Statement.{statement}
 use Rattle.layout.proofs.place.log_block.Tie as tie

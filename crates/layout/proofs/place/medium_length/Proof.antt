@@ -1,6 +1,6 @@
 -- `place::medium_length` meets its contract: the code is the definition.
 use mathlib.Core.Path.{refl}
-use Rattle.layout.specs.Block.{mediumLength}
+use Rattle.fields.specs.Block.{mediumLength}
 use borrow.Author.Needs.{needs}
 use Rattle.layout.proofs.place.medium_length.Statement.{statement}
 use Rattle.layout.proofs.place.medium_length.Tie as tie

@@ -1,6 +1,6 @@
 -- `place::page_block` meets its contract: the code is the definition.
 use mathlib.Core.Path.{refl}
-use Rattle.layout.specs.Block.{pageBlockAt}
+use Rattle.fields.specs.Block.{pageBlockAt}
 use borrow.Author.Needs.{needs}
 use Rattle.layout.proofs.place.page_block.Statement.{statement}
 use Rattle.layout.proofs.place.page_block.Tie as tie

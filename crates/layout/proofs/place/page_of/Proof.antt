@@ -1,6 +1,6 @@
 -- `place::page_of` meets its contract: the code is the definition.
 use mathlib.Core.Path.{refl}
-use Rattle.layout.specs.Block.{pageOf}
+use Rattle.fields.specs.Block.{pageOf}
 use Rattle.layout.proofs.place.page_of.Statement.{statement}
 use Rattle.layout.proofs.place.page_of.Tie as tie
 use Rattle.layout.proofs.place.page_of.Reads as reads

@@ -1,6 +1,6 @@
 -- `place::slot_at` meets its contract: the code is the definition.
 use mathlib.Core.Path.{refl}
-use Rattle.layout.specs.Block.{slotAt}
+use Rattle.fields.specs.Block.{slotAt}
 use borrow.Author.Needs.{needs}
 use Rattle.layout.proofs.place.slot_at.Statement.{statement}
 use Rattle.layout.proofs.place.slot_at.Tie as tie

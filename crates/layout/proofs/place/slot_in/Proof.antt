@@ -1,6 +1,6 @@
 -- `place::slot_in` meets its contract: the code is the definition.
 use mathlib.Core.Path.{refl}
-use Rattle.layout.specs.Block.{slotIn}
+use Rattle.fields.specs.Block.{slotIn}
 use borrow.Author.Needs.{needs}
 use Rattle.layout.proofs.place.slot_in.Statement.{statement}
 use Rattle.layout.proofs.place.slot_in.Tie as tie

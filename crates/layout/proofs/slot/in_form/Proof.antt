@@ -11,7 +11,7 @@ use Rattle.layout.proofs.slot.in_form.Statement.{statement}
 use Rattle.layout.proofs.slot.in_form.Tie as tie
 use Rattle.layout.proofs.slot.in_form.Reads as reads
 use Rattle.layout.proofs.slot.in_form.Lts as lts
-use Rattle.layout.proofs.block.all_zero.Reads as all-zero-reads
+use Rattle.fields.proofs.block.all_zero.Reads as all-zero-reads
 use Rattle.layout.proofs.slot.kind_in_form.Reads as kind-in-form-reads
 
 shared-slice-read-if1 : tie.Need-shared-slice-read-if1

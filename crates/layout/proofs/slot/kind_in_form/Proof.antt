@@ -6,7 +6,7 @@ use Rattle.layout.proofs.slot.kind_in_form.Statement.{statement}
 use Rattle.layout.proofs.slot.kind_in_form.Tie as tie
 use Rattle.layout.proofs.slot.kind_in_form.Reads as reads
 use Rattle.layout.proofs.slot.kind_in_form.Lts as lts
-use Rattle.layout.proofs.block.all_zero.Reads as all-zero-reads
+use Rattle.fields.proofs.block.all_zero.Reads as all-zero-reads
 
 returns : tie.Need-returns
 unfolding kindForm

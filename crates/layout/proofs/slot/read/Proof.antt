@@ -6,7 +6,7 @@ use Rattle.layout.proofs.slot.read.Statement.{statement}
 use Rattle.layout.proofs.slot.read.Tie as tie
 use Rattle.layout.proofs.slot.read.Reads as reads
 use Rattle.layout.proofs.slot.read.Lts as lts
-use Rattle.layout.proofs.field.get8.Reads as get8-reads
+use Rattle.fields.proofs.field.get8.Reads as get8-reads
 
 shared-slice-read-code : tie.Need-shared-slice-read-code
 shared-slice-read-code c = search needs

@@ -7,7 +7,7 @@ use Rattle.layout.proofs.slot.stamp.Statement.{statement}
 use Rattle.layout.proofs.slot.stamp.Tie as tie
 use Rattle.layout.proofs.slot.stamp.Reads as reads
 use Rattle.layout.proofs.slot.stamp.Lts as lts
-use Rattle.layout.proofs.field.put8.Reads as put8-reads
+use Rattle.fields.proofs.field.put8.Reads as put8-reads
 
 slice-write-slot : tie.Need-slice-write-slot
 slice-write-slot c = search needs

@@ -2,17 +2,17 @@
 use mathlib.Core.Path.{_≡_, ap, _∙_}
 use native.Mathlib.Omega.{arith}
 use lib.ListN.{length, length-set}
-use Rattle.layout.specs.Part.{splice}
-use Rattle.layout.proofs.PartLaws.{lent-back}
+use Rattle.fields.specs.Part.{splice}
+use Rattle.fields.proofs.PartLaws.{lent-back}
 use Rattle.layout.proofs.SlotLaws.{written}
 use borrow.Author.Needs.{needs}
 use Rattle.layout.proofs.slot.write_waiting.Statement.{statement}
 use Rattle.layout.proofs.slot.write_waiting.Tie as tie
 use Rattle.layout.proofs.slot.write_waiting.Reads as reads
 use Rattle.layout.proofs.slot.write_waiting.Lts as lts
-use Rattle.layout.proofs.block.copy.Reads as copy-reads
-use Rattle.layout.proofs.field.put2.Reads as put2-reads
-use Rattle.layout.proofs.field.put8.Reads as put8-reads
+use Rattle.fields.proofs.block.copy.Reads as copy-reads
+use Rattle.fields.proofs.field.put2.Reads as put2-reads
+use Rattle.fields.proofs.field.put8.Reads as put8-reads
 
 slice-write-slot : tie.Need-slice-write-slot
 slice-write-slot c = search needs

@@ -7,7 +7,7 @@ use Rattle.layout.proofs.table.write.Statement.{statement}
 use Rattle.layout.proofs.table.write.Tie as tie
 use Rattle.layout.proofs.table.write.Reads as reads
 use Rattle.layout.proofs.table.write.Lts as lts
-use Rattle.layout.proofs.field.put8.Reads as put8-reads
+use Rattle.fields.proofs.field.put8.Reads as put8-reads
 
 mul-a : tie.Need-mul-a
 mul-a c = search needs

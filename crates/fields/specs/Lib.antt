@@ -1,0 +1,5 @@
+pub mod Field
+pub mod Part
+pub mod Equal
+pub mod Cells
+pub mod Block
