@@ -12,7 +12,7 @@ use borrow.Author.Tests.{ltb-true, ltb-false, leb-true, leb-false}
 use Rattle.layout.specs.declared.CommitTime.{CommitTime}
 use Rattle.layout.specs.declared.slot.Slot.{Slot}
 use Rattle.layout.specs.declared.slot.Slot.the-variants.{Empty, Waiting, Stamped}
-use Rattle.layout.proofs.Choose.{cond-elim}
+use Rattle.fields.proofs.Choose.{cond-elim}
 use Rattle.store.specs.declared.Found.the-variants.{At}
 use Rattle.store.specs.declared.Timing.{Timing}
 use Rattle.store.specs.declared.Timing.the-variants.{Timed, Untimed}

@@ -1,15 +1,17 @@
--- The best version from a slot on: one law for each way that a step goes, and where the best lies. Assumes nothing.
+-- The best version from a slot on, held against the best of the higher slots: the later of two is the same however three are
+-- grouped, one law for each way that a step goes, and the best lies in the cache. Assumes nothing.
 use mathlib.Core.Path.{_≡_, refl, sym, ap, subst, _∙_}
-use mathlib.Core.Bool.{true, false}
+use mathlib.Core.Bool.{Bool, true, false, cond}
 use Prim.Native.Nat.{ℕ, zero, suc, _≤_, _<_}
+use native.Mathlib.Decide.{decLe}
 use native.Mathlib.Omega.{arith}
 use mathlib.Core.List.{List}
 use lib.Dec.{ltb, leb}
-use borrow.Author.Tests.{lt-ltb, le-ltb, ltb-true, leb-true}
+use borrow.Author.Tests.{lt-ltb, le-ltb, ltb-true, le-leb, lt-leb}
 use Rattle.layout.specs.declared.CommitTime.{CommitTime}
 use Rattle.layout.specs.declared.slot.Slot.{Slot}
 use Rattle.layout.specs.declared.slot.Slot.the-variants.{Empty, Waiting, Stamped}
-use Rattle.layout.proofs.Choose.{cond-when, cond-elim}
+use Rattle.fields.proofs.Choose.{cond-when, cond-elim}
 use Rattle.store.specs.declared.Found.{Found}
 use Rattle.store.specs.declared.Found.the-variants.{At, Nothing}
 use Rattle.store.specs.declared.Timing.{Timing}
@@ -17,113 +19,126 @@ use Rattle.store.specs.declared.Timing.the-variants.{Timed, Untimed}
 use Rattle.store.specs.declared.Best.{Best}
 use Rattle.store.specs.declared.Best.the-variants.{Version, Neither}
 use Rattle.store.specs.Chain.{cellAt, isVersion, versionTime, unlessEmpty, laterOf, betterOf, bestFrom, bestOf}
-use Rattle.chain.specs.Room.{Room, Head, Within}
-use Rattle.chain.proofs.RoomLaws.{room-lower}
+use Rattle.cached.specs.Room.{Room, Head, Within}
+use Rattle.cached.proofs.RoomLaws.{room-lower}
 use Rattle.store.proofs.ChainLaws.{unless-none, unless-some}
+use Rattle.chain.specs.Later.{orLater}
 
-module _ (c : List ℕ) (pair : ℕ → Timing) where
-  -- a best at slot s or below, whose time is the slot's and not above t
-  abbrev pub Under : ℕ → ℕ → Best → Type 0
-  Under s t Neither = Unit {0}
-  Under s t (Version r u) = (r ≤ s) × (u .0 ≤ t) × (versionTime pair (cellAt c r .state) ≡ Timed u)
+-- ---- the later of two
 
-  under-up : (s e t : ℕ) (b : Best) → e ≤ s → Under e t b → Under s t b
-  under-up s e t Neither h u = tt
-  under-up s e t (Version r v) h u = (omega arith, u .1, u .2)
+pub or-none : (b : Best) → orLater b Neither ≡ b
+unfolding orLater
+or-none Neither = refl
+or-none (Version s t) = refl
 
-  later-under : (s t : ℕ) (v : CommitTime) (rest : Best) → versionTime pair (cellAt c s .state) ≡ Timed v → v .0 ≤ t → Under s t rest
-      → Under s t (laterOf s v rest)
-  later-under s t v Neither e h u = (omega arith, h, e)
-  later-under s t v (Version r w) e h u = cond-elim (Under s t) (leb (w .0) (v .0)) (λ _. (omega arith, h, e)) (λ _. u)
+pub or-group : (a b d : Best) → orLater (orLater a b) d ≡ orLater a (orLater b d)
+unfolding orLater
+or-group Neither b d = refl
+or-group (Version s t) Neither d = refl
+or-group (Version s t) (Version r u) Neither = or-none (orLater (Version s t) (Version r u))
+or-group (Version s t) (Version r u) (Version q v) = go (decLe (u .0) (t .0)) (decLe (v .0) (u .0))
+  where
+    go : Dec (u .0 ≤ t .0) → Dec (v .0 ≤ u .0)
+        → orLater (orLater (Version s t) (Version r u)) (Version q v) ≡ orLater (Version s t) (orLater (Version r u) (Version q v))
+    go (yes a) (yes b) = simp (le-leb _ _ a, le-leb _ _ b, le-leb (v .0) (t .0) (omega arith))
+    go (yes a) (no b) = simp (le-leb _ _ a, lt-leb (v .0) (u .0) (omega arith))
+    go (no a) (yes b) = simp (lt-leb (u .0) (t .0) (omega arith), le-leb _ _ b)
+    go (no a) (no b) =
+        simp (lt-leb (u .0) (t .0) (omega arith), lt-leb (v .0) (u .0) (omega arith), lt-leb (v .0) (t .0) (omega arith))
 
-  better-under : (time : Timing) (s t : ℕ) (rest : Best) → versionTime pair (cellAt c s .state) ≡ time → Under s t rest
-      → Under s t (betterOf time s t rest)
-  better-under Untimed s t rest e u = u
-  better-under (Timed v) s t rest e u =
-      cond-elim (Under s t) (leb (v .0) t) (λ l. later-under s t v rest e (leb-true _ _ l) u) (λ _. u)
+pub better-or : (time : Timing) (s t : ℕ) (rest : Best) → betterOf time s t rest ≡ orLater (betterOf time s t Neither) rest
+unfolding orLater
+better-or Untimed s t rest = refl
+better-or (Timed u) s t rest = go (leb (u .0) t)
+  where
+    go : (b : Bool) → cond b (laterOf s u rest) rest ≡ orLater (cond b (Version s u) Neither) rest
+    go true = refl
+    go false = refl
 
-  unless-under : (st : Slot) (s t : ℕ) (b : Best) → Under s t b → Under s t (unlessEmpty st Neither b)
-  unless-under Empty s t b u = tt
-  unless-under (Waiting n) s t b u = u
-  unless-under (Stamped v) s t b u = u
+-- ---- a step of the search: st, e and time are what the code found at s
 
 module _ (c : List ℕ) (pair : ℕ → Timing) (t : ℕ) where
   -- more steps than enough change nothing
-  pub best-fuel : (k m s : ℕ) → s < k → s < m → bestFrom c pair t k s ≡ bestFrom c pair t m s
+  fuel : (k m s : ℕ) → s < k → s < m → bestFrom c pair t k s ≡ bestFrom c pair t m s
   unfolding bestFrom
-  best-fuel zero m s h g = absurd (omega arith)
-  best-fuel (suc k) zero s h g = absurd (omega arith)
-  best-fuel (suc k) (suc m) s h g =
+  fuel zero m s h g = absurd (omega arith)
+  fuel (suc k) zero s h g = absurd (omega arith)
+  fuel (suc k) (suc m) s h g =
       ap (λ (r : Best). unlessEmpty (cellAt c s .state) Neither (betterOf (versionTime pair (cellAt c s .state)) s t r))
       (cond-when (ltb (cellAt c s .earlier) s) Neither (λ e.
       let l : cellAt c s .earlier < s = ltb-true _ _ e in
-      best-fuel k m (cellAt c s .earlier) (omega arith) (omega arith)))
+      fuel k m (cellAt c s .earlier) (omega arith) (omega arith)))
 
-  -- st, e and time are what the code found at s, and r what it made of them
-  pub best-none : (s : ℕ) (st : Slot) → st ≡ cellAt c s .state → isVersion st ≡ false → Neither ≡ bestFrom c pair t (suc s) s
+  none : (s : ℕ) (st : Slot) → st ≡ cellAt c s .state → isVersion st ≡ false → bestFrom c pair t (suc s) s ≡ Neither
   unfolding bestFrom
-  best-none s st es v = sym (rw (← es) (unless-none st _ _ v))
+  none s st es v = rw (← es) (unless-none st _ _ v)
 
-  pub best-end : (s e : ℕ) (st : Slot) (time : Timing) (r : Best) → st ≡ cellAt c s .state → isVersion st ≡ true → time ≡ versionTime pair st
-      → e ≡ cellAt c s .earlier → s ≤ e → r ≡ betterOf time s t Neither → r ≡ bestFrom c pair t (suc s) s
+  end : (s e : ℕ) (st : Slot) (time : Timing) → st ≡ cellAt c s .state → isVersion st ≡ true → time ≡ versionTime pair st
+      → e ≡ cellAt c s .earlier → s ≤ e → bestFrom c pair t (suc s) s ≡ betterOf time s t Neither
   unfolding bestFrom
-  best-end s e st time r es v et ee h er = er ∙ sym (rw (← es) (unless-some st _ _ v ∙ simp (← et, ← ee, le-ltb _ _ h)))
+  end s e st time es v et ee h = rw (← es) (unless-some st _ _ v ∙ simp (← et, ← ee, le-ltb _ _ h))
 
-  step : (s e : ℕ) (st : Slot) (time : Timing) → st ≡ cellAt c s .state → isVersion st ≡ true → time ≡ versionTime pair st
+  down : (s e : ℕ) (st : Slot) (time : Timing) → st ≡ cellAt c s .state → isVersion st ≡ true → time ≡ versionTime pair st
       → e ≡ cellAt c s .earlier → e < s → bestFrom c pair t (suc s) s ≡ betterOf time s t (bestFrom c pair t s e)
   unfolding bestFrom
-  step s e st time es v et ee h = rw (← es) (unless-some st _ _ v ∙ simp (← et, ← ee, lt-ltb _ _ h))
+  down s e st time es v et ee h = rw (← es) (unless-some st _ _ v ∙ simp (← et, ← ee, lt-ltb _ _ h))
 
-  -- rest is what the search from e gave
-  pub best-down : (s e : ℕ) (st : Slot) (time : Timing) (rest r : Best) → st ≡ cellAt c s .state → isVersion st ≡ true → time ≡ versionTime pair st
-      → e ≡ cellAt c s .earlier → e < s → rest ≡ bestFrom c pair t (suc e) e → r ≡ betterOf time s t rest → r ≡ bestFrom c pair t (suc s) s
-  best-down s e st time rest r es v et ee h eq er =
-      er ∙ ap (betterOf time s t) (eq ∙ best-fuel (suc e) s e (omega arith) h) ∙ sym (step s e st time es v et ee h)
+  pub best-none : (s : ℕ) (st : Slot) (best : Best) → st ≡ cellAt c s .state → isVersion st ≡ false
+      → best ≡ orLater best (bestFrom c pair t (suc s) s)
+  best-none s st best es v = sym (ap (orLater best) (none s st es v) ∙ or-none best)
 
-  pub best-under : (k s : ℕ) → Under c pair s t (bestFrom c pair t k s)
-  unfolding bestFrom
-  best-under zero s = tt
-  best-under (suc k) s =
-      unless-under c pair (cellAt c s .state) s t _ (better-under c pair (versionTime pair (cellAt c s .state)) s t _ refl
-      (cond-elim (Under c pair s t) (ltb (cellAt c s .earlier) s)
-      (λ e.
-      let l : cellAt c s .earlier < s = ltb-true _ _ e in
-      under-up c pair s (cellAt c s .earlier) t (bestFrom c pair t k (cellAt c s .earlier)) (omega arith) (best-under k (cellAt c s .earlier)))
-      (λ e. tt)))
+  -- next is the best with s counted
+  pub best-end : (s e : ℕ) (st : Slot) (time : Timing) (best next : Best) → st ≡ cellAt c s .state → isVersion st ≡ true
+      → time ≡ versionTime pair st → next ≡ orLater best (betterOf time s t Neither) → e ≡ cellAt c s .earlier → s ≤ e
+      → next ≡ orLater best (bestFrom c pair t (suc s) s)
+  best-end s e st time best next es v et en ee h = en ∙ ap (orLater best) (sym (end s e st time es v et ee h))
 
--- how many slots a search from the head may find
-abbrev pub slotsFrom : Found → ℕ
-slotsFrom (At s) = suc s
-slotsFrom Nothing = 0
+  -- r is what the search from e gave
+  pub best-down : (s e : ℕ) (st : Slot) (time : Timing) (best next r : Best) → st ≡ cellAt c s .state → isVersion st ≡ true
+      → time ≡ versionTime pair st → next ≡ orLater best (betterOf time s t Neither) → e ≡ cellAt c s .earlier → e < s
+      → r ≡ orLater next (bestFrom c pair t (suc e) e) → r ≡ orLater best (bestFrom c pair t (suc s) s)
+  best-down s e st time best next r es v et en ee h er =
+      let rest = bestFrom c pair t s e in
+      er
+      ∙ ap (λ (b : Best). orLater b (bestFrom c pair t (suc e) e)) en
+      ∙ ap (orLater (orLater best (betterOf time s t Neither))) (fuel (suc e) s e (omega arith) h)
+      ∙ or-group best (betterOf time s t Neither) rest
+      ∙ ap (orLater best) (sym (down s e st time es v et ee h ∙ better-or time s t rest))
 
--- a best at a slot below i, whose time is the slot's and below t
-abbrev pub Below : List ℕ → (ℕ → Timing) → ℕ → ℕ → Best → Type 0
-Below c pair i t Neither = Unit {0}
-Below c pair i t (Version r u) = (r < i) × (u .0 < t) × (versionTime pair (cellAt c r .state) ≡ Timed u)
+-- ---- the best found lies in the cache
 
-under-below : (c : List ℕ) (pair : ℕ → Timing) (s t : ℕ) (b : Best) → Under c pair s t b → Below c pair (suc s) (suc t) b
-under-below c pair s t Neither u = tt
-under-below c pair s t (Version r v) u = (omega arith, omega arith, u .2)
+later-in : (l s : ℕ) (v : CommitTime) (rest : Best) → Room l (suc s) → Within rest l → Within (laterOf s v rest) l
+later-in l s v Neither r w = r
+later-in l s v (Version q u) r w = cond-elim (λ (b : Best). Within b l) (leb (u .0) (v .0)) (λ _. r) (λ _. w)
 
--- the best found lies in the cache, and its time is not above t
-pub best-below : (head : Found) (c : List ℕ) (pair : ℕ → Timing) (t : ℕ) → Below c pair (slotsFrom head) (suc t) (bestOf head c pair t)
+better-in : (time : Timing) (l s t : ℕ) (rest : Best) → Room l (suc s) → Within rest l → Within (betterOf time s t rest) l
+better-in Untimed l s t rest r w = w
+better-in (Timed v) l s t rest r w = cond-elim (λ (b : Best). Within b l) (leb (v .0) t) (λ _. later-in l s v rest r w) (λ _. w)
+
+unless-in : (st : Slot) (l : ℕ) (b : Best) → Within b l → Within (unlessEmpty st Neither b) l
+unless-in Empty l b w = tt
+unless-in (Waiting n) l b w = w
+unless-in (Stamped v) l b w = w
+
+from-in : (c : List ℕ) (pair : ℕ → Timing) (l t k s : ℕ) → Room l (suc s) → Within (bestFrom c pair t k s) l
+unfolding bestFrom
+from-in c pair l t zero s r = tt
+from-in c pair l t (suc k) s r =
+    unless-in (cellAt c s .state) l _ (better-in (versionTime pair (cellAt c s .state)) l s t _ r
+    (cond-elim (λ (b : Best). Within b l) (ltb (cellAt c s .earlier) s)
+    (λ e.
+    let h : cellAt c s .earlier < s = ltb-true _ _ e in
+    from-in c pair l t k (cellAt c s .earlier) (room-lower l (suc s) _ r (omega arith)))
+    (λ e. tt)))
+
+best-in : (head : Found) (c : List ℕ) (pair : ℕ → Timing) (t l : ℕ) → Head head l → Within (bestOf head c pair t) l
 unfolding bestOf
-best-below (At s) c pair t = under-below c pair s t (bestFrom c pair t (suc s) s) (best-under c pair t (suc s) s)
-best-below Nothing c pair t = tt
-
-below-within : (c : List ℕ) (pair : ℕ → Timing) (l s t : ℕ) (b : Best) → Room l (suc s) → Below c pair (suc s) t b → Within b l
-below-within c pair l s t Neither r u = tt
-below-within c pair l s t (Version q v) r u = room-lower l (suc s) (suc q) r (omega arith)
-
-pub within : (head : Found) (c : List ℕ) (pair : ℕ → Timing) (l t : ℕ) (b : Best) → Head head l → Below c pair (slotsFrom head) t b → Within b l
-within (At s) c pair l t b r u = below-within c pair l s t b r u
-within Nothing c pair l t Neither r u = tt
-within Nothing c pair l t (Version q v) r u = absurd (omega arith)
+best-in (At s) c pair t l r = from-in c pair l t (suc s) s r
+best-in Nothing c pair t l r = tt
 
 -- b is the best that was found
 pub best-within : (head : Found) (c : List ℕ) (pair : ℕ → Timing) (t l : ℕ) (b : Best) → b ≡ bestOf head c pair t → Head head l → Within b l
-best-within head c pair t l b e r =
-    subst (λ (x : Best). Within x l) (sym e) (within head c pair l (suc t) (bestOf head c pair t) r (best-below head c pair t))
+best-within head c pair t l b e r = subst (λ (x : Best). Within x l) (sym e) (best-in head c pair t l r)
 
 pub within-at : (b : Best) (l s : ℕ) (u : CommitTime) → b ≡ Version s u → Within b l → Room l (suc s)
 within-at b l s u e w = subst (λ (x : Best). Within x l) e w

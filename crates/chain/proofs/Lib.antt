@@ -1,8 +1,11 @@
-pub mod RoomLaws
 pub mod NewestLaws
 pub mod VisibleLaws
 pub mod BestLaws
+pub mod PairLaws
+pub mod InsertLaws
+pub mod RankedLaws
 pub mod LineLaws
-pub mod CountLaws
-pub mod WriteLaws
+pub mod ByteLaws
+pub mod PickLaws
+pub mod ListLaws
 pub mod AsOf

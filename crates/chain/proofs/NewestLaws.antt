@@ -6,12 +6,12 @@ use native.Mathlib.Omega.{arith}
 use mathlib.Core.List.{List}
 use borrow.Author.Tests.{eq-eqb, ne-eqb}
 use Rattle.layout.specs.declared.slot.Slot.{Slot}
-use Rattle.layout.proofs.Choose.{cond-elim}
+use Rattle.fields.proofs.Choose.{cond-elim}
 use Rattle.store.specs.declared.Found.{Found}
 use Rattle.store.specs.declared.Found.the-variants.{At, Nothing}
 use Rattle.store.specs.Chain.{cellAt, isVersion, versionOf, newest}
-use Rattle.chain.specs.Room.{Room, Head}
-use Rattle.chain.proofs.RoomLaws.{room-lower}
+use Rattle.cached.specs.Room.{Room, Head}
+use Rattle.cached.proofs.RoomLaws.{room-lower}
 
 -- k and b are what the code read
 pub holds-not : (c : List ℕ) (key n k : ℕ) → k ≡ cellAt c n .key → (k ≡ key → ⊥) → false ≡ versionOf c key n

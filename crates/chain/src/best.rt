@@ -5,80 +5,81 @@ use store::Best;
 use store::Found;
 use store::Timing;
 ghost use mathlib.Core.Path.{_≡_};
-ghost use Prim.Native.Nat.{suc, _+_, _*_, _<_, _≤_};
+ghost use Prim.Native.Nat.{suc};
 ghost use lib.ListN.{length};
-ghost use Rattle.store.specs.Chain.{versionTime, laterOf, betterOf, bestFrom, bestOf};
-ghost use Rattle.live.specs.Pairs.{timeIn};
-ghost use Rattle.chain.specs.Room.{Room, Head};
+ghost use Rattle.store.specs.declared.Best.the-variants.{Version, Neither};
+ghost use Rattle.store.specs.Places.{timeUnder};
+ghost use Rattle.store.specs.Chain.{versionTime, betterOf, bestFrom, bestOf};
+ghost use Rattle.memory.specs.Memory.{placesOf};
+ghost use Rattle.cached.specs.Room.{Room, Head};
+ghost use Rattle.chain.specs.Later.{orLater};
 
 // The time of a version: its stamp or its pair's time.
-pub fn version_time(table: &[u64], slot: Slot) -> Timing
-    requires { ⌜ length (now table) ≡ 192 ⌝ }
-    ensures { λ r. ⌜ r ≡ versionTime (timeIn (now (table .entry))) slot ⌝ }
+pub fn version_time(words: &[u64; 448], slot: Slot) -> Timing
+    ensures { λ r. ⌜ r ≡ versionTime (timeUnder (placesOf (now (words .entry)))) slot ⌝ }
 {
     match slot {
         Slot::Empty => Timing::Untimed,
-        Slot::Waiting(n) => live::time_in(table, n.0),
+        Slot::Waiting(n) => live::times::time_under(words, n.0),
         Slot::Stamped(t) => Timing::Timed(t),
     }
 }
 
-// The later of a version and the best of the lower slots.
-fn later(s: u64, t: CommitTime, rest: Best) -> Best
-    ensures { λ r. ⌜ r ≡ laterOf s t rest ⌝ }
+// The later of the best of the higher slots and the version in slot s, whose time is t.
+fn later(best: Best, s: u64, t: CommitTime) -> Best
+    ensures { λ r. ⌜ r ≡ orLater best (Version s t) ⌝ }
 {
-    match rest {
+    match best {
         Best::Neither => Best::Version(s, t),
         Best::Version(r, u) => {
-            if u.0 <= t.0 {
-                return Best::Version(s, t);
+            if t.0 <= u.0 {
+                return Best::Version(r, u);
             }
-            Best::Version(r, u)
+            Best::Version(s, t)
         }
     }
 }
 
 // The same, if the version has a time not above t.
-fn better(time: Timing, s: u64, t: u64, rest: Best) -> Best
-    ensures { λ r. ⌜ r ≡ betterOf time s t rest ⌝ }
+fn better(best: Best, time: Timing, s: u64, t: u64) -> Best
+    ensures { λ r. ⌜ r ≡ orLater best (betterOf time s t Neither) ⌝ }
 {
     match time {
-        Timing::Untimed => rest,
+        Timing::Untimed => best,
         Timing::Timed(u) => {
             if u.0 <= t {
-                return later(s, u, rest);
+                return later(best, s, u);
             }
-            rest
+            best
         }
     }
 }
 
-// The best version that is found by following earlier slots from s: it calls itself on the earlier slot, which is lower.
-pub fn find_from(cache: &[u8], table: &[u64], t: u64, s: u64) -> Best
+// The best of the higher slots against the best version that is found by following earlier slots from s: it calls itself
+// on the earlier slot, which is lower.
+pub fn find_from(cache: &[u8], words: &[u64; 448], t: u64, s: u64, best: Best) -> Best
     requires { ⌜ Room (length (now cache)) (suc s) ⌝ }
-    requires { ⌜ length (now table) ≡ 192 ⌝ }
-    ensures { λ r. ⌜ r ≡ bestFrom (now (cache .entry)) (timeIn (now (table .entry))) t (suc s) s ⌝ }
+    ensures { λ r. ⌜ r ≡ orLater best (bestFrom (now (cache .entry)) (timeUnder (placesOf (now (words .entry)))) t (suc s) s) ⌝ }
 {
-    let state = crate::newest::state_at(cache, s);
-    if !crate::newest::is_version(state) {
-        return Best::Neither;
+    let state = cached::state_at(cache, s);
+    if !cached::is_version(state) {
+        return best;
     }
-    let time = version_time(table, state);
-    let earlier = crate::newest::earlier_at(cache, s);
+    let time = version_time(words, state);
+    let next = better(best, time, s, t);
+    let earlier = cached::earlier_at(cache, s);
     if earlier < s {
-        let rest = find_from(cache, table, t, earlier);
-        return better(time, s, t, rest);
+        return find_from(cache, words, t, earlier, next);
     }
-    better(time, s, t, Best::Neither)
+    next
 }
 
-pub fn find(head: Found, cache: &[u8], table: &[u64], t: u64) -> Best
+pub fn find(head: Found, cache: &[u8], words: &[u64; 448], t: u64) -> Best
     requires { ⌜ Head head (length (now cache)) ⌝ }
-    requires { ⌜ length (now table) ≡ 192 ⌝ }
-    ensures { λ r. ⌜ r ≡ bestOf head (now (cache .entry)) (timeIn (now (table .entry))) t ⌝ }
+    ensures { λ r. ⌜ r ≡ bestOf head (now (cache .entry)) (timeUnder (placesOf (now (words .entry)))) t ⌝ }
 {
     match head {
-        Found::At(s) => find_from(cache, table, t, s),
+        Found::At(s) => find_from(cache, words, t, s, Best::Neither),
         Found::Nothing => Best::Neither,
     }
 }

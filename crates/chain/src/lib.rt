@@ -2,4 +2,5 @@
 pub mod best;
 pub mod lines;
 pub mod newest;
+pub mod ranked;
 pub mod visible;

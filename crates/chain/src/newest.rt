@@ -1,61 +1,22 @@
 // The newest version of a record, and whether it holds the record.
 use layout::slot::Slot;
 use store::Found;
-use store::Place;
 ghost use mathlib.Core.Path.{_≡_};
-ghost use Prim.Native.Nat.{suc, _+_, _*_, _<_, _≤_};
+ghost use Prim.Native.Nat.{suc};
 ghost use lib.ListN.{length};
-ghost use Rattle.store.specs.Places.{findActive};
-ghost use Rattle.store.specs.Chain.{cellAt, isVersion, versionOf, newest, heldAs, held};
-ghost use Rattle.chain.specs.Room.{Room};
-
-// What a slot of the cache says.
-pub fn state_at(cache: &[u8], n: u64) -> Slot
-    requires { ⌜ Room (length (now cache)) (suc n) ⌝ }
-    ensures { λ r. ⌜ r ≡ cellAt (now (cache .entry)) n .state ⌝ }
-{
-    let a = layout::place::slot_at(n);
-    layout::slot::read(&cache[a..a + 32])
-}
-
-// The record number of a slot.
-pub fn key_at(cache: &[u8], n: u64) -> u8
-    requires { ⌜ Room (length (now cache)) (suc n) ⌝ }
-    ensures { λ r. ⌜ r ≡ cellAt (now (cache .entry)) n .key ⌝ }
-{
-    let a = layout::place::slot_at(n);
-    cache[a + 1]
-}
-
-// The earlier slot that a slot names.
-pub fn earlier_at(cache: &[u8], n: u64) -> u64
-    requires { ⌜ Room (length (now cache)) (suc n) ⌝ }
-    ensures { λ r. ⌜ r ≡ cellAt (now (cache .entry)) n .earlier ⌝ }
-{
-    let a = layout::place::slot_at(n);
-    layout::field::get2(cache, a + 4)
-}
-
-// Is it a version? An empty slot is none.
-pub fn is_version(slot: Slot) -> bool
-    ensures { λ r. ⌜ r ≡ isVersion slot ⌝ }
-{
-    match slot {
-        Slot::Empty => false,
-        Slot::Waiting(_) => true,
-        Slot::Stamped(_) => true,
-    }
-}
+ghost use Rattle.store.specs.Chain.{versionOf, newest, heldAs, heldAt};
+ghost use Rattle.memory.specs.Memory.{placesOf};
+ghost use Rattle.cached.specs.Room.{Room, Head};
 
 // Does a slot hold a version of the record?
 pub fn holds(cache: &[u8], key: u8, n: u64) -> bool
     requires { ⌜ Room (length (now cache)) (suc n) ⌝ }
     ensures { λ r. ⌜ r ≡ versionOf (now (cache .entry)) key n ⌝ }
 {
-    if key_at(cache, n) != key {
+    if cached::key_at(cache, n) != key {
         return false;
     }
-    is_version(state_at(cache, n))
+    cached::is_version(cached::state_at(cache, n))
 }
 
 // The highest slot below n that holds a version of the record.
@@ -74,8 +35,8 @@ pub fn find(cache: &[u8], key: u8, n: u64) -> Found
 }
 
 // Does a slot wait under another active number?
-fn holds_against(slot: Slot, places: [Place; 64], n: u64) -> bool
-    ensures { λ r. ⌜ r ≡ heldAs slot places n ⌝ }
+fn holds_against(slot: Slot, words: &[u64; 448], n: u64) -> bool
+    ensures { λ r. ⌜ r ≡ heldAs slot (placesOf (now (words .entry))) n ⌝ }
 {
     match slot {
         Slot::Empty => false,
@@ -83,7 +44,7 @@ fn holds_against(slot: Slot, places: [Place; 64], n: u64) -> bool
             if m.0 == n {
                 return false;
             }
-            let f = live::find_active(places, m.0);
+            let f = live::places::find_active(words, m.0);
             match f {
                 Found::At(_) => true,
                 Found::Nothing => false,
@@ -93,14 +54,13 @@ fn holds_against(slot: Slot, places: [Place; 64], n: u64) -> bool
     }
 }
 
-// Is the record held by another active transaction than n?
-pub fn is_held(cache: &[u8], places: [Place; 64], slots: u64, key: u8, n: u64) -> bool
-    requires { ⌜ Room (length (now cache)) slots ⌝ }
-    ensures { λ r. ⌜ r ≡ held (now (cache .entry)) places slots key n ⌝ }
+// Does a record's newest version hold it against transaction n?
+pub fn is_held(newest: Found, cache: &[u8], words: &[u64; 448], n: u64) -> bool
+    requires { ⌜ Head newest (length (now cache)) ⌝ }
+    ensures { λ r. ⌜ r ≡ heldAt newest (now (cache .entry)) (placesOf (now (words .entry))) n ⌝ }
 {
-    let f = find(cache, key, slots);
-    match f {
-        Found::At(s) => holds_against(state_at(cache, s), places, n),
+    match newest {
+        Found::At(s) => holds_against(cached::state_at(cache, s), words, n),
         Found::Nothing => false,
     }
 }

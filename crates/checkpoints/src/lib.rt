@@ -3,25 +3,35 @@ use layout::CommitTime;
 use layout::TxNumber;
 use layout::item::Pair;
 use layout::master::Fields;
-use store::Answer;
-use store::Ended;
-use store::Life;
-use store::Phase;
-use store::Place;
-use store::State;
+use memory::BEGAN;
+use memory::BLOCKS;
+use memory::ENDS;
+use memory::FIRSTS;
+use memory::KINDS;
+use memory::NEXT;
+use memory::NUMBERS;
+use memory::OLDEST;
+use memory::PAGES;
+use memory::PHASE;
+use memory::SAVED;
+use memory::TIMES;
 ghost use mathlib.Core.Path.{_≡_};
-ghost use Prim.Native.Nat.{_+_, _-_, _*_, _<_, _≤_};
-ghost use lib.ListN.{length, take};
+ghost use mathlib.Core.List.{List};
+ghost use Prim.Native.Nat.{ℕ, _+_, _-_, _*_, _<_, _≤_};
+ghost use lib.ListN.{length, take, getD};
 ghost use lib.Dec.{leb};
-ghost use Rattle.layout.specs.Part.{splice};
-ghost use Rattle.layout.specs.Block.{put};
-ghost use Rattle.layout.specs.Cells.{flat};
+ghost use Rattle.fields.specs.Part.{splice};
+ghost use Rattle.fields.specs.Block.{put};
+ghost use Rattle.fields.specs.Cells.{flat};
 ghost use Rattle.layout.specs.Table.{pairBytes};
 ghost use Rattle.layout.specs.Master.{masterBytes};
 ghost use Rattle.store.specs.declared.Answer.the-variants.{Done};
+ghost use Rattle.store.specs.declared.Phase.the-variants.{FirstStored};
 ghost use Rattle.store.specs.Answer.{leaves};
+ghost use Rattle.store.specs.Places.{placeAt};
 ghost use Rattle.store.specs.State.{withPhase};
 ghost use Rattle.store.specs.Checkpoint.{leastOr, newOldest, noPair, pairBelow, pairsFrom, checkpointStep};
+ghost use Rattle.memory.specs.Memory.{placesOf, firstOf, phaseBy, stateOf};
 ghost use Rattle.checkpoints.specs.Lesser.{lesserOf};
 
 // The lesser of two numbers, where 0 is none.
@@ -41,14 +51,14 @@ fn lesser(a: u64, b: u64) -> u64
 }
 
 // The least of the first changes of the pages that is not 0, or another number if all are.
-fn least(first: [u64; 64], pages: u64, other: u64) -> u64
-    requires { ⌜ pages ≤ 64 ⌝ }
-    ensures { λ r. ⌜ r ≡ leastOr other (take pages first) ⌝ }
+fn least(words: &[u64], pages: u64, other: u64) -> u64
+    requires { ⌜ (length (now words) ≡ 448) × (pages ≤ 64) ⌝ }
+    ensures { λ r. ⌜ r ≡ leastOr other (take pages (firstOf (now (words .entry)))) ⌝ }
 {
     let mut found: u64 = 0;
     let mut i: u64 = 0;
     while i < pages {
-        found = lesser(found, first[i as usize]);
+        found = lesser(found, words[FIRSTS + (i as usize)]);
         i += 1;
     }
     if found == 0 {
@@ -58,13 +68,12 @@ fn least(first: [u64; 64], pages: u64, other: u64) -> u64
 }
 
 // The new oldest sequence: the least block that first changed a page not stored since, or the tail.
-fn new_oldest(s: State) -> u64
-    requires { ⌜ s .pages ≤ 64 ⌝ }
-    ensures { λ r. ⌜ r ≡ newOldest s ⌝ }
+fn new_oldest(words: &[u64; 448], tail: &[u8; 512]) -> u64
+    requires { ⌜ getD (now words) 1 0 ≤ 64 ⌝ }
+    ensures { λ r. ⌜ r ≡ newOldest (stateOf (now (words .entry)) (now (tail .entry))) ⌝ }
 {
-    let tail = s.tail;
-    let first = s.first;
-    least(first, s.pages, layout::journal::sequence(&tail))
+    let pages = words[PAGES];
+    least(words, pages, layout::journal::sequence(tail))
 }
 
 // Does the record with an end place lie below a block? From 2^55 on, 512 × the sequence is above every end place.
@@ -88,32 +97,33 @@ fn no_pair() -> Pair
 }
 
 // The pair that the table has for a place: that of a commit below the oldest block.
-fn pair_of(p: Place, oldest: u64) -> Pair
-    ensures { λ r. ⌜ r ≡ pairBelow oldest (p .life) ⌝ }
+fn pair_of(words: &[u64], i: usize, oldest: u64) -> Pair
+    requires { ⌜ length (now words) ≡ 448 ⌝ }
+    requires { ⌜ i < 64 ⌝ }
+    ensures { λ r. ⌜ r ≡ pairBelow oldest (placeAt (placesOf (now (words .entry))) i .life) ⌝ }
 {
-    let life = p.life;
-    match life {
-        Life::Free => no_pair(),
-        Life::Active(_, _) => no_pair(),
-        Life::Committed(n, t, e) => {
-            if is_below(e.0, oldest) {
-                return Pair { number: n, time: t };
-            }
-            no_pair()
-        }
+    if words[KINDS + i] != 2 {
+        return no_pair();
     }
+    if is_below(words[ENDS + i], oldest) {
+        return Pair {
+            number: TxNumber(words[NUMBERS + i]),
+            time: CommitTime(words[TIMES + i]),
+        };
+    }
+    no_pair()
 }
 
 // Lays the pairs of the places `from` up to `to` over the front of a block, each in the room of its place.
-fn lay_pairs(block: &mut [u8], places: [Place; 64], oldest: u64, from: usize, to: usize)
+fn lay_pairs(block: &mut [u8], words: &[u64; 448], oldest: u64, from: usize, to: usize)
     requires { ⌜ length (now block) ≡ 512 ⌝ }
     requires { ⌜ (from ≤ to) × (to ≤ 64) × (to ≤ from + 32) ⌝ }
-    ensures { λ _. ⌜ now (block .exit) ≡ splice (now (block .entry)) 0 (flat pairBytes (pairsFrom places oldest from (to - from))) ⌝ }
+    ensures { λ _. ⌜ now (block .exit) ≡ splice (now (block .entry)) 0 (flat pairBytes (pairsFrom (placesOf (now (words .entry))) oldest from (to - from))) ⌝ }
 {
     let mut at: usize = 0;
     let mut i = from;
     while i < to {
-        let pair = pair_of(places[i], oldest);
+        let pair = pair_of(words, i, oldest);
         layout::table::write(block, at, pair);
         at += 1;
         i += 1;
@@ -121,92 +131,70 @@ fn lay_pairs(block: &mut [u8], places: [Place; 64], oldest: u64, from: usize, to
 }
 
 // Stores block k of the medium with the places `from` up to `to` of the table.
-fn store_table(
-    medium: &mut [u8],
-    k: usize,
-    places: [Place; 64],
-    oldest: u64,
-    from: usize,
-    to: usize,
-)
+fn store_table(medium: &mut [u8], k: usize, words: &[u64; 448], oldest: u64, from: usize, to: usize)
     requires { ⌜ (k ≤ 2) × (1536 ≤ length (now medium)) ⌝ }
     requires { ⌜ (from ≤ to) × (to ≤ 64) × (to ≤ from + 32) ⌝ }
-    ensures { λ _. ⌜ now (medium .exit) ≡ put (now (medium .entry)) k (flat pairBytes (pairsFrom places oldest from (to - from))) ⌝ }
+    ensures { λ _. ⌜ now (medium .exit) ≡ put (now (medium .entry)) k (flat pairBytes (pairsFrom (placesOf (now (words .entry))) oldest from (to - from))) ⌝ }
 {
     let a = 512 * k;
-    lay_pairs(&mut medium[a..a + 512], places, oldest, from, to);
+    lay_pairs(&mut medium[a..a + 512], words, oldest, from, to);
 }
 
 // Stores the master with the oldest sequence and the time that the first call fixed, and the next number of this call.
-fn store_master(s: State, medium: &mut [u8], oldest: u64, time: CommitTime)
+fn store_master(words: &[u64; 448], medium: &mut [u8])
     requires { ⌜ 512 ≤ length (now medium) ⌝ }
-    ensures { λ _. ⌜ now (medium .exit) ≡ put (now (medium .entry)) 0 (masterBytes (record { blocks = s .blocks; pages = s .pages; oldest = oldest; next = s .next; last = time })) ⌝ }
+    ensures { λ _. ⌜ now (medium .exit) ≡ put (now (medium .entry)) 0 (masterBytes (record { blocks = getD (now (words .entry)) 0 0; pages = getD (now (words .entry)) 1 0; oldest = getD (now (words .entry)) 9 0; next = record { 0 = getD (now (words .entry)) 3 0 }; last = record { 0 = getD (now (words .entry)) 10 0 } })) ⌝ }
 {
-    let next = s.next;
     layout::master::write(
         &mut medium[0..512],
         Fields {
-            blocks: s.blocks,
-            pages: s.pages,
-            oldest: oldest,
-            next: next,
-            last: time,
+            blocks: words[BLOCKS],
+            pages: words[PAGES],
+            oldest: words[OLDEST],
+            next: TxNumber(words[NEXT]),
+            last: CommitTime(words[BEGAN]),
         },
     );
 }
 
-// What a checkpoint call leaves: the state in another phase. It is made anew, since a field that is an enum is not written
-// in place.
-fn done(s: State, phase: Phase) -> Ended
-    ensures { λ r. ⌜ r ≡ record { answer = Done; state = withPhase s phase } ⌝ }
+// Notes that the first store is made, and fixes the oldest sequence and the time last stored for the others.
+fn begin(words: &mut [u64], oldest: u64)
+    requires { ⌜ length (now words) ≡ 448 ⌝ }
+    ensures { λ _. ⌜ ((tail : List ℕ) → stateOf (now (words .exit)) tail ≡ withPhase (stateOf (now (words .entry)) tail) (FirstStored oldest (record { 0 = getD (now (words .entry)) 5 0 }))) ⌝ }
 {
-    let next = s.next;
-    let last = s.last;
-    let saved = s.saved;
-    let end = s.end;
-    let tail = s.tail;
-    let places = s.places;
-    let first = s.first;
-    Ended {
-        answer: Answer::Done,
-        state: State {
-            blocks: s.blocks,
-            pages: s.pages,
-            slots: s.slots,
-            next: next,
-            last: last,
-            saved: saved,
-            end: end,
-            tail: tail,
-            places: places,
-            ring: s.ring,
-            first: first,
-            phase: phase,
-        },
-    }
+    words[PHASE] = 1;
+    words[OLDEST] = oldest;
+    words[BEGAN] = words[SAVED];
+}
+
+// Notes how many of the stores are made; what the first call fixed stays.
+fn go_on(words: &mut [u64], kind: u64)
+    requires { ⌜ length (now words) ≡ 448 ⌝ }
+    ensures { λ _. ⌜ ((tail : List ℕ) → stateOf (now (words .exit)) tail ≡ withPhase (stateOf (now (words .entry)) tail) (phaseBy kind (getD (now (words .entry)) 9 0) (getD (now (words .entry)) 10 0))) ⌝ }
+{
+    words[PHASE] = kind;
 }
 
 // The next of the three stores. It writes one block, in place.
-pub fn step(s: State, medium: &mut [u8], cache: &[u8]) -> Ended
-    requires { ⌜ (s .pages ≤ 64) × (1536 ≤ length (now medium)) ⌝ }
-    ensures { λ r. ⌜ leaves (r .answer) (r .state) (now (medium .exit)) (now (cache .entry)) ≡ checkpointStep (s .phase) s (now (medium .entry)) (now (cache .entry)) ⌝ }
+pub fn step(words: &mut [u64; 448], tail: &[u8; 512], medium: &mut [u8])
+    requires { ⌜ (getD (now words) 1 0 ≤ 64) × (1536 ≤ length (now medium)) ⌝ }
+    ensures { λ _. ⌜ ((cache : List ℕ) → leaves Done (stateOf (now (words .exit)) (now (tail .entry))) (now (medium .exit)) cache ≡ checkpointStep (stateOf (now (words .entry)) (now (tail .entry)) .phase) (stateOf (now (words .entry)) (now (tail .entry))) (now (medium .entry)) cache) ⌝ }
 {
-    let places = s.places;
-    let phase = s.phase;
+    let phase = words[PHASE];
     match phase {
-        Phase::Idle => {
-            let oldest = new_oldest(s);
-            let time = s.saved;
-            store_table(medium, 1, places, oldest, 0, 32);
-            done(s, Phase::FirstStored(oldest, time))
+        1 => {
+            let oldest = words[OLDEST];
+            store_table(medium, 2, words, oldest, 32, 64);
+            go_on(words, 2);
         }
-        Phase::FirstStored(oldest, time) => {
-            store_table(medium, 2, places, oldest, 32, 64);
-            done(s, Phase::SecondStored(oldest, time))
+        2 => {
+            store_master(words, medium);
+            go_on(words, 0);
         }
-        Phase::SecondStored(oldest, time) => {
-            store_master(s, medium, oldest, time);
-            done(s, Phase::Idle)
+        _ => {
+            let oldest = new_oldest(words, tail);
+            store_table(medium, 1, words, oldest, 0, 32);
+            begin(words, oldest);
         }
     }
 }

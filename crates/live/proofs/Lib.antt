@@ -1,2 +1,3 @@
 pub mod FirstLaws
-pub mod PairLaws
+pub mod PlaceLaws
+pub mod SetLaws

@@ -1,2 +1,3 @@
 pub mod StampLaws
+pub mod FoundLaws
 pub mod TurnLaws

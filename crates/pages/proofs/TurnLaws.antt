@@ -1,26 +1,23 @@
--- The laws of the loops over the 15 slots of a page, as the code lends the slots: stamping, settling and comparing from slot i on is
--- a turn for slot i and the same from slot i + 1 on. Assumes nothing.
+-- The laws of the loops over the 15 slots of a page, as the code lends the slots: looking up, stamping, settling and comparing from
+-- slot i on is a turn for slot i and the same from slot i + 1 on. Assumes nothing.
 use mathlib.Core.Path.{_≡_, refl, sym, ap, _∙_}
 use mathlib.Core.Bool.{Bool, true, false, _&&_}
 use Prim.Native.Nat.{ℕ, zero, suc, _+_, _-_, _*_, _≤_, _<_}
 use native.Mathlib.Omega.{arith}
 use mathlib.Core.List.{List, [], _∷_}
-use lib.ListN.{length, take, drop, length-drop}
+use lib.ListN.{length, take, drop, getD, length-drop}
 use lib.Seq.{drop-drop}
 use lib.Dec.{eqb}
-use Rattle.layout.specs.Part.{part}
-use Rattle.layout.specs.Block.{slotIn}
-use Rattle.layout.specs.Equal.{eqList}
-use Rattle.layout.specs.Slot.{slotState}
+use Rattle.fields.specs.Block.{slotIn}
+use Rattle.fields.specs.Equal.{eqList}
 use Rattle.layout.specs.Page.{pageSlot}
-use Rattle.layout.specs.declared.slot.Slot.{Slot}
-use Rattle.layout.proofs.PartLaws.{lent-part}
-use Rattle.layout.proofs.EqualLaws.{eq-end}
-use Rattle.store.specs.StorePage.{stampTime, stampWith, stampFrom, settleWith, settleFrom}
-use Rattle.store.specs.declared.Place.{Place}
-use Rattle.store.specs.declared.Timing.{Timing}
-use Rattle.pages.specs.Stamped.{stampedSlot}
-use Rattle.pages.proofs.StampLaws.{length-stampFrom, stampFrom-header, stamped-slot}
+use Rattle.fields.proofs.PartLaws.{lent-part}
+use Rattle.fields.proofs.EqualLaws.{eq-end}
+use Rattle.store.specs.StorePage.{stampWith}
+use Rattle.store.specs.declared.State.{State}
+use Rattle.memory.specs.Memory.{placesOf, stateBy, stateOf}
+use Rattle.pages.specs.Stamped.{withPlaces, timeBy, stampedBy, stampBy, lowerBy, settleBy}
+use Rattle.pages.proofs.StampLaws.{length-stampBy, stampBy-header, stamped-slot}
 
 -- slot i as it is lent
 pub lent-slot : (page : List ℕ) (i : ℕ) → take (32 + 32 * i + 32 - (32 + 32 * i)) (drop (32 + 32 * i) page) ≡ pageSlot page i
@@ -29,32 +26,32 @@ lent-slot page i = lent-part page (32 + 32 * i) 32
 
 -- ---- stamping; v is the page after a turn
 
-pub stamp-turn : (pair : ℕ → Timing) (page v : List ℕ) (i : ℕ) → i < 15
-    → v ≡ stampWith (stampTime pair (slotState (pageSlot page i))) page i
-    → stampFrom pair v (i + 1) (15 - (i + 1)) ≡ stampFrom pair page i (15 - i)
-unfolding stampFrom
-stamp-turn pair page v i h e = let m : 15 - i ≡ suc (15 - (i + 1)) = omega arith in rw (m, e)
+pub stamp-turn : (w found page v : List ℕ) (i : ℕ) → i < 15 → v ≡ stampWith (timeBy w (getD found i 0)) page i
+    → stampBy w found v (i + 1) (15 - (i + 1)) ≡ stampBy w found page i (15 - i)
+unfolding stampBy
+stamp-turn w found page v i h e = let m : 15 - i ≡ suc (15 - (i + 1)) = omega arith in rw (m, e)
 
-pub stamp-done : (pair : ℕ → Timing) (page : List ℕ) (i : ℕ) → 15 ≤ i → stampFrom pair page i (15 - i) ≡ page
-unfolding stampFrom
-stamp-done pair page i h = let m : 15 - i ≡ 0 = omega arith in rw m
+pub stamp-done : (w found page : List ℕ) (i : ℕ) → 15 ≤ i → stampBy w found page i (15 - i) ≡ page
+unfolding stampBy
+stamp-done w found page i h = let m : 15 - i ≡ 0 = omega arith in rw m
 
--- ---- settling; v are the places after a turn
+-- ---- settling; v are the words after a turn
 
-pub settle-turn : (pair : ℕ → Timing) (old : List Place) (page : List ℕ) (ps v : List Place) (slot : Slot) (i : ℕ)
-    → i < 15 → slot ≡ slotState (take (32 + 32 * i + 32 - (32 + 32 * i)) (drop (32 + 32 * i) page))
-    → v ≡ settleWith (stampTime pair slot) slot old ps
-    → settleFrom pair old page v (i + 1) (15 - (i + 1)) ≡ settleFrom pair old page ps i (15 - i)
-unfolding settleFrom
-settle-turn pair old page ps v slot i h s e =
+-- the state once the places that are left are counted down
+unfoldable pub settling : List ℕ → List ℕ → ℕ → List ℕ → State
+settling found w i tail = withPlaces (stateOf w tail) (settleBy found (placesOf w) i (15 - i))
+
+pub settle-turn : (found w v : List ℕ) (i : ℕ) (tail : List ℕ) → i < 15
+    → stateOf v tail ≡ withPlaces (stateOf w tail) (lowerBy (getD found i 0) (placesOf w)) → settling found v (i + 1) tail ≡ settling found w i tail
+unfolding settling settleBy stateOf stateBy withPlaces
+settle-turn found w v i tail h e =
     let m : 15 - i ≡ suc (15 - (i + 1)) = omega arith in
-    let q : slot ≡ slotState (pageSlot page i) = s ∙ ap slotState (lent-slot page i) in
-    rw (m, e, q)
+    let p : placesOf v ≡ lowerBy (getD found i 0) (placesOf w) = ap (λ (s : State). s .places) e in
+    ap (λ (s : State). withPlaces s (settleBy found (placesOf v) (i + 1) (15 - (i + 1)))) e ∙ rw (m, p)
 
-pub settle-done : (pair : ℕ → Timing) (old : List Place) (page : List ℕ) (ps : List Place) (i : ℕ) → 15 ≤ i
-    → settleFrom pair old page ps i (15 - i) ≡ ps
-unfolding settleFrom
-settle-done pair old page ps i h = let m : 15 - i ≡ 0 = omega arith in rw m
+pub settle-done : (found w : List ℕ) (i : ℕ) (tail : List ℕ) → 15 ≤ i → settling found w i tail ≡ stateOf w tail
+unfolding settling settleBy stateOf stateBy withPlaces
+settle-done found w i tail h = let m : 15 - i ≡ 0 = omega arith in rw m
 
 -- ---- comparing
 
@@ -83,18 +80,18 @@ same-step a b i n m h =
     ∙ rw (e, drop-drop 32 (32 + 32 * i) a, drop-drop 32 (32 + 32 * i) b)
 
 -- a page of the medium against the cached page as it is stamped; t is the answer of a comparison
-module _ (pair : ℕ → Timing) (m page : List ℕ) (t : Bool) (room : length m ≡ 512) (size : length page ≡ 512) where
+module _ (w found m page : List ℕ) (t : Bool) (room : length m ≡ 512) (size : length page ≡ 512) where
   abbrev done : List ℕ
-  done = stampFrom pair page 0 15
+  done = stampBy w found page 0 15
 
   done-size : length done ≡ 512
-  done-size = length-stampFrom pair 15 page 0 ∙ size
+  done-size = length-stampBy w found 15 page 0 ∙ size
 
   head-step : t ≡ eqList (take 32 m) (take 32 page) → eqList m done ≡ t && sameFrom m done 0
   unfolding sameFrom
   head-step e =
       eq-front 32 m done (omega arith) (omega (arith, done-size))
-      ∙ ap (λ (b : Bool). b && eqList (drop 32 m) (drop 32 done)) (ap (eqList (take 32 m)) (stampFrom-header pair 15 page 0) ∙ sym e)
+      ∙ ap (λ (b : Bool). b && eqList (drop 32 m) (drop 32 done)) (ap (eqList (take 32 m)) (stampBy-header w found 15 page 0) ∙ sym e)
 
   pub head-differ : t ≡ eqList (take 32 m) (take 32 page) → t ≡ false → eqList m done ≡ false
   head-differ e f = head-step e ∙ rw f
@@ -106,16 +103,16 @@ module _ (pair : ℕ → Timing) (m page : List ℕ) (t : Bool) (room : length m
     abbrev lent : List ℕ → List ℕ
     lent l = take (32 + 32 * i + 32 - (32 + 32 * i)) (drop (32 + 32 * i) l)
 
-    slot-step : t ≡ eqList (lent m) (stampedSlot pair (lent page)) → sameFrom m done i ≡ t && sameFrom m done (i + 1)
+    slot-step : t ≡ eqList (lent m) (stampedBy (timeBy w (getD found i 0)) (lent page)) → sameFrom m done i ≡ t && sameFrom m done (i + 1)
     slot-step e =
         same-step m done i room done-size h
         ∙ ap (λ (b : Bool). b && sameFrom m done (i + 1))
-        (ap (eqList (pageSlot m i)) (stamped-slot pair page i size h) ∙ sym (rw (lent-slot m i, lent-slot page i) at e))
+        (ap (eqList (pageSlot m i)) (stamped-slot w found page i size h) ∙ sym (rw (lent-slot m i, lent-slot page i) at e))
 
-    pub slot-differ : t ≡ eqList (lent m) (stampedSlot pair (lent page)) → t ≡ false → sameFrom m done i ≡ false
+    pub slot-differ : t ≡ eqList (lent m) (stampedBy (timeBy w (getD found i 0)) (lent page)) → t ≡ false → sameFrom m done i ≡ false
     slot-differ e f = slot-step e ∙ rw f
 
-    pub slot-same : t ≡ eqList (lent m) (stampedSlot pair (lent page)) → t ≡ true → sameFrom m done (i + 1) ≡ sameFrom m done i
+    pub slot-same : t ≡ eqList (lent m) (stampedBy (timeBy w (getD found i 0)) (lent page)) → t ≡ true → sameFrom m done (i + 1) ≡ sameFrom m done i
     slot-same e f = sym (slot-step e ∙ rw f)
 
 pub same-end : (a b : List ℕ) (i : ℕ) → length a ≡ 512 → length b ≡ 512 → 15 ≤ i → sameFrom a b i ≡ true

@@ -1,30 +1,57 @@
 // Storing a page: stamping its waiting versions, and counting their transactions down.
 use layout::CommitTime;
 use layout::slot::Slot;
+use memory::END;
+use memory::ENDS;
+use memory::TIMES;
 use store::Found;
-use store::Place;
-use store::Timing;
 ghost use mathlib.Core.Path.{_≡_};
-ghost use Prim.Native.Nat.{_+_, _*_, _<_, _≤_};
+ghost use mathlib.Core.Bool.{cond, not};
+ghost use mathlib.Core.List.{List};
+ghost use Prim.Native.Nat.{ℕ, _<_};
 ghost use lib.ListN.{length};
-ghost use Rattle.layout.specs.Equal.{eqList};
-ghost use Rattle.store.specs.StorePage.{stampTime, stampWith, stampFrom, lowerAt, settleWith, settleFrom};
-ghost use Rattle.store.specs.Places.{findCommitted};
-ghost use Rattle.layout.specs.Slot.{slotState, stamped};
-ghost use Rattle.layout.specs.Page.{pageSlot};
-ghost use Rattle.live.specs.Pairs.{timeIn};
-ghost use Rattle.pages.specs.Stamped.{stampedSlot};
+ghost use Rattle.fields.specs.Equal.{eqList};
+ghost use Rattle.layout.specs.Slot.{stamped};
+ghost use Rattle.store.specs.StorePage.{stampWith};
+ghost use Rattle.memory.specs.Memory.{placesOf, stateOf};
+ghost use Rattle.pages.specs.Stamped.{stampedUnder, settledUnder, withPlaces, placeFor, placesFor, timeBy, stampedBy, stampBy, lowerBy, settleBy};
 
-// The time with which a slot is stamped, if it waits under a number of the table.
-fn stamp_time(table: &[u64], slot: Slot) -> Timing
-    requires { ⌜ length (now table) ≡ 192 ⌝ }
-    ensures { λ r. ⌜ r ≡ stampTime (timeIn (now (table .entry))) slot ⌝ }
+// The place by which a slot is stamped; 64 for none.
+fn place_for(words: &[u64], slot: Slot) -> u64
+    requires { ⌜ length (now words) ≡ 448 ⌝ }
+    ensures { λ r. ⌜ r ≡ placeFor (now (words .entry)) slot ⌝ }
 {
     match slot {
-        Slot::Empty => Timing::Untimed,
-        Slot::Waiting(n) => live::time_in(table, n.0),
-        Slot::Stamped(_) => Timing::Untimed,
+        Slot::Empty => 64,
+        Slot::Waiting(n) => {
+            let f = live::places::find_committed(words, n.0);
+            match f {
+                Found::At(i) => {
+                    if words[ENDS + (i as usize)] <= words[END] {
+                        return i;
+                    }
+                    64
+                }
+                Found::Nothing => 64,
+            }
+        }
+        Slot::Stamped(_) => 64,
     }
+}
+
+// The places by which the page's slots are stamped.
+fn places_for(words: &[u64; 448], page: &[u8]) -> [u64; 15]
+    requires { ⌜ length (now page) ≡ 512 ⌝ }
+    ensures { λ r. ⌜ r ≡ placesFor (now (words .entry)) (now (page .entry)) ⌝ }
+{
+    let mut found = [64u64; 15];
+    let mut i: usize = 0;
+    while i < 15 {
+        let a = 32 + 32 * i;
+        found[i] = place_for(words, layout::slot::read(&page[a..a + 32]));
+        i += 1;
+    }
+    found
 }
 
 // Are a cached slot, once stamped with t, and the medium's the same?
@@ -34,39 +61,37 @@ fn same_stamped(cached: &[u8], stored: &[u8], t: CommitTime) -> bool
     ensures { λ r. ⌜ r ≡ eqList (now (stored .entry)) (stamped (now (cached .entry)) (t .0)) ⌝ }
 {
     let mut b = [0u8; 32];
-    layout::block::copy(&mut b, cached);
+    fields::block::copy(&mut b, cached);
     layout::slot::stamp(&mut b, t);
-    layout::block::same(stored, &b)
+    fields::block::same(stored, &b)
 }
 
-// Are a cached slot, as it is stamped by the table, and the medium's the same?
-fn same_slot(table: &[u64], cached: &[u8], stored: &[u8]) -> bool
-    requires { ⌜ length (now table) ≡ 192 ⌝ }
+// Are a cached slot, as it is stamped by its place, and the medium's the same?
+fn same_slot(words: &[u64], place: u64, cached: &[u8], stored: &[u8]) -> bool
+    requires { ⌜ length (now words) ≡ 448 ⌝ }
     requires { ⌜ length (now cached) ≡ 32 ⌝ }
     requires { ⌜ length (now stored) ≡ 32 ⌝ }
-    ensures { λ r. ⌜ r ≡ eqList (now (stored .entry)) (stampedSlot (timeIn (now (table .entry))) (now (cached .entry))) ⌝ }
+    ensures { λ r. ⌜ r ≡ eqList (now (stored .entry)) (stampedBy (timeBy (now (words .entry)) place) (now (cached .entry))) ⌝ }
 {
-    let time = stamp_time(table, layout::slot::read(cached));
-    match time {
-        Timing::Untimed => layout::block::same(stored, cached),
-        Timing::Timed(t) => same_stamped(cached, stored, t),
+    if place < 64 {
+        return same_stamped(cached, stored, CommitTime(words[TIMES + (place as usize)]));
     }
+    fields::block::same(stored, cached)
 }
 
 // Is the cached page, once stamped, what the medium holds? Nothing is changed.
-pub fn is_stored(table: &[u64], cached: &[u8], stored: &[u8]) -> bool
-    requires { ⌜ length (now table) ≡ 192 ⌝ }
+fn is_stored(words: &[u64; 448], found: &[u64; 15], cached: &[u8], stored: &[u8]) -> bool
     requires { ⌜ length (now cached) ≡ 512 ⌝ }
     requires { ⌜ length (now stored) ≡ 512 ⌝ }
-    ensures { λ r. ⌜ r ≡ eqList (now (stored .entry)) (stampFrom (timeIn (now (table .entry))) (now (cached .entry)) 0 15) ⌝ }
+    ensures { λ r. ⌜ r ≡ eqList (now (stored .entry)) (stampBy (now (words .entry)) (now (found .entry)) (now (cached .entry)) 0 15) ⌝ }
 {
-    if !layout::block::same(&stored[0..32], &cached[0..32]) {
+    if !fields::block::same(&stored[0..32], &cached[0..32]) {
         return false;
     }
     let mut i: usize = 0;
     while i < 15 {
         let a = 32 + 32 * i;
-        if !same_slot(table, &cached[a..a + 32], &stored[a..a + 32]) {
+        if !same_slot(words, found[i], &cached[a..a + 32], &stored[a..a + 32]) {
             return false;
         }
         i += 1;
@@ -74,85 +99,64 @@ pub fn is_stored(table: &[u64], cached: &[u8], stored: &[u8]) -> bool
     true
 }
 
-// Stamps a slot of the page, if it waits under a number of the table.
-fn stamp_slot(table: &[u64], page: &mut [u8], i: usize)
-    requires { ⌜ length (now table) ≡ 192 ⌝ }
+// Stamps slot i of the page by its place.
+fn stamp_slot(words: &[u64], place: u64, page: &mut [u8], i: usize)
+    requires { ⌜ length (now words) ≡ 448 ⌝ }
     requires { ⌜ length (now page) ≡ 512 ⌝ }
     requires { ⌜ i < 15 ⌝ }
-    ensures { λ _. ⌜ now (page .exit) ≡ stampWith (stampTime (timeIn (now (table .entry))) (slotState (pageSlot (now (page .entry)) i))) (now (page .entry)) i ⌝ }
+    ensures { λ _. ⌜ now (page .exit) ≡ stampWith (timeBy (now (words .entry)) place) (now (page .entry)) i ⌝ }
 {
-    let a = 32 + 32 * i;
-    let slot = layout::slot::read(&page[a..a + 32]);
-    let time = stamp_time(table, slot);
-    match time {
-        Timing::Untimed => {}
-        Timing::Timed(t) => {
-            layout::page::stamp(page, i, t);
-        }
+    if place < 64 {
+        layout::page::stamp(page, i, CommitTime(words[TIMES + (place as usize)]));
     }
 }
 
 // Stamps the page's waiting versions.
-pub fn stamp(table: &[u64], page: &mut [u8])
-    requires { ⌜ length (now table) ≡ 192 ⌝ }
+fn stamp(words: &[u64; 448], found: &[u64; 15], page: &mut [u8])
     requires { ⌜ length (now page) ≡ 512 ⌝ }
-    ensures { λ _. ⌜ now (page .exit) ≡ stampFrom (timeIn (now (table .entry))) (now (page .entry)) 0 15 ⌝ }
+    ensures { λ _. ⌜ now (page .exit) ≡ stampBy (now (words .entry)) (now (found .entry)) (now (page .entry)) 0 15 ⌝ }
 {
     let mut i: usize = 0;
     while i < 15 {
-        stamp_slot(table, page, i);
+        stamp_slot(words, found[i], page, i);
         i += 1;
     }
 }
 
-// Counts the place of a number down.
-fn lower(old: [Place; 64], places: [Place; 64], n: u64) -> [Place; 64]
-    ensures { λ r. ⌜ r ≡ lowerAt (findCommitted old n) places ⌝ }
+// Counts a place down.
+fn lower(words: &mut [u64; 448], place: u64)
+    ensures { λ _. ⌜ ((tail : List ℕ) → stateOf (now (words .exit)) tail ≡ withPlaces (stateOf (now (words .entry)) tail) (lowerBy place (placesOf (now (words .entry))))) ⌝ }
 {
-    let f = live::find_committed(old, n);
-    match f {
-        Found::At(i) => {
-            let mut ps = places;
-            let k = i as usize;
-            ps[k] = live::lower(ps[k]);
-            ps
-        }
-        Found::Nothing => places,
+    if place < 64 {
+        live::places::lower(words, place as usize);
     }
 }
 
-// Counts the place of a slot's transaction down, if the slot is stamped by the table.
-fn settle_slot(table: &[u64], old: [Place; 64], slot: Slot, places: [Place; 64]) -> [Place; 64]
-    requires { ⌜ length (now table) ≡ 192 ⌝ }
-    ensures { λ r. ⌜ r ≡ settleWith (stampTime (timeIn (now (table .entry))) slot) slot old places ⌝ }
+// Counts the places of the versions that are stamped down.
+fn settle(words: &mut [u64; 448], found: &[u64; 15])
+    ensures { λ _. ⌜ ((tail : List ℕ) → stateOf (now (words .exit)) tail ≡ withPlaces (stateOf (now (words .entry)) tail) (settleBy (now (found .entry)) (placesOf (now (words .entry))) 0 15)) ⌝ }
 {
-    match slot {
-        Slot::Empty => places,
-        Slot::Waiting(n) => {
-            let time = live::time_in(table, n.0);
-            match time {
-                Timing::Untimed => places,
-                Timing::Timed(_) => lower(old, places, n.0),
-            }
-        }
-        Slot::Stamped(_) => places,
-    }
-}
-
-// The places once the page's waiting versions are stamped: those of its old bytes are counted.
-pub fn settle(table: &[u64], old: [Place; 64], page: &[u8]) -> [Place; 64]
-    requires { ⌜ length (now table) ≡ 192 ⌝ }
-    requires { ⌜ length (now page) ≡ 512 ⌝ }
-    ensures { λ r. ⌜ r ≡ settleFrom (timeIn (now (table .entry))) old (now (page .entry)) old 0 15 ⌝ }
-{
-    let mut places = old;
     let mut i: usize = 0;
     while i < 15 {
-        let a = 32 + 32 * i;
-        let slot = layout::slot::read(&page[a..a + 32]);
-        let next = settle_slot(table, old, slot, places);
-        places = next;
+        lower(words, found[i]);
         i += 1;
     }
-    places
+}
+
+// Stamps the cached page, copies it to its block and counts its transactions down, unless the block holds it already.
+pub fn store(words: &mut [u64; 448], page: &mut [u8], block: &mut [u8]) -> bool
+    requires { ⌜ (length (now page) ≡ 512) × (length (now block) ≡ 512) ⌝ }
+    ensures { λ r. ⌜ r ≡ not (eqList (now (block .entry)) (stampedUnder (now (words .entry)) (now (page .entry)))) ⌝ }
+    ensures { λ r. ⌜ now (page .exit) ≡ cond r (stampedUnder (now (words .entry)) (now (page .entry))) (now (page .entry)) ⌝ }
+    ensures { λ r. ⌜ now (block .exit) ≡ cond r (stampedUnder (now (words .entry)) (now (page .entry))) (now (block .entry)) ⌝ }
+    ensures { λ r. ⌜ ((tail : List ℕ) → stateOf (now (words .exit)) tail ≡ cond r (withPlaces (stateOf (now (words .entry)) tail) (settledUnder (now (words .entry)) (now (page .entry)))) (stateOf (now (words .entry)) tail)) ⌝ }
+{
+    let found = places_for(words, page);
+    if is_stored(words, &found, page, block) {
+        return false;
+    }
+    stamp(words, &found, page);
+    fields::block::copy(block, page);
+    settle(words, &found);
+    true
 }

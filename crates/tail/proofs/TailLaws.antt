@@ -1,25 +1,28 @@
--- What the functions of the tail need of its definitions: the bounds of its numbers, what may be logged, and what a fitting
--- state gives. Assumes nothing.
+-- What the functions of the tail need of its definitions: the bounds of its numbers, what may be logged, what is left once all
+-- is stored or a record taken, and what a fitting state gives. Assumes nothing.
 use mathlib.Core.Path.{_≡_, refl, ap, _∙_}
-use mathlib.Core.Bool.{Bool, true, false, _&&_}
+use mathlib.Core.Bool.{Bool, true, false, cond, _&&_}
 use mathlib.Core.List.{List}
 use Prim.Native.Nat.{ℕ, _+_, _^_, _≤_, _<_}
 use native.Mathlib.Omega.{arith}
-use lib.ListN.{length, drop, length-take}
-use lib.Dec.{ltb}
+use lib.ListN.{length, drop, getD, set, length-set, length-take}
+use lib.Dec.{eqb, ltb}
 use borrow.Author.Tests.{ltb-true, leb-true, lt-ltb, le-ltb}
-use Rattle.layout.specs.Block.{endPlace}
-use Rattle.layout.specs.Part.{part}
+use Rattle.fields.specs.Block.{mediumLength, endPlace}
+use Rattle.fields.specs.Part.{part}
 use Rattle.layout.specs.Journal.{Record, recordSize, sequenceOf, usedOf, emptyBlock, addRecord}
 use Rattle.layout.specs.Master.{oldestOn}
-use Rattle.layout.proofs.Choose.{and-1}
-use Rattle.layout.proofs.FieldLaws.{Bytes, bytes-take, bytes-drop, dec-lt}
-use Rattle.layout.proofs.JournalLaws.{length-emptyBlock, sequence-emptyBlock, used-emptyBlock, sequence-addRecord}
+use Rattle.fields.proofs.Choose.{and-1}
+use Rattle.fields.proofs.FieldLaws.{Bytes, bytes-take, bytes-drop, dec-lt}
+use Rattle.layout.proofs.JournalLaws.{sequence-emptyBlock, used-emptyBlock, sequence-addRecord}
 use Rattle.layout.specs.declared.EndPlace.{EndPlace}
 use Rattle.store.specs.declared.State.{State}
 use Rattle.store.specs.State.{fits}
+use Rattle.store.specs.StoreLog.{logStored}
 use Rattle.store.specs.Tail.{tailFits, mayLog, tailEnd, storedTail, logged, loggedIf}
 use Rattle.store.proofs.FitLaws.{fit-of}
+use Rattle.memory.specs.Memory.{stateBy, stateOf}
+use Rattle.memory.proofs.NumberLaws.{number-set, places-kept, first-kept-below, state-number}
 use Rattle.tail.specs.Taken.{Ready, taken, begun}
 
 -- a number of two bytes
@@ -57,19 +60,19 @@ pub end-is : (t : List ℕ) (r : EndPlace) (q u : ℕ) → r .0 ≡ endPlace q u
 unfolding tailEnd endAt
 end-is t r q u e eq eu = ap endAt (e ∙ rw (eq, eu))
 
--- ---- the empty block behind the tail has room for a record
+-- ---- all of the tail stored; r is its end place
 
-pub begun-length : (s u : State) → u ≡ begun s → length (u .tail) ≡ 512
-unfolding begun taken
-begun-length s u e = ap (λ (x : State). length (x .tail)) e ∙ length-emptyBlock (sequenceOf (s .tail) + 1)
+pub stored-all : (w t : List ℕ) (r : EndPlace) → length w ≡ 448 → r ≡ tailEnd t
+    → stateOf (set (set w 6 (r .0)) 5 (getD (set w 6 (r .0)) 4 0)) t ≡ logStored (stateOf w t)
+unfolding stateOf stateBy logStored
+stored-all w t r len e =
+    let v = set w 6 (r .0) in
+    let at : (j : ℕ) → getD v j 0 ≡ cond (eqb j 6) (r .0) (getD w j 0) = λ j. number-set w 6 j (r .0) (omega arith) in
+    state-number v t 5 _ (omega arith) (simp length-set len)
+    ∙ simp (at, first-kept-below w 6 (r .0) (omega arith), places-kept w 6 (r .0) (omega arith)) (simp e)
 
-pub begun-used : (s u : State) → u ≡ begun s → usedOf (u .tail) ≡ 10
-unfolding begun taken
-begun-used s u e = ap (λ (x : State). usedOf (x .tail)) e ∙ used-emptyBlock (sequenceOf (s .tail) + 1)
-
--- ---- a record taken; t is the tail with it
-
-abbrev pub withTail : State → List ℕ → State
+-- the state with another tail
+withTail : State → List ℕ → State
 withTail s t = record {
   blocks = s .blocks;
   pages = s .pages;
@@ -85,17 +88,32 @@ withTail s t = record {
   phase = s .phase;
 }
 
-pub took-here : (s : State) (m : List ℕ) (r : Record) (t : List ℕ) → tailFits (s .tail) (recordSize r) ≡ true → t ≡ addRecord (s .tail) r
-    → (withTail s t ≡ taken s (logged s m r)) × (m ≡ logged s m r .medium)
-unfolding taken logged loggedIf
-took-here s m r t f e = (simp (f, e), simp f)
+-- ---- the empty block behind the tail; v and u are words and tail with it
 
--- u is the state with the empty block, and n the medium with the tail stored
-pub took-behind : (s u : State) (m n : List ℕ) (r : Record) (t : List ℕ) → tailFits (s .tail) (recordSize r) ≡ false
-    → u ≡ begun s → n ≡ storedTail (s .blocks) m (s .tail) → t ≡ addRecord (u .tail) r
-    → (withTail u t ≡ taken s (logged s m r)) × (n ≡ logged s m r .medium)
-unfolding taken logged loggedIf begun
-took-behind s u m n r t f eu en et = (simp (f, et, eu), simp (f, en))
+pub begun-is : (w t v u : List ℕ) → stateOf v t ≡ logStored (stateOf w t) → u ≡ emptyBlock (sequenceOf t + 1) → stateOf v u ≡ begun (stateOf w t)
+unfolding stateOf stateBy logStored begun taken withTail
+begun-is w t v u e eu = ap (λ (s : State). withTail s u) e ∙ simp eu
+
+-- it has room for a record
+pub begun-used : (w t v u : List ℕ) → stateOf v u ≡ begun (stateOf w t) → usedOf u ≡ 10
+unfolding stateOf stateBy begun taken
+begun-used w t v u e = ap (λ (x : State). usedOf (x .tail)) e ∙ used-emptyBlock (sequenceOf t + 1)
+
+-- ---- a record taken; x is the tail with it
+
+pub took-here : (w t m : List ℕ) (r : Record) (x : List ℕ) → tailFits t (recordSize r) ≡ true → x ≡ addRecord t r
+    → (stateOf w x ≡ taken (stateOf w t) (logged (stateOf w t) m r)) × (m ≡ logged (stateOf w t) m r .medium)
+unfolding taken logged loggedIf stateOf stateBy
+took-here w t m r x f e = (simp (f, e), simp f)
+
+-- n is the medium with the tail stored
+pub took-behind : (w t v u m n : List ℕ) (r : Record) (x : List ℕ) → tailFits t (recordSize r) ≡ false
+    → stateOf v u ≡ begun (stateOf w t) → n ≡ storedTail (stateOf w t .blocks) m t → x ≡ addRecord u r
+    → (stateOf v x ≡ taken (stateOf w t) (logged (stateOf w t) m r)) × (n ≡ logged (stateOf w t) m r .medium)
+unfolding taken logged loggedIf begun stateOf stateBy withTail
+took-behind w t v u m n r x f eu en ex =
+    let e : u ≡ emptyBlock (sequenceOf t + 1) = ap (λ (s : State). s .tail) eu in
+    (ap (λ (s : State). withTail s x) eu ∙ simp (f, ex, e), simp (f, en))
 
 -- ---- the sequence of a tail that took a record is one that an end place can hold
 
@@ -129,3 +147,17 @@ ready s m c e =
       room = f .tail .used-high;
       sequence = f .tail .sequence-high;
     }
+
+-- what it says of words and tail
+pub record ReadyWords (w t : List ℕ) (m : ℕ) : Type 0 where
+  pub low : 2 ≤ getD w 0 0
+  pub high : getD w 0 0 ≤ 32
+  pub medium : m ≡ mediumLength (getD w 0 0) (getD w 1 0)
+  pub used : 10 ≤ usedOf t
+  pub room : usedOf t ≤ 512
+  pub sequence : sequenceOf t < 2 ^ 48
+
+pub ready-words : (w t : List ℕ) (m : ℕ) → Ready (stateOf w t) m → ReadyWords w t m
+unfolding stateOf stateBy
+ready-words w t m h =
+    record { low = h .low; high = h .high; medium = h .medium; used = h .used; room = h .room; sequence = h .sequence }

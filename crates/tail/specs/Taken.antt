@@ -1,8 +1,7 @@
 -- The state once the tail has taken a record, and what its functions ask of a state that fits.
 use Prim.Native.Nat.{ℕ, _+_, _<_, _≤_, _^_}
 use mathlib.Core.Path.{_≡_}
-use mathlib.Core.List.{List}
-use Rattle.layout.specs.Block.{mediumLength}
+use Rattle.fields.specs.Block.{mediumLength}
 use Rattle.layout.specs.Journal.{sequenceOf, usedOf, emptyBlock}
 use Rattle.store.specs.declared.State.{State}
 use Rattle.store.specs.Tail.{Logged, tailEnd}

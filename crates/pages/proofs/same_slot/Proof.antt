@@ -1,54 +1,45 @@
--- `same_slot` meets its contract: the slot is compared stamped where it has a time, and as it is where it has none.
-use Rattle.pages.specs.Stamped.{stampedSlot}
+-- The slot is compared stamped where it has a place, and as it is where it has none. Assumes nothing.
+use borrow.Author.Tests.{lt-ltb, le-ltb}
+use Rattle.pages.specs.Stamped.{timeBy}
 use borrow.Author.Needs.{needs}
 use Rattle.pages.proofs.same_slot.Statement.{statement}
 use Rattle.pages.proofs.same_slot.Tie as tie
 use Rattle.pages.proofs.same_slot.Reads as reads
 use Rattle.pages.proofs.same_slot.Lts as lts
-use Rattle.layout.proofs.block.same.Reads as same-reads
-use Rattle.layout.proofs.slot.read.Reads as read-reads
+use Rattle.fields.proofs.block.same.Reads as same-reads
 use Rattle.pages.proofs.same_stamped.Reads as same-stamped-reads
-use Rattle.pages.proofs.stamp_time.Reads as stamp-time-reads
 
-read-requires : tie.Need-read-requires
-read-requires c κs = search needs
+add-t7 : tie.Need-add-t7
+add-t7 c = search needs
 
-stamp-time-requires : tie.Need-stamp-time-requires
-stamp-time-requires c κs = search needs
+mul-t8 : tie.Need-mul-t8
+mul-t8 c = search needs
 
-enum-told : tie.Need-enum-told
-enum-told c = search needs
-
-same-requires : tie.Need-same-requires
-same-requires c κs = search needs
-
-enum-known-time : tie.Need-enum-known-time
-enum-known-time c = search needs
+shared-slice-read-t10 : tie.Need-shared-slice-read-t10
+shared-slice-read-t10 c = search needs
 
 same-stamped-requires : tie.Need-same-stamped-requires
 same-stamped-requires c κs = search needs
 
 returns : tie.Need-returns
-unfolding stampedSlot
-returns c =
-    let k = c .before .before .before in
-    simp (← k .before .read .ensures, ← k .stamp-time .ensures, c .before .enum-told .given .1) (c .same .ensures)
+unfolding timeBy
+returns c = simp (lt-ltb _ _ (c .before .before .if1 .taken)) (c .same-stamped .ensures)
+
+same-requires : tie.Need-same-requires
+same-requires c κs = search needs
 
 returns-2 : tie.Need-returns-2
-unfolding stampedSlot
-returns-2 c =
-    let k = c .before .before .before .before in
-    simp (← k .before .read .ensures, ← k .stamp-time .ensures, c .before .before .time .given .1) (c .same-stamped .ensures)
+unfolding timeBy
+returns-2 c = simp (le-ltb _ _ (c .before .if1 .left)) (c .same .ensures)
 
 pub same-slot-spec : {M : Type 1} → statement M
 same-slot-spec =
     tie.close
     (tie.spec
-    read-requires
-    stamp-time-requires
-    enum-told
-    same-requires
-    enum-known-time
+    add-t7
+    mul-t8
+    shared-slice-read-t10
     same-stamped-requires
     returns
+    same-requires
     returns-2)

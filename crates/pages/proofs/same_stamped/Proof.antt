@@ -1,11 +1,11 @@
--- `same_stamped` meets its contract: the slot is copied, and the copy is stamped and compared.
+-- The slot is copied, and the copy is stamped and compared. Assumes nothing.
 use borrow.Author.Needs.{needs}
 use Rattle.pages.proofs.same_stamped.Statement.{statement}
 use Rattle.pages.proofs.same_stamped.Tie as tie
 use Rattle.pages.proofs.same_stamped.Reads as reads
 use Rattle.pages.proofs.same_stamped.Lts as lts
-use Rattle.layout.proofs.block.copy.Reads as copy-reads
-use Rattle.layout.proofs.block.same.Reads as same-reads
+use Rattle.fields.proofs.block.copy.Reads as copy-reads
+use Rattle.fields.proofs.block.same.Reads as same-reads
 use Rattle.layout.proofs.slot.stamp.Reads as stamp-reads
 
 slice-aggregate-copy : tie.Need-slice-aggregate-copy

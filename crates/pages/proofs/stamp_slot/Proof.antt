@@ -1,44 +1,21 @@
--- `stamp_slot` meets its contract: the part that is read is the slot of the definition, and the cases of its time are those of the
--- definition.
-use Rattle.pages.proofs.TurnLaws.{lent-slot}
+-- The slot is stamped where it has a place, and left where it has none. Assumes nothing.
+use borrow.Author.Tests.{lt-ltb, le-ltb}
+use Rattle.pages.specs.Stamped.{timeBy}
 use borrow.Author.Needs.{needs}
 use Rattle.pages.proofs.stamp_slot.Statement.{statement}
 use Rattle.pages.proofs.stamp_slot.Tie as tie
 use Rattle.pages.proofs.stamp_slot.Reads as reads
 use Rattle.pages.proofs.stamp_slot.Lts as lts
 use Rattle.layout.proofs.page.stamp.Reads as stamp-reads
-use Rattle.layout.proofs.slot.read.Reads as read-reads
-use Rattle.pages.proofs.stamp_time.Reads as stamp-time-reads
 
-mul-a : tie.Need-mul-a
-mul-a c = search needs
+add-t10 : tie.Need-add-t10
+add-t10 c = search needs
 
-add-a : tie.Need-add-a
-add-a c = search needs
+mul-t11 : tie.Need-mul-t11
+mul-t11 c = search needs
 
-add-read : tie.Need-add-read
-add-read c = search needs
-
-sub-read : tie.Need-sub-read
-sub-read c = search needs
-
-part-read-start : tie.Need-part-read-start
-part-read-start c = search needs
-
-part-read-end : tie.Need-part-read-end
-part-read-end c = search needs
-
-read-requires : tie.Need-read-requires
-read-requires c κs = search needs
-
-stamp-time-requires : tie.Need-stamp-time-requires
-stamp-time-requires c κs = search needs
-
-enum-told : tie.Need-enum-told
-enum-told c = search needs
-
-enum-known-time : tie.Need-enum-known-time
-enum-known-time c = search needs
+shared-slice-read-t13 : tie.Need-shared-slice-read-t13
+shared-slice-read-t13 c = search needs
 
 stamp-requires : tie.Need-stamp-requires
 stamp-requires c κs = search needs
@@ -47,36 +24,14 @@ same-length : tie.Need-same-length
 same-length c = search needs
 
 returns : tie.Need-returns
-returns c =
-    let k = c .before .before in let a = k .before .before .before .before .before .before .args in
-    simp (← lent-slot (a .page .now) (a .i), ← k .before .read .ensures, ← k .stamp-time .ensures, c .enum-told .given .1)
-
-same-length-2 : tie.Need-same-length-2
-same-length-2 c = search needs
+unfolding timeBy
+returns c = simp (lt-ltb _ _ (c .before .before .before .before .before .if1 .taken)) (c .before .before .stamp .ensures)
 
 returns-2 : tie.Need-returns-2
-returns-2 c =
-    let t = c .before .before .before .before .before in let k = t .before .before in
-    let a = k .before .before .before .before .before .before .args in
-    simp (← lent-slot (a .page .now) (a .i), ← k .before .read .ensures, ← k .stamp-time .ensures, t .time .given .1)
-    (c .before .before .stamp .ensures)
+unfolding timeBy
+returns-2 c = simp (le-ltb _ _ (c .if1 .left))
 
 pub stamp-slot-spec : {M : Type 1} → statement M
 stamp-slot-spec =
     tie.close
-    (tie.spec
-    mul-a
-    add-a
-    add-read
-    sub-read
-    part-read-start
-    part-read-end
-    read-requires
-    stamp-time-requires
-    enum-told
-    enum-known-time
-    stamp-requires
-    same-length
-    returns
-    same-length-2
-    returns-2)
+    (tie.spec add-t10 mul-t11 shared-slice-read-t13 stamp-requires same-length returns returns-2)

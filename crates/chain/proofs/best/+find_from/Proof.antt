@@ -1,21 +1,21 @@
--- `best::find_from` meets its contract: it calls itself on the earlier slot where that is lower, and the slot itself is the measure.
+-- The earlier slot, where it is lower, is searched with the best so far, and the slot itself is the measure. Assumes nothing.
 use mathlib.Core.Path.{sym, _∙_}
-use Prim.Native.Nat.{ℕ, _<_}
 use native.Mathlib.Omega.{arith}
 use borrow.Author.Tests.{not-true, not-false}
-use Rattle.chain.proofs.RoomLaws.{room-lower}
+use Rattle.cached.proofs.RoomLaws.{room-lower}
 use Rattle.chain.proofs.BestLaws.{best-none, best-end, best-down}
 use borrow.Author.Needs.{needs}
+use Prim.Native.Nat.{ℕ, _<_}
 use borrow.Fn.Kinds.{In}
 use borrow.Fn.PlainCycle.{Measures, is, falls, and}
 use Rattle.chain.proofs.best.find_from.Reads as find-from
 use Rattle.chain.proofs.best.find_from.Kinds as find-from-kinds
 use Rattle.chain.proofs.best.+find_from.Lts-find_from as find-from-lts
+use Rattle.cached.proofs.earlier_at.Reads as earlier-at-reads
+use Rattle.cached.proofs.is_version.Reads as is-version-reads
+use Rattle.cached.proofs.state_at.Reads as state-at-reads
 use Rattle.chain.proofs.best.better.Reads as better-reads
 use Rattle.chain.proofs.best.version_time.Reads as version-time-reads
-use Rattle.chain.proofs.newest.earlier_at.Reads as earlier-at-reads
-use Rattle.chain.proofs.newest.is_version.Reads as is-version-reads
-use Rattle.chain.proofs.newest.state_at.Reads as state-at-reads
 use Rattle.chain.proofs.best.+find_from.{statement}
 use Rattle.chain.proofs.best.+find_from.Tie.{close}
 
@@ -36,12 +36,12 @@ find-from-state-at-requires : (t : ℕ) → find-from-lts.Need-state-at-requires
   is-version-reads.Learnt,
   version-time-reads.Asked,
   version-time-reads.Learnt,
+  better-reads.Asked,
+  better-reads.Learnt,
   earlier-at-reads.Asked,
   earlier-at-reads.Learnt,
   find-from-below t,
   find-from.Post,
-  better-reads.Asked,
-  better-reads.Learnt,
 ) (find-from-at t) find-from.Post
 find-from-state-at-requires t c κs = search needs
 
@@ -52,12 +52,12 @@ find-from-is-version-requires : (t : ℕ) → find-from-lts.Need-is-version-requ
   is-version-reads.Learnt,
   version-time-reads.Asked,
   version-time-reads.Learnt,
+  better-reads.Asked,
+  better-reads.Learnt,
   earlier-at-reads.Asked,
   earlier-at-reads.Learnt,
   find-from-below t,
   find-from.Post,
-  better-reads.Asked,
-  better-reads.Learnt,
 ) (find-from-at t) find-from.Post
 find-from-is-version-requires t c κs = search needs
 
@@ -68,17 +68,16 @@ find-from-returns : (t : ℕ) → find-from-lts.Need-returns (
   is-version-reads.Learnt,
   version-time-reads.Asked,
   version-time-reads.Learnt,
+  better-reads.Asked,
+  better-reads.Learnt,
   earlier-at-reads.Asked,
   earlier-at-reads.Learnt,
   find-from-below t,
   find-from.Post,
-  better-reads.Asked,
-  better-reads.Learnt,
 ) (find-from-at t) find-from.Post
 find-from-returns t c =
-    let k = c .before in
-    let v = sym (k .is-version .ensures) ∙ not-true (k .is-version .result) (c .if1 .taken) in
-    best-none _ _ _ _ _ (k .before .state-at .ensures) v
+    let v = sym (c .before .is-version .ensures) ∙ not-true (c .before .is-version .result) (c .if1 .taken) in
+    best-none _ _ _ _ _ _ (c .before .before .state-at .ensures) v
 
 find-from-version-time-requires : (t : ℕ) → find-from-lts.Need-version-time-requires (
   state-at-reads.Asked,
@@ -87,14 +86,30 @@ find-from-version-time-requires : (t : ℕ) → find-from-lts.Need-version-time-
   is-version-reads.Learnt,
   version-time-reads.Asked,
   version-time-reads.Learnt,
+  better-reads.Asked,
+  better-reads.Learnt,
   earlier-at-reads.Asked,
   earlier-at-reads.Learnt,
   find-from-below t,
   find-from.Post,
-  better-reads.Asked,
-  better-reads.Learnt,
 ) (find-from-at t) find-from.Post
 find-from-version-time-requires t c κs = search needs
+
+find-from-better-requires : (t : ℕ) → find-from-lts.Need-better-requires (
+  state-at-reads.Asked,
+  state-at-reads.Learnt,
+  is-version-reads.Asked,
+  is-version-reads.Learnt,
+  version-time-reads.Asked,
+  version-time-reads.Learnt,
+  better-reads.Asked,
+  better-reads.Learnt,
+  earlier-at-reads.Asked,
+  earlier-at-reads.Learnt,
+  find-from-below t,
+  find-from.Post,
+) (find-from-at t) find-from.Post
+find-from-better-requires t c κs = search needs
 
 find-from-earlier-at-requires : (t : ℕ) → find-from-lts.Need-earlier-at-requires (
   state-at-reads.Asked,
@@ -103,12 +118,12 @@ find-from-earlier-at-requires : (t : ℕ) → find-from-lts.Need-earlier-at-requ
   is-version-reads.Learnt,
   version-time-reads.Asked,
   version-time-reads.Learnt,
+  better-reads.Asked,
+  better-reads.Learnt,
   earlier-at-reads.Asked,
   earlier-at-reads.Learnt,
   find-from-below t,
   find-from.Post,
-  better-reads.Asked,
-  better-reads.Learnt,
 ) (find-from-at t) find-from.Post
 find-from-earlier-at-requires t c κs = search needs
 
@@ -119,32 +134,14 @@ find-from-find-from-requires : (t : ℕ) → find-from-lts.Need-find-from-requir
   is-version-reads.Learnt,
   version-time-reads.Asked,
   version-time-reads.Learnt,
+  better-reads.Asked,
+  better-reads.Learnt,
   earlier-at-reads.Asked,
   earlier-at-reads.Learnt,
   find-from-below t,
   find-from.Post,
-  better-reads.Asked,
-  better-reads.Learnt,
 ) (find-from-at t) find-from.Post
-find-from-find-from-requires t c κs =
-    let p = c .before .before .before .before .before .before .before .before .pre in
-    (omega arith, (room-lower _ _ _ (p .1 .0) (omega arith), p .1 .1))
-
-find-from-better-requires : (t : ℕ) → find-from-lts.Need-better-requires (
-  state-at-reads.Asked,
-  state-at-reads.Learnt,
-  is-version-reads.Asked,
-  is-version-reads.Learnt,
-  version-time-reads.Asked,
-  version-time-reads.Learnt,
-  earlier-at-reads.Asked,
-  earlier-at-reads.Learnt,
-  find-from-below t,
-  find-from.Post,
-  better-reads.Asked,
-  better-reads.Learnt,
-) (find-from-at t) find-from.Post
-find-from-better-requires t c κs = search needs
+find-from-find-from-requires t c κs = (omega arith, room-lower _ _ _ (c .before .before .before .before .before .before .before .before .pre .1) (omega arith))
 
 find-from-returns-2 : (t : ℕ) → find-from-lts.Need-returns-2 (
   state-at-reads.Asked,
@@ -153,35 +150,16 @@ find-from-returns-2 : (t : ℕ) → find-from-lts.Need-returns-2 (
   is-version-reads.Learnt,
   version-time-reads.Asked,
   version-time-reads.Learnt,
+  better-reads.Asked,
+  better-reads.Learnt,
   earlier-at-reads.Asked,
   earlier-at-reads.Learnt,
   find-from-below t,
   find-from.Post,
-  better-reads.Asked,
-  better-reads.Learnt,
 ) (find-from-at t) find-from.Post
 find-from-returns-2 t c =
-    let k = c .before .before .before .before .before in
-    let h = k .before in
-    let v = sym (h .is-version .ensures) ∙ not-false (h .is-version .result) (k .if1 .left) in
-    best-down _ _ _ _ _ _ _ _ _ (h .before .state-at .ensures) v (c .before .before .before .before .version-time .ensures) (c .before .before .before .earlier-at .ensures) (c .before .before .if2 .taken)
-    (c .before .find-from .ensures) (c .better .ensures)
-
-find-from-better-requires-2 : (t : ℕ) → find-from-lts.Need-better-requires-2 (
-  state-at-reads.Asked,
-  state-at-reads.Learnt,
-  is-version-reads.Asked,
-  is-version-reads.Learnt,
-  version-time-reads.Asked,
-  version-time-reads.Learnt,
-  earlier-at-reads.Asked,
-  earlier-at-reads.Learnt,
-  find-from-below t,
-  find-from.Post,
-  better-reads.Asked,
-  better-reads.Learnt,
-) (find-from-at t) find-from.Post
-find-from-better-requires-2 t c κs = search needs
+    let v = sym (c .before .before .before .before .before .before .is-version .ensures) ∙ not-false (c .before .before .before .before .before .before .is-version .result) (c .before .before .before .before .before .if1 .left) in
+    best-down _ _ _ _ _ _ _ _ _ _ (c .before .before .before .before .before .before .before .state-at .ensures) v (c .before .before .before .before .version-time .ensures) (c .before .before .before .better .ensures) (c .before .before .earlier-at .ensures) (c .before .if2 .taken) (c .find-from .ensures)
 
 find-from-returns-3 : (t : ℕ) → find-from-lts.Need-returns-3 (
   state-at-reads.Asked,
@@ -190,18 +168,16 @@ find-from-returns-3 : (t : ℕ) → find-from-lts.Need-returns-3 (
   is-version-reads.Learnt,
   version-time-reads.Asked,
   version-time-reads.Learnt,
+  better-reads.Asked,
+  better-reads.Learnt,
   earlier-at-reads.Asked,
   earlier-at-reads.Learnt,
   find-from-below t,
   find-from.Post,
-  better-reads.Asked,
-  better-reads.Learnt,
 ) (find-from-at t) find-from.Post
 find-from-returns-3 t c =
-    let k = c .before .before .before .before in
-    let h = k .before in
-    let v = sym (h .is-version .ensures) ∙ not-false (h .is-version .result) (k .if1 .left) in
-    best-end _ _ _ _ _ _ _ _ (h .before .state-at .ensures) v (c .before .before .before .version-time .ensures) (c .before .before .earlier-at .ensures) (c .before .if2 .left) (c .better2 .ensures)
+    let v = sym (c .before .before .before .before .before .is-version .ensures) ∙ not-false (c .before .before .before .before .before .is-version .result) (c .before .before .before .before .if1 .left) in
+    best-end _ _ _ _ _ _ _ _ _ (c .before .before .before .before .before .before .state-at .ensures) v (c .before .before .before .version-time .ensures) (c .before .before .better .ensures) (c .before .earlier-at .ensures) (c .if2 .left)
 
 pub +find-from-spec : {M : Type 1} → statement M
 +find-from-spec = close μ-find-from λ t. find-from-lts.spec (
@@ -211,12 +187,12 @@ pub +find-from-spec : {M : Type 1} → statement M
   is-version-reads.Learnt,
   version-time-reads.Asked,
   version-time-reads.Learnt,
+  better-reads.Asked,
+  better-reads.Learnt,
   earlier-at-reads.Asked,
   earlier-at-reads.Learnt,
   find-from-below t,
   find-from.Post,
-  better-reads.Asked,
-  better-reads.Learnt,
 )
     (find-from-at t)
     find-from.Post
@@ -224,9 +200,8 @@ pub +find-from-spec : {M : Type 1} → statement M
     (find-from-is-version-requires t)
     (find-from-returns t)
     (find-from-version-time-requires t)
+    (find-from-better-requires t)
     (find-from-earlier-at-requires t)
     (find-from-find-from-requires t)
-    (find-from-better-requires t)
     (find-from-returns-2 t)
-    (find-from-better-requires-2 t)
     (find-from-returns-3 t)

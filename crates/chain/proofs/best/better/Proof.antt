@@ -1,5 +1,7 @@
--- `best::better` meets its contract, arm by arm.
+-- Arm by arm: a version without a time, or with one above t, leaves the best. Assumes nothing.
+use mathlib.Core.Path.{sym}
 use borrow.Author.Tests.{le-leb, lt-leb}
+use Rattle.chain.proofs.BestLaws.{or-none}
 use borrow.Author.Needs.{needs}
 use Rattle.chain.proofs.best.better.Statement.{statement}
 use Rattle.chain.proofs.best.better.Tie as tie
@@ -20,10 +22,10 @@ returns : tie.Need-returns
 returns c = simp (c .before .before .before .before .time .given .1, le-leb _ _ (c .before .if1 .taken), c .later .ensures)
 
 returns-2 : tie.Need-returns-2
-returns-2 c = search needs
+returns-2 c = simp (c .enum-told .given .1) (sym (or-none _))
 
 returns-3 : tie.Need-returns-3
-returns-3 c = simp (c .before .before .before .time .given .1, lt-leb _ _ (c .if1 .left))
+returns-3 c = simp (c .before .before .before .time .given .1, lt-leb _ _ (c .if1 .left)) (sym (or-none _))
 
 pub better-spec : {M : Type 1} → statement M
 better-spec =

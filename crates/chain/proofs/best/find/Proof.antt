@@ -1,6 +1,7 @@
--- `best::find` meets its contract: it searches from the head, if there is one.
+-- The search begins at the head, if there is one. Assumes nothing.
+use Rattle.chain.specs.Later.{orLater}
 use Rattle.store.specs.Chain.{bestOf}
-use Rattle.chain.proofs.RoomLaws.{head-at}
+use Rattle.cached.proofs.RoomLaws.{head-at}
 use borrow.Author.Needs.{needs}
 use Rattle.chain.proofs.best.find.Statement.{statement}
 use Rattle.chain.proofs.best.find.Tie as tie
@@ -12,19 +13,17 @@ enum-known-head : tie.Need-enum-known-head
 enum-known-head c = search needs
 
 find-from-requires : tie.Need-find-from-requires
-find-from-requires c κs =
-    let p = c .before .before .before .before .before .pre in
-    (head-at _ _ _ (c .before .head .given .1) (p .0), p .1)
+find-from-requires c κs = head-at _ _ _ (c .before .head .given .1) (c .before .before .before .before .pre)
 
 enum-told : tie.Need-enum-told
 enum-told c = search needs
 
 returns : tie.Need-returns
-unfolding bestOf
+unfolding bestOf orLater
 returns c = simp (c .before .before .head .given .1, c .find-from .ensures)
 
 returns-2 : tie.Need-returns-2
-unfolding bestOf
+unfolding bestOf orLater
 returns-2 c = simp (c .enum-told .given .1)
 
 pub find-spec : {M : Type 1} → statement M

@@ -1,4 +1,5 @@
--- `best::later` meets its contract, arm by arm.
+-- Arm by arm: among equal times the higher slot stays. Assumes nothing.
+use Rattle.chain.specs.Later.{orLater}
 use borrow.Author.Tests.{le-leb, lt-leb}
 use borrow.Author.Needs.{needs}
 use Rattle.chain.proofs.best.later.Statement.{statement}
@@ -9,17 +10,20 @@ use Rattle.chain.proofs.best.later.Lts as lts
 enum-told : tie.Need-enum-told
 enum-told c = search needs
 
-enum-known-rest : tie.Need-enum-known-rest
-enum-known-rest c = search needs
+enum-known-best : tie.Need-enum-known-best
+enum-known-best c = search needs
 
 returns : tie.Need-returns
-returns c = simp (c .before .before .before .before .rest .given .1, le-leb _ _ (c .if1 .taken))
+unfolding orLater
+returns c = simp (c .before .before .before .before .best .given .1, le-leb _ _ (c .if1 .taken))
 
 returns-2 : tie.Need-returns-2
+unfolding orLater
 returns-2 c = simp (c .enum-told .given .1)
 
 returns-3 : tie.Need-returns-3
-returns-3 c = simp (c .before .before .before .before .rest .given .1, lt-leb _ _ (c .if1 .left))
+unfolding orLater
+returns-3 c = simp (c .before .before .before .before .best .given .1, lt-leb _ _ (c .if1 .left))
 
 pub later-spec : {M : Type 1} → statement M
-later-spec = tie.close (tie.spec enum-told enum-known-rest returns returns-2 returns-3)
+later-spec = tie.close (tie.spec enum-told enum-known-best returns returns-2 returns-3)

@@ -1,11 +1,11 @@
--- `best::version_time` meets its contract, arm by arm.
+-- Arm by arm: a stamp is the time itself, and a waiting version has its pair's. Assumes nothing.
 use Rattle.store.specs.Chain.{versionTime}
 use borrow.Author.Needs.{needs}
 use Rattle.chain.proofs.best.version_time.Statement.{statement}
 use Rattle.chain.proofs.best.version_time.Tie as tie
 use Rattle.chain.proofs.best.version_time.Reads as reads
 use Rattle.chain.proofs.best.version_time.Lts as lts
-use Rattle.live.proofs.time_in.Reads as time-in-reads
+use Rattle.live.proofs.times.time_under.Reads as time-under-reads
 
 enum-told : tie.Need-enum-told
 enum-told c = search needs
@@ -13,8 +13,8 @@ enum-told c = search needs
 enum-known-slot : tie.Need-enum-known-slot
 enum-known-slot c = search needs
 
-time-in-requires : tie.Need-time-in-requires
-time-in-requires c κs = search needs
+time-under-requires : tie.Need-time-under-requires
+time-under-requires c κs = search needs
 
 enum-known-slot-2 : tie.Need-enum-known-slot-2
 enum-known-slot-2 c = search needs
@@ -25,7 +25,7 @@ returns c = simp (c .enum-told .given .1)
 
 returns-2 : tie.Need-returns-2
 unfolding versionTime
-returns-2 c = simp (c .before .before .slot .given .1, c .time-in .ensures)
+returns-2 c = simp (c .before .before .before .slot .given .1, c .time-under .ensures)
 
 returns-3 : tie.Need-returns-3
 unfolding versionTime
@@ -37,7 +37,7 @@ version-time-spec =
     (tie.spec
     enum-told
     enum-known-slot
-    time-in-requires
+    time-under-requires
     enum-known-slot-2
     returns
     returns-2

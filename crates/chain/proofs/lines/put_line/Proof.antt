@@ -1,16 +1,16 @@
--- `lines::put_line` meets its contract: the stores fill the line from the front, one behind the other.
+-- The stores fill the line from the front, one behind the other. Assumes nothing.
 use mathlib.Core.Path.{_∙_}
 use native.Mathlib.Omega.{arith}
 use lib.ListN.{length-set}
-use Rattle.chain.proofs.WriteLaws.{line-laid}
+use Rattle.chain.proofs.ByteLaws.{line-laid}
 use borrow.Author.Needs.{needs}
 use Rattle.chain.proofs.lines.put_line.Statement.{statement}
 use Rattle.chain.proofs.lines.put_line.Tie as tie
 use Rattle.chain.proofs.lines.put_line.Reads as reads
 use Rattle.chain.proofs.lines.put_line.Lts as lts
-use Rattle.layout.proofs.block.clear.Reads as clear-reads
-use Rattle.layout.proofs.block.copy_into.Reads as copy-into-reads
-use Rattle.layout.proofs.field.put8.Reads as put8-reads
+use Rattle.fields.proofs.block.clear.Reads as clear-reads
+use Rattle.fields.proofs.block.copy_into.Reads as copy-into-reads
+use Rattle.fields.proofs.field.put8.Reads as put8-reads
 
 put8-requires : tie.Need-put8-requires
 put8-requires c κs = search needs

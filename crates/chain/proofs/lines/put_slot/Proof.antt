@@ -1,11 +1,11 @@
--- `lines::put_slot` meets its contract: the line is written in the lent part.
+-- The line is written in the lent part. Assumes nothing.
 use mathlib.Core.Path.{ap, _∙_}
 use Prim.Native.Nat.{_*_}
 use native.Mathlib.Omega.{arith}
-use Rattle.layout.specs.Part.{splice}
-use Rattle.layout.proofs.PartLaws.{lent-back}
-use Rattle.chain.proofs.RoomLaws.{slot-room}
-use Rattle.chain.proofs.WriteLaws.{slot-line}
+use Rattle.fields.specs.Part.{splice}
+use Rattle.fields.proofs.PartLaws.{lent-back}
+use Rattle.cached.proofs.RoomLaws.{slot-room}
+use Rattle.chain.proofs.ByteLaws.{slot-line}
 use borrow.Author.Needs.{needs}
 use Rattle.chain.proofs.lines.put_slot.Statement.{statement}
 use Rattle.chain.proofs.lines.put_slot.Tie as tie
@@ -61,12 +61,9 @@ same-length c = search needs
 
 returns : tie.Need-returns
 returns c =
-    let k = c .before .before in
-    let x = k .before .before .before .before in
-    let p = x .before .before .before in
-    let a = 32 * p .args .i in
-    lent-back _ _ a 32 (p .pre .0) (k .put-line .kept .0)
-    ∙ ap (splice _ a) (slot-line _ _ _ _ _ (x .slot-at .ensures) (k .put-line .ensures))
+    let p = c .before .before .before .before .before .before .before .before .before in
+    lent-back _ _ (32 * p .args .i) 32 (p .pre .0) (c .before .before .put-line .kept .0)
+    ∙ ap (splice _ (32 * p .args .i)) (slot-line _ _ _ _ _ (c .before .before .before .before .before .before .slot-at .ensures) (c .before .before .put-line .ensures))
 
 pub put-slot-spec : {M : Type 1} → statement M
 put-slot-spec =

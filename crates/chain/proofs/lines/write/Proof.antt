@@ -1,95 +1,84 @@
--- `lines::write` meets its contract: with the lines that are left, out is what it is to become. The times fall in each turn.
-use mathlib.Core.Path.{_≡_, refl, _∙_}
-use Prim.Native.Nat.{_≤_}
+-- With the lines that are left, out is what it is to become. Assumes nothing.
+use mathlib.Core.Path.{_≡_, refl, sym, _∙_}
+use Prim.Native.Nat.{_-_, _≤_}
+use native.Mathlib.Nat.{sub-zero}
 use native.Mathlib.Omega.{arith}
 use lib.ListN.{length}
-use Rattle.live.specs.Pairs.{timeIn}
-use Rattle.chain.specs.Room.{Within}
-use Rattle.chain.proofs.BestLaws.{best-within, within-at}
-use Rattle.chain.proofs.LineLaws.{span, span-falls, before-within}
-use Rattle.chain.proofs.WriteLaws.{Written, written-first, written-none, written-past, written-room, written-step}
-use borrow.Author.Needs.{needs}
+use Rattle.chain.specs.Ranked.{pairs, Slots}
+use Rattle.chain.proofs.PickLaws.{slot-in, slots-behind, laid, laid-all, laid-end, laid-turn}
 use Rattle.chain.proofs.lines.write.Statement.{statement}
 use Rattle.chain.proofs.lines.write.Tie as tie
 use Rattle.chain.proofs.lines.write.Reads as reads
 use Rattle.chain.proofs.lines.write.Lts as lts
-use Rattle.chain.proofs.best.find.Reads as find-reads
-use Rattle.chain.proofs.lines.find_before.Reads as find-before-reads
-use Rattle.chain.proofs.lines.put_changed.Reads as put-changed-reads
+use Rattle.chain.proofs.lines.put_slot.Reads as put-slot-reads
 
 abbrev Inv-loop : tie.InvT-loop
-Inv-loop head cache table t1 t2 n out₀ i₀ best₀ out i best =
-    Within best (length cache)
-    × (length out ≡ length out₀)
-    × (i ≤ n)
-    × Written cache (timeIn table) head t1 t2 out₀ out i best
+Inv-loop cache ranked n out₀ i₀ out i = (i ≤ n) × (length out ≡ length out₀) × Slots (pairs ranked i (n - i)) (length cache) × (laid cache ranked n out i ≡ laid cache ranked n out₀ 0)
 
 abbrev μ-loop : tie.MeasureT-loop
-μ-loop head cache table t1 t2 n out₀ i₀ best₀ out i best = span best
-
-find-requires : tie.Need-find-requires Inv-loop μ-loop
-find-requires c κs = search needs
+μ-loop cache ranked n out₀ i₀ out i = n - i
 
 loop-holds : tie.Need-loop-holds Inv-loop μ-loop
-loop-holds c =
-    let p = c .before .before .before .before .pre in
-    let e = c .find .ensures in
-    (best-within _ _ _ _ _ _ e (p .0), refl, omega arith, written-first _ _ _ _ _ _ _ _ e (p .1 .1 .0))
+loop-holds c = (omega arith, refl, rw sub-zero (c .before .before .before .pre .1 .1 .0), refl)
 
-enum-told : tie.Need-enum-told Inv-loop μ-loop
-enum-told c = search needs
+add-put-slot : tie.Need-add-put-slot Inv-loop μ-loop
+add-put-slot c = omega arith
 
-same-length : tie.Need-same-length Inv-loop μ-loop
-same-length c = c .before .before .loop .inv .1
+sub-put-slot : tie.Need-sub-put-slot Inv-loop μ-loop
+sub-put-slot c = omega arith
 
-returns : tie.Need-returns Inv-loop μ-loop
-returns c = written-none _ _ _ _ _ _ _ _ _ (c .enum-told .given .1) (c .before .before .loop .inv .3)
+mul-put-slot : tie.Need-mul-put-slot Inv-loop μ-loop
+mul-put-slot c = omega arith
 
-enum-known-b : tie.Need-enum-known-b Inv-loop μ-loop
-enum-known-b c = search needs
+add-put-slot-2 : tie.Need-add-put-slot-2 Inv-loop μ-loop
+add-put-slot-2 c = omega arith
 
-same-length-2 : tie.Need-same-length-2 Inv-loop μ-loop
-same-length-2 c = c .before .before .before .before .before .loop .inv .1
+mul-put-slot-2 : tie.Need-mul-put-slot-2 Inv-loop μ-loop
+mul-put-slot-2 c = omega arith
 
-returns-2 : tie.Need-returns-2 Inv-loop μ-loop
-returns-2 c =
-    let k = c .before .before .before in
-    written-past _ _ _ _ _ _ _ _ _ _ _ (k .b .given .1) (c .if1 .taken) (k .before .before .loop .inv .3)
+shared-slice-read-put-slot : tie.Need-shared-slice-read-put-slot Inv-loop μ-loop
+shared-slice-read-put-slot c = omega arith
 
-find-before-requires : tie.Need-find-before-requires Inv-loop μ-loop
-find-before-requires c κs = search needs
+mul-t17 : tie.Need-mul-t17 Inv-loop μ-loop
+mul-t17 c = omega arith
 
-put-changed-requires : tie.Need-put-changed-requires Inv-loop μ-loop
-put-changed-requires c κs =
-    let k = c .before .before .before .before .before in
-    let l = k .before .before in
-    let e = c .before .find-before .ensures in (
-      omega arith,
-      (
-        within-at _ _ _ _ (k .b .given .1) (l .loop .inv .0),
-        (
-          before-within _ _ _ _ _ _ e (l .before .before .before .before .before .pre .0),
-          written-room _ _ _ _ _ _ _ _ _ _ _ _ (k .b .given .1) (c .before .before .if1 .left) e (l .loop .inv .3),
-        ),
-      ),
-    )
+mul-t18 : tie.Need-mul-t18 Inv-loop μ-loop
+mul-t18 c = omega arith
+
+shared-slice-read-t20 : tie.Need-shared-slice-read-t20 Inv-loop μ-loop
+shared-slice-read-t20 c = omega arith
+
+put-slot-requires : tie.Need-put-slot-requires Inv-loop μ-loop
+put-slot-requires c κs =
+    let l = c .before .before .before .before in
+    let a = l .before .before .before .before .args in
+    (omega arith, slot-in (a .ranked .now) (a .n) (l .loop .i) _ (c .before .before .before .loop-test .taken) (l .loop .inv .2))
+
+add-i : tie.Need-add-i Inv-loop μ-loop
+add-i c = omega arith
 
 loop-less : tie.Need-loop-less Inv-loop μ-loop
-loop-less c =
-    span-falls _ _ _ _ _ _ _ (c .before .before .before .before .before .before .before .before .b .given .1) (c .before .before .before .before .find-before .ensures)
+loop-less c = omega arith
 
 loop-again : tie.Need-loop-again Inv-loop μ-loop
 loop-again c =
-    let r = c .before .before .put-changed .ensures in
-    let e = c .before .before .before .before .find-before .ensures in
-    let k = c .before .before .before .before .before .before .before .before in
-    let l = k .before .before in
-    let p = l .before .before .before .before .before .pre in (
-      before-within _ _ _ _ _ _ e (p .0),
-      c .before .before .put-changed .kept .0 ∙ l .loop .inv .1,
-      omega (arith, r .0),
-      written-step _ _ _ _ _ _ _ _ _ _ _ _ _ _ (p .0) (k .b .given .1) (c .before .before .before .before .before .if1 .left) e (r .0) (r .1) (l .loop .inv .3),
+    let l = c .before .before .before .before .before .before .before in
+    let a = l .before .before .before .before .args in
+    let h = c .before .before .before .before .before .before .loop-test .taken in (
+      omega arith,
+      c .before .before .put-slot .kept .0 ∙ l .loop .inv .1,
+      slots-behind (a .ranked .now) (a .n) (l .loop .i) _ h (l .loop .inv .2),
+      laid-turn (a .cache .now) (a .ranked .now) (a .n) (l .loop .out) _ (l .loop .i) h (l .loop .inv .2) (c .before .before .put-slot .ensures) ∙ l .loop .inv .3,
     )
+
+same-length : tie.Need-same-length Inv-loop μ-loop
+same-length c = c .before .loop .inv .1
+
+returns : tie.Need-returns Inv-loop μ-loop
+returns c =
+    let l = c .before in
+    let a = l .before .before .before .before .args in
+    sym (laid-end (a .cache .now) (a .ranked .now) (a .n) (l .loop .out) (l .loop .i) (c .loop-test .left)) ∙ l .loop .inv .3 ∙ laid-all (a .cache .now) (a .ranked .now) (a .n) _
 
 pub write-spec : {M : Type 1} → statement M
 write-spec =
@@ -97,15 +86,19 @@ write-spec =
     (tie.spec
     Inv-loop
     μ-loop
-    find-requires
     loop-holds
-    enum-told
-    same-length
-    returns
-    enum-known-b
-    same-length-2
-    returns-2
-    find-before-requires
-    put-changed-requires
+    add-put-slot
+    sub-put-slot
+    mul-put-slot
+    add-put-slot-2
+    mul-put-slot-2
+    shared-slice-read-put-slot
+    mul-t17
+    mul-t18
+    shared-slice-read-t20
+    put-slot-requires
+    add-i
     loop-less
-    loop-again)
+    loop-again
+    same-length
+    returns)

@@ -1,9 +1,9 @@
--- `newest::find` meets its contract: it goes down from slot n - 1 until a slot holds a version.
+-- The search goes down from slot n - 1: where no slot above i holds a version, the newest below i is the newest below n. Assumes nothing.
 use mathlib.Core.Path.{_≡_, refl, sym, _∙_}
 use Prim.Native.Nat.{_≤_}
 use native.Mathlib.Omega.{arith}
 use Rattle.store.specs.Chain.{newest}
-use Rattle.chain.proofs.RoomLaws.{room-lower}
+use Rattle.cached.proofs.RoomLaws.{room-lower}
 use Rattle.chain.proofs.NewestLaws.{newest-hit, newest-miss, newest-end}
 use Rattle.chain.proofs.newest.find.Statement.{statement}
 use Rattle.chain.proofs.newest.find.Tie as tie

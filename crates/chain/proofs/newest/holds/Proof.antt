@@ -1,13 +1,13 @@
--- `newest::holds` meets its contract: it asks for the record and for a version.
+-- A slot holds a version of the record where its key is the record and it is a version. Assumes nothing.
 use Rattle.chain.proofs.NewestLaws.{holds-not, holds-as}
 use borrow.Author.Needs.{needs}
 use Rattle.chain.proofs.newest.holds.Statement.{statement}
 use Rattle.chain.proofs.newest.holds.Tie as tie
 use Rattle.chain.proofs.newest.holds.Reads as reads
 use Rattle.chain.proofs.newest.holds.Lts as lts
-use Rattle.chain.proofs.newest.is_version.Reads as is-version-reads
-use Rattle.chain.proofs.newest.key_at.Reads as key-at-reads
-use Rattle.chain.proofs.newest.state_at.Reads as state-at-reads
+use Rattle.cached.proofs.is_version.Reads as is-version-reads
+use Rattle.cached.proofs.key_at.Reads as key-at-reads
+use Rattle.cached.proofs.state_at.Reads as state-at-reads
 
 key-at-requires : tie.Need-key-at-requires
 key-at-requires c κs = search needs

@@ -1,11 +1,11 @@
--- `newest::holds_against` meets its contract, arm by arm.
+-- Arm by arm: a slot that waits under another number holds where that number is found active. Assumes nothing.
 use borrow.Author.Tests.{eq-eqb, ne-eqb}
 use borrow.Author.Needs.{needs}
 use Rattle.chain.proofs.newest.holds_against.Statement.{statement}
 use Rattle.chain.proofs.newest.holds_against.Tie as tie
 use Rattle.chain.proofs.newest.holds_against.Reads as reads
 use Rattle.chain.proofs.newest.holds_against.Lts as lts
-use Rattle.live.proofs.find_active.Reads as find-active-reads
+use Rattle.live.proofs.places.find_active.Reads as find-active-reads
 
 enum-told : tie.Need-enum-told
 enum-told c = search needs
@@ -32,14 +32,10 @@ returns-2 : tie.Need-returns-2
 returns-2 c = search needs
 
 returns-3 : tie.Need-returns-3
-returns-3 c =
-    let k = c .before .before .before in
-    simp (k .before .before .before .slot .given .1, ne-eqb _ _ (k .if1 .left), ← c .before .before .find-active .ensures, c .enum-told2 .given .1)
+returns-3 c = simp (c .before .before .before .before .before .before .before .slot .given .1, ne-eqb _ _ (c .before .before .before .before .if1 .left), ← c .before .before .find-active .ensures, c .enum-told2 .given .1)
 
 returns-4 : tie.Need-returns-4
-returns-4 c =
-    let k = c .before .before .before in
-    simp (k .before .before .before .slot .given .1, ne-eqb _ _ (k .if1 .left), ← c .before .before .find-active .ensures, c .enum-told3 .given .1)
+returns-4 c = simp (c .before .before .before .before .before .before .before .slot .given .1, ne-eqb _ _ (c .before .before .before .before .if1 .left), ← c .before .before .find-active .ensures, c .enum-told3 .given .1)
 
 returns-5 : tie.Need-returns-5
 returns-5 c = search needs

@@ -1,6 +1,6 @@
--- `visible::find` meets its contract: it searches from the head, if there is one.
+-- The search begins at the head, if there is one. Assumes nothing.
 use Rattle.store.specs.Chain.{visibleOf}
-use Rattle.chain.proofs.RoomLaws.{head-at}
+use Rattle.cached.proofs.RoomLaws.{head-at}
 use borrow.Author.Needs.{needs}
 use Rattle.chain.proofs.visible.find.Statement.{statement}
 use Rattle.chain.proofs.visible.find.Tie as tie
@@ -12,9 +12,7 @@ enum-known-head : tie.Need-enum-known-head
 enum-known-head c = search needs
 
 find-from-requires : tie.Need-find-from-requires
-find-from-requires c κs =
-    let p = c .before .before .before .before .before .pre in
-    (head-at _ _ _ (c .before .head .given .1) (p .0), p .1)
+find-from-requires c κs = head-at _ _ _ (c .before .head .given .1) (c .before .before .before .before .pre)
 
 enum-told : tie.Need-enum-told
 enum-told c = search needs

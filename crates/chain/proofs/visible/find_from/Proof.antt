@@ -1,34 +1,35 @@
--- `visible::find_from` meets its contract: in each turn what is seen from the present slot on is what is seen from s on.
+-- In each turn what is seen from the present slot on is what is seen from s on. Assumes nothing.
 use mathlib.Core.Path.{_≡_, refl, sym, _∙_}
 use mathlib.Core.Bool.{true}
 use Prim.Native.Nat.{suc, _≤_}
 use native.Mathlib.Omega.{arith}
 use borrow.Author.Tests.{not-true, not-false}
 use Rattle.store.specs.Chain.{isVersion, visibleFrom}
-use Rattle.live.specs.Pairs.{timeIn}
-use Rattle.chain.proofs.RoomLaws.{room-lower}
+use Rattle.store.specs.Places.{timeUnder}
+use Rattle.memory.specs.Memory.{placesOf}
+use Rattle.cached.proofs.RoomLaws.{room-lower}
 use Rattle.chain.proofs.VisibleLaws.{visible-none, visible-here, visible-end, visible-down}
 use borrow.Author.Needs.{needs}
 use Rattle.chain.proofs.visible.find_from.Statement.{statement}
 use Rattle.chain.proofs.visible.find_from.Tie as tie
 use Rattle.chain.proofs.visible.find_from.Reads as reads
 use Rattle.chain.proofs.visible.find_from.Lts as lts
-use Rattle.chain.proofs.newest.earlier_at.Reads as earlier-at-reads
-use Rattle.chain.proofs.newest.is_version.Reads as is-version-reads
-use Rattle.chain.proofs.newest.state_at.Reads as state-at-reads
+use Rattle.cached.proofs.earlier_at.Reads as earlier-at-reads
+use Rattle.cached.proofs.is_version.Reads as is-version-reads
+use Rattle.cached.proofs.state_at.Reads as state-at-reads
 use Rattle.chain.proofs.visible.sees.Reads as sees-reads
 
 abbrev Inv-loop : tie.InvT-loop
-Inv-loop cache table n s at₀ at = (at ≤ s) × (visibleFrom cache (timeIn table) n (suc at) at ≡ visibleFrom cache (timeIn table) n (suc s) s)
+Inv-loop cache words n s at₀ at = (at ≤ s) × (visibleFrom cache (timeUnder (placesOf words)) n (suc at) at ≡ visibleFrom cache (timeUnder (placesOf words)) n (suc s) s)
 
 abbrev μ-loop : tie.MeasureT-loop
-μ-loop cache table n s at₀ at = at
+μ-loop cache words n s at₀ at = at
 
 loop-holds : tie.Need-loop-holds Inv-loop μ-loop
 loop-holds c = (omega arith, refl)
 
 state-at-requires : tie.Need-state-at-requires Inv-loop μ-loop
-state-at-requires c κs = room-lower _ _ _ (c .before .before .before .pre .0) (omega arith)
+state-at-requires c κs = room-lower _ _ _ (c .before .before .pre) (omega arith)
 
 is-version-requires : tie.Need-is-version-requires Inv-loop μ-loop
 is-version-requires c κs = search needs
@@ -53,7 +54,7 @@ returns-2 c =
     visible-here _ _ _ _ _ _ (k .before .state-at .ensures) v (c .before .sees .ensures) (c .if2 .taken) ∙ k .before .before .loop .inv .1
 
 earlier-at-requires : tie.Need-earlier-at-requires Inv-loop μ-loop
-earlier-at-requires c κs = room-lower _ _ _ (c .before .before .before .before .before .before .before .before .pre .0) (omega arith)
+earlier-at-requires c κs = room-lower _ _ _ (c .before .before .before .before .before .before .before .pre) (omega arith)
 
 returns-3 : tie.Need-returns-3 Inv-loop μ-loop
 returns-3 c =
