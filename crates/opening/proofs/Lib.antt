@@ -1,14 +1,6 @@
-pub mod CursorLaws
-pub mod GatherLaws
-pub mod BlockPasses
-pub mod AllOfLaws
-pub mod TableLaws
-pub mod RecordsLaws
 pub mod RedoLaws
-pub mod SlotsLaws
 pub mod InsertLaws
-pub mod ChecksLaws
-pub mod FormedLaws
+pub mod WaitLaws
 pub mod PlacesLaws
 pub mod SurveyLaws
 pub mod SurveyedLaws

@@ -1,66 +1,109 @@
 -- The places that table and log give: how many slots wait under a number, the table's places one after the other, and
 -- the log's: leaving a number out when its turn comes is leaving it out of the list. Assumes nothing.
 use mathlib.Core.Path.{_≡_, refl, sym, ap, _∙_}
-use mathlib.Core.Bool.{Bool, true, false, cond, not, _&&_, and-true}
+use mathlib.Core.Bool.{Bool, true, false, cond, not, _&&_, and-true, false≢true}
 use mathlib.Core.Option.{Option}
-use mathlib.Core.List.{List, [], _∷_, _++_, append-nil}
-use Prim.Native.Nat.{ℕ, zero, suc, _+_, _-_, _%_, _≤_, _<_}
+use mathlib.Core.List.{List, [], _∷_}
+use Prim.Native.Nat.{ℕ, zero, suc, _+_, _%_, _≤_, _<_}
 use native.Mathlib.Numerals.{add-one}
 use native.Mathlib.Omega.{arith}
 use native.Mathlib.Decide.{ℕ-discrete, decLt}
-use lib.ListN.{length, take, getD, set}
-use lib.Seq.{take-all, take-suc-set, append-snoc, slice, slice-empty, slice-cons}
+use lib.ListN.{length, getD, set, replicate, getD-replicate}
+use lib.Seq.{getD-set-same, getD-set-other, set-getD, set-set, ext-getD, slice, slice-empty, slice-cons}
 use lib.Dec.{eqb, ltb}
-use borrow.Author.Tests.{lt-ltb, le-ltb, eq-eqb, ne-eqb, leb-true}
+use borrow.Author.Tests.{lt-ltb, le-ltb, ltb-true, ltb-false, eq-eqb, ne-eqb, eqb-true, eqb-false}
 use Rattle.layout.specs.Table.{tablePair}
-use Rattle.layout.specs.declared.TxNumber.{TxNumber}
 use Rattle.layout.specs.declared.CommitTime.{CommitTime}
 use Rattle.layout.specs.declared.EndPlace.{EndPlace}
 use Rattle.layout.specs.declared.item.Pair.{Pair}
 use Rattle.layout.specs.declared.slot.Slot.{Slot}
 use Rattle.layout.specs.declared.slot.Slot.the-variants.{Empty, Waiting, Stamped}
-use Rattle.layout.proofs.Choose.{cond-elim}
+use Rattle.fields.proofs.Choose.{cond-elim}
 use Rattle.store.specs.declared.Place.{Place}
+use Rattle.store.specs.declared.State.{State}
+use Rattle.store.specs.State.{withPlace}
+use Rattle.memory.specs.Memory.{listed, placesOf, stateBy, stateOf}
+use Rattle.memory.proofs.ColumnLaws.{length-listed, getD-listed, length-places}
+use Rattle.live.proofs.SetLaws.{state-count}
 use Rattle.store.specs.declared.Life.the-variants.{Committed}
 use Rattle.store.specs.declared.Found.{Found as Finding}
 use Rattle.store.specs.declared.Found.the-variants.{At, Nothing}
 use Rattle.store.specs.Places.{first, isAt, isFree, placeAt, freePlace, ringPlace, findFree}
 use Rattle.store.specs.Chain.{cellAt, isTimed}
 use Rattle.store.specs.OpenLog.{Placed, Commitment, commitUnder}
-use Rattle.store.specs.OpenPairs.{tableFind, tableOr, timeOfCommitment, pairTime, waitsUnder, countWaiting, insert, insertIf, withWaiting, waitingNumbers, livePlace, tablePlaces, timeOrZero, takeFree, isPaired, inLogAlone, openPlaces}
-use Rattle.opening.specs.declared.log.Match.{Match}
-use Rattle.opening.specs.declared.log.Match.the-variants.{Found, Absent}
-use Rattle.opening.specs.declared.waiting.Numbers.{Numbers}
-use Rattle.opening.specs.Lookup.{Above, Rising, Collected, commitsOf, commitAmong, matchOf, placeOf, tablePlace, freeUnless, takeOne, takeAll}
-use Rattle.opening.proofs.TableLaws.{match-some, match-none}
-use Rattle.store.proofs.SearchLaws.{first-found}
-use Rattle.opening.proofs.GatherLaws.{among-commits}
-use Rattle.opening.proofs.InsertLaws.{insert-front, rising-waiting}
+use Rattle.store.specs.OpenPairs.{tableFind, tableOr, timeOfCommitment, endOfCommitment, pairTime, countWaiting, insert, insertIf, withWaiting, waitingNumbers, livePlace, tablePlaces, timeOrZero, takeAt, takeFree, isPaired, inLogAlone, openPlaces}
+use Rattle.conditions.specs.declared.log.Match.{Match}
+use Rattle.conditions.specs.declared.log.Match.the-variants.{Found, Absent}
+use Rattle.conditions.specs.Lookup.{commitsOf, commitAmong, matchOf, Extent}
+use Rattle.opening.specs.Waits.{Above, Rising, waitingUnder, Gathered}
+use Rattle.opening.specs.Placing.{withPlaces, placeOf, tablePlace, freeUnless, takeOne, takeAll}
+use Rattle.conditions.proofs.TableLaws.{match-some, match-none}
+use Rattle.store.proofs.SearchLaws.{first-found, first-nothing}
+use Rattle.conditions.proofs.GatherLaws.{among-commits}
+use Rattle.opening.proofs.WaitLaws.{under-count}
+use Rattle.opening.proofs.InsertLaws.{above-lower, insert-front, rising-waiting}
 
--- ---- how many of the first slots wait under a number: b is what the code found of slot i
+-- ---- the places in the words: those of v, and all else as in w
 
-pub count-hit : (c : List ℕ) (n i k : ℕ) (s : Slot) (b : Bool) → s ≡ cellAt c i .state → b ≡ waitsUnder s n → b ≡ true → k ≡ countWaiting c n i
-    → k + 1 ≡ countWaiting c n (i + 1)
-unfolding countWaiting
-count-hit c n i k s b es eb t w = rw (add-one i) (simp (← es, ← eb, t, ← w))
+abbrev pub Laid : List ℕ → List ℕ → Type 0
+Laid w v = (tail : List ℕ) → stateOf v tail ≡ withPlaces (stateOf w tail) (placesOf v)
 
-pub count-miss : (c : List ℕ) (n i k : ℕ) (s : Slot) (b : Bool) → s ≡ cellAt c i .state → b ≡ waitsUnder s n → b ≡ false → k ≡ countWaiting c n i
-    → k ≡ countWaiting c n (i + 1)
-unfolding countWaiting
-count-miss c n i k s b es eb t w = let e : k + 0 ≡ k = omega arith in rw (add-one i) (simp (← es, ← eb, t, ← w, e))
+pub laid-none : (w : List ℕ) → Laid w w
+unfolding stateOf stateBy withPlaces
+laid-none w = λ tail. refl
 
--- ---- a place by the log's commit record: x is what the code found
+-- u is v with one other place, or with all places others
+module _ (v u : List ℕ) (i : ℕ) (q : Place) (one : (tail : List ℕ) → stateOf u tail ≡ withPlace (stateOf v tail) i q) where
+  pub one-places : placesOf u ≡ set (placesOf v) i q
+  unfolding stateOf stateBy withPlace
+  one-places = ap (λ (x : State). x .places) (one [])
+
+  pub laid-one : (w : List ℕ) → Laid w v → Laid w u
+  unfolding stateOf stateBy withPlace withPlaces
+  laid-one w l = λ tail. one tail ∙ ap (λ (x : State). withPlaces x (set (placesOf v) i q)) (l tail) ∙ ap (withPlaces (stateOf w tail)) (sym one-places)
+
+module _ (v u : List ℕ) (ps : List Place) (all : (tail : List ℕ) → stateOf u tail ≡ withPlaces (stateOf v tail) ps) where
+  pub all-places : placesOf u ≡ ps
+  unfolding stateOf stateBy withPlaces
+  all-places = ap (λ (x : State). x .places) (all [])
+
+  pub laid-all : (w : List ℕ) → Laid w v → Laid w u
+  unfolding stateOf stateBy withPlaces
+  laid-all w l = λ tail. all tail ∙ ap (λ (x : State). withPlaces x ps) (l tail) ∙ ap (withPlaces (stateOf w tail)) (sym all-places)
+
+  -- and then others again
+  pub laid-over : (x : List ℕ) (qs : List Place) → Laid u x → placesOf x ≡ qs → (tail : List ℕ) → stateOf x tail ≡ withPlaces (stateOf v tail) qs
+  unfolding stateOf stateBy withPlaces
+  laid-over x qs l e = λ tail. l tail ∙ ap (λ (s : State). withPlaces s (placesOf x)) (all tail) ∙ ap (withPlaces (stateOf v tail)) e
+
+-- a place that is not changed
+pub place-kept : (w : List ℕ) (i : ℕ) (q : Place) → placeAt (placesOf w) i ≡ q → (tail : List ℕ) → stateOf w tail ≡ withPlace (stateOf w tail) i q
+unfolding stateOf stateBy withPlace withPlaces placeAt
+place-kept w i q e = λ tail. ap (withPlaces (stateOf w tail)) (sym (ap (set (placesOf w) i) (sym e) ∙ set-getD (placesOf w) i freePlace))
+
+-- the count set behind the place: v is w with place q
+place-again : (s : State) (i : ℕ) (q r : Place) → withPlace (withPlace s i q) i r ≡ withPlace s i r
+unfolding withPlace
+place-again s i q r = rw (set-set (s .places) i q r)
+
+module _ (w v : List ℕ) (i : ℕ) (q : Place) (h : i < 64) (len : length v ≡ 448) (one : (tail : List ℕ) → stateOf v tail ≡ withPlace (stateOf w tail) i q) where
+  place-put : placeAt (placesOf v) i ≡ q
+  unfolding placeAt
+  place-put = rw (one-places w v i q one) (getD-set-same (placesOf w) i q freePlace (rw (length-places w) h))
+
+  pub place-counted : (k : ℕ) (tail : List ℕ) → stateOf (set v (384 + i) k) tail ≡ withPlace (stateOf w tail) i (record { life = q .life; waiting = k })
+  place-counted k tail =
+      state-count v i h len k tail ∙ ap (λ (p : Place). withPlace (stateOf v tail) i (record { life = p .life; waiting = k })) place-put
+      ∙ ap (λ (s : State). withPlace s i (record { life = q .life; waiting = k })) (one tail) ∙ place-again (stateOf w tail) i q (record { life = q .life; waiting = k })
+
+-- ---- what the log's commit record says: x is what the code found
 
 module _ (o : Option Commitment) (x : Match) (found : x ≡ matchOf o) where
-  pub place-found : (n : TxNumber) (t u : CommitTime) (e : EndPlace) (waiting : ℕ) → x ≡ Found u e
-      → record { life = Committed n t e; waiting = waiting } ≡ placeOf o n t waiting
-  unfolding placeOf
-  place-found n t u e waiting g = simp (match-some o u e (sym g ∙ found))
+  pub end-found : (t : CommitTime) (e : EndPlace) → x ≡ Found t e → e ≡ record { 0 = endOfCommitment o }
+  end-found t e g = simp (match-some o t e (sym g ∙ found))
 
-  pub place-absent : (n : TxNumber) (t : CommitTime) (waiting : ℕ) → x ≡ Absent
-      → record { life = Committed n t (record { 0 = 0 }); waiting = waiting } ≡ placeOf o n t waiting
-  unfolding placeOf
-  place-absent n t waiting g = simp (match-none o (sym g ∙ found))
+  pub end-absent : x ≡ Absent → _≡_ {A = EndPlace} (record { 0 = 0 }) (record { 0 = endOfCommitment o })
+  end-absent g = simp (match-none o (sym g ∙ found))
 
   pub logged-found : (n waiting : ℕ) (t : CommitTime) (e : EndPlace) → x ≡ Found t e
       → record { life = Committed (record { 0 = n }) t e; waiting = waiting } ≡ placeOf o (record { 0 = n }) (record { 0 = timeOrZero o }) waiting
@@ -72,40 +115,90 @@ module _ (o : Option Commitment) (x : Match) (found : x ≡ matchOf o) where
   unfolding placeOf
   logged-absent n waiting g = simp (match-none o (sym g ∙ found))
 
--- ---- the place of table place i: p is what the code read there, k how many slots wait under its number
+-- ---- the place of table place i: p is what the code read there, k how many versions wait under its number
 
-module _ (m : List ℕ) (log : List Placed) (c : List ℕ) (slots i : ℕ) where
-  pub place-vacant : (p : Pair) → p ≡ tablePair m i → p .number .0 ≡ 0 → freePlace ≡ tablePlace m log c slots i
+module _ (m : List ℕ) (log : List Placed) (f : ℕ → ℕ) (i : ℕ) where
+  pub place-vacant : (p : Pair) → p ≡ tablePair m i → p .number .0 ≡ 0 → freePlace ≡ tablePlace m log f i
   unfolding tablePlace
   place-vacant p e z = simp (← e, eq-eqb (p .number .0) 0 z)
 
-  pub place-dead : (p : Pair) (k : ℕ) → p ≡ tablePair m i → (p .number .0 ≡ 0 → ⊥) → k ≡ countWaiting c (p .number .0) slots → k ≡ 0
-      → freePlace ≡ tablePlace m log c slots i
-  unfolding tablePlace
-  place-dead p k e z w h = simp (← e, ne-eqb (p .number .0) 0 z, ← w, le-ltb 0 k (omega arith))
+  module _ (p : Pair) (k : ℕ) (read : p ≡ tablePair m i) (some : p .number .0 ≡ 0 → ⊥) (waits : k ≡ f (p .number .0)) where
+    pub place-dead : k ≡ 0 → freePlace ≡ tablePlace m log f i
+    unfolding tablePlace
+    place-dead h = simp (← read, ne-eqb (p .number .0) 0 some, ← waits, le-ltb 0 k (omega arith))
 
-  pub place-live : (p : Pair) (k : ℕ) (r : Place) (cs : List ℕ) → p ≡ tablePair m i → (p .number .0 ≡ 0 → ⊥) → k ≡ countWaiting c (p .number .0) slots → (k ≡ 0 → ⊥)
-      → cs ≡ commitsOf log → r ≡ placeOf (commitAmong cs (p .number .0)) (p .number) (p .time) k → r ≡ tablePlace m log c slots i
-  unfolding tablePlace livePlace placeOf
-  place-live p k r cs e z w h g f = (rw (g, among-commits log (p .number .0)) at f) ∙ sym (simp (← e, ne-eqb (p .number .0) 0 z, ← w, lt-ltb 0 k (omega arith)))
+    pub place-live : (k ≡ 0 → ⊥) → (e : EndPlace) (cs : List ℕ) → cs ≡ commitsOf log → e ≡ record { 0 = endOfCommitment (commitAmong cs (p .number .0)) }
+        → record { life = Committed (p .number) (p .time) e; waiting = k } ≡ tablePlace m log f i
+    unfolding tablePlace placeOf
+    place-live h e cs g q =
+        let z : e ≡ record { 0 = endOfCommitment (commitUnder log (p .number .0)) } = q ∙ rw (g, among-commits log (p .number .0)) in
+        sym (simp (← read, ne-eqb (p .number .0) 0 some, ← waits, lt-ltb 0 k (omega arith), z))
 
--- ---- all places of the table: the first i are laid
+-- ---- all places of the table: the first i are laid in v, the others are free
 
-module _ (m : List ℕ) (log : List Placed) (c : List ℕ) (slots : ℕ) where
-  pub places-turn : (ps : List Place) (i : ℕ) (v : Place) → length ps ≡ 64 → i < 64 → v ≡ tablePlace m log c slots i
-      → take (i + 1) (set ps i v) ++ tablePlaces m log c slots (i + 1) (64 - (i + 1)) ≡ take i ps ++ tablePlaces m log c slots i (64 - i)
-  unfolding tablePlaces tablePlace
-  places-turn ps i v l h e =
-      let z : 64 - i ≡ suc (64 - (i + 1)) = omega arith in
-      ap (λ (a : List Place). a ++ tablePlaces m log c slots (i + 1) (64 - (i + 1))) (ap (λ (j : ℕ). take j (set ps i v)) (add-one i) ∙ take-suc-set ps i v (omega arith))
-      ∙ append-snoc (take i ps) v (tablePlaces m log c slots (i + 1) (64 - (i + 1)))
-      ∙ ap (λ (a : List Place). take i ps ++ a) (simp (z, e))
+pub record Laying (m : List ℕ) (log : List Placed) (f : ℕ → ℕ) (w v : List ℕ) (i : ℕ) : Type 0 where
+  pub laid : Laid w v
+  pub done : (j : ℕ) → j < i → placeAt (placesOf v) j ≡ tablePlace m log f j
+  pub free : (j : ℕ) → i ≤ j → j < 64 → placeAt (placesOf v) j ≡ freePlace
 
-  pub places-end : (ps : List Place) (i : ℕ) (g : List Place) → length ps ≡ 64 → 64 ≤ i → take i ps ++ tablePlaces m log c slots i (64 - i) ≡ g → ps ≡ g
-  unfolding tablePlaces
-  places-end ps i g l h w =
-      let z : 64 - i ≡ 0 = omega arith in
-      sym (take-all i ps (omega arith)) ∙ sym (append-nil (take i ps)) ∙ (rw z at w)
+module _ (m : List ℕ) (log : List Placed) (f : ℕ → ℕ) (w : List ℕ) where
+  pub laying-start : placesOf w ≡ replicate 64 freePlace → Laying m log f w w 0
+  unfolding placeAt
+  laying-start e = record {
+    laid = laid-none w;
+    done = λ j h. absurd (omega arith);
+    free = λ j h l. rw e (getD-replicate 64 j freePlace freePlace l);
+  }
+
+  pub laying-turn : (v u : List ℕ) (i : ℕ) → i < 64 → Laying m log f w v i → ((tail : List ℕ) → stateOf u tail ≡ withPlace (stateOf v tail) i (tablePlace m log f i))
+      → Laying m log f w u (i + 1)
+  unfolding placeAt
+  laying-turn v u i h l one = record {
+    laid = laid-one v u i (tablePlace m log f i) one w (l .laid);
+    done = λ j g. rw (one-places v u i (tablePlace m log f i) one) (at j g (eqb j i) refl);
+    free = λ j g k. rw (one-places v u i (tablePlace m log f i) one) (getD-set-other (placesOf v) i j (tablePlace m log f i) freePlace (λ e. omega arith) ∙ l .free j (omega arith) k);
+  }
+    where
+      at : (j : ℕ) → j < i + 1 → (b : Bool) → eqb j i ≡ b → getD (set (placesOf v) i (tablePlace m log f i)) j freePlace ≡ tablePlace m log f j
+      at j g true e = rw (eqb-true j i e) (getD-set-same (placesOf v) i (tablePlace m log f i) freePlace (rw (length-places v) h))
+      at j g false e = let d = eqb-false j i e in getD-set-other (placesOf v) i j (tablePlace m log f i) freePlace d ∙ l .done j (omega (arith, d))
+
+  -- the table's places from i on are empty
+  pub laying-end : (v : List ℕ) (i : ℕ) → Extent m i → Laying m log f w v i → (tail : List ℕ) → stateOf v tail ≡ withPlaces (stateOf w tail) (listed (tablePlace m log f) 0 64)
+  unfolding placeAt
+  laying-end v i x l = λ tail. l .laid tail ∙ ap (withPlaces (stateOf w tail)) same
+    where
+      at : (j : ℕ) → j < 64 → (b : Bool) → ltb j i ≡ b → getD (placesOf v) j freePlace ≡ tablePlace m log f j
+      at j h true e = l .done j (ltb-true j i e)
+      at j h false e = let g = ltb-false j i e in l .free j g h ∙ place-vacant m log f j (tablePair m j) refl (x .empty j g h)
+
+      same : placesOf v ≡ listed (tablePlace m log f) 0 64
+      same =
+          ext-getD freePlace (placesOf v) (listed (tablePlace m log f) 0 64) (length-places v ∙ sym (length-listed (tablePlace m log f) 0 64))
+          (λ j h. let g : j < 64 = rw (length-places v) at h in
+          at j g (ltb j i) refl ∙ sym (getD-listed (tablePlace m log f) 0 64 j freePlace g ∙ ap (tablePlace m log f) (omega arith)))
+
+-- by the list they are the places of the definition: a number of the table has a pair
+tabled-paired : (m : List ℕ) (log : List Placed) (i n : ℕ) → i < 64 → tablePair m i .number .0 ≡ n → (n ≡ 0 → ⊥) → isPaired m log n ≡ true
+unfolding isPaired pairTime tableFind
+tabled-paired m log i n h e z = rw (ne-eqb n 0 z) (go (first (λ j. eqb (tablePair m j .number .0) n) 64 0) refl)
+  where
+    go : (x : Finding) → first (λ j. eqb (tablePair m j .number .0) n) 64 0 ≡ x → isTimed (tableOr x m (timeOfCommitment (commitUnder log n))) ≡ true
+    go (At j) q = refl
+    go Nothing q = absurd (false≢true (sym (first-nothing _ 64 0 q i (omega arith) (omega arith)) ∙ eq-eqb (tablePair m i .number .0) n e))
+
+module _ (m : List ℕ) (log : List Placed) (c : List ℕ) (slots : ℕ) (f : ℕ → ℕ) (counted : (n : ℕ) → isPaired m log n ≡ true → f n ≡ countWaiting c n slots) where
+  tabled-same : (i k : ℕ) → i + k ≤ 64 → listed (tablePlace m log f) i k ≡ tablePlaces m log c slots i k
+  unfolding listed tablePlaces tablePlace placeOf livePlace
+  tabled-same i zero h = refl
+  tabled-same i (suc k) h = rw (tabled-same (i + 1) k (omega arith)) (go (eqb (tablePair m i .number .0) 0) refl)
+    where
+      go : (b : Bool) → eqb (tablePair m i .number .0) 0 ≡ b
+          → let n = tablePair m i .number .0 in let t = tablePair m i .time .0 in let e = endOfCommitment (commitUnder log n) in
+          cond (not b && ltb 0 (f n)) (record { life = Committed (record { 0 = n }) (record { 0 = t }) (record { 0 = e }); waiting = f n }) freePlace ∷ tablePlaces m log c slots (i + 1) k
+          ≡ cond (not b && ltb 0 (countWaiting c n slots)) (record { life = Committed (record { 0 = n }) (record { 0 = t }) (record { 0 = e }); waiting = countWaiting c n slots }) freePlace ∷ tablePlaces m log c slots (i + 1) k
+      go true e = refl
+      go false e = rw (counted (tablePair m i .number .0) (tabled-paired m log i (tablePair m i .number .0) (omega arith) refl (eqb-false (tablePair m i .number .0) 0 e)))
 
 -- ---- the first free place
 
@@ -137,25 +230,20 @@ free-found ps Nothing i e = first-found _ 64 0 i e .1
 
 -- ---- a place for number n: f is where the code found that it is
 
-module _ (m : List ℕ) (log : List Placed) (c : List ℕ) (slots : ℕ) (ps : List Place) (n : ℕ) (f : Finding) (free : f ≡ freeUnless (tableFind m n) ps) where
-  pub take-none : f ≡ Nothing → ps ≡ takeOne m log c slots ps n
-  unfolding takeOne
-  take-none h = simp (← free, h)
+pub taken-none : (w : List ℕ) (f g : Finding) (p : Place) → f ≡ g → f ≡ Nothing → (tail : List ℕ) → stateOf w tail ≡ withPlaces (stateOf w tail) (takeAt g (placesOf w) p)
+unfolding stateOf stateBy withPlaces
+taken-none w f g p e h = λ tail. rw (sym e ∙ h)
 
-  pub take-free : (i waiting : ℕ) (v : Place) (cs : List ℕ) → f ≡ At i → waiting ≡ countWaiting c n slots → cs ≡ commitsOf log
-      → v ≡ placeOf (commitAmong cs n) (record { 0 = n }) (record { 0 = timeOrZero (commitAmong cs n) }) waiting → set ps i v ≡ takeOne m log c slots ps n
-  unfolding takeOne livePlace placeOf
-  take-free i waiting v cs h w g l = simp (← free, h, l, w, g, among-commits log n)
+pub taken-at : (w v : List ℕ) (f g : Finding) (i : ℕ) (p q : Place) → f ≡ g → f ≡ At i → q ≡ p → ((tail : List ℕ) → stateOf v tail ≡ withPlace (stateOf w tail) i q)
+    → (tail : List ℕ) → stateOf v tail ≡ withPlaces (stateOf w tail) (takeAt g (placesOf w) p)
+unfolding stateOf stateBy withPlace withPlaces
+taken-at w v f g i p q e h d one = λ tail. rw (sym e ∙ h, ← d) (one tail)
 
 -- ---- the numbers that pass a test, of a rising list
 
 unfoldable keep : (ℕ → Bool) → List ℕ → List ℕ
 keep q [] = []
 keep q (x ∷ xs) = cond (q x) (x ∷ keep q xs) (keep q xs)
-
-above-lower : (n x : ℕ) (xs : List ℕ) → n < x → Above x xs → Above n xs
-above-lower n x [] h a = tt
-above-lower n x (y ∷ ys) h a = omega arith
 
 above-keep : (q : ℕ → Bool) (n : ℕ) (xs : List ℕ) → Above n xs → Rising xs → Above n (keep q xs)
 unfolding keep
@@ -235,19 +323,22 @@ module _ (m : List ℕ) (log : List Placed) (c : List ℕ) (slots : ℕ) where
   take-all-waiting ps = take-kept ps (waitingNumbers c (isPaired m log) slots) ∙ ap (takeFree m log c slots ps) (keep-waiting (isPaired m log) untabled (inLogAlone m log) alone c slots)
 
   -- the numbers from the i-th on: next is what the code made of ps and the i-th
-  pub taken-start : (ps : List Place) (r : Numbers) → Collected (waitingNumbers c (isPaired m log) slots) r → r .ok ≡ true → ps ≡ tablePlaces m log c slots 0 64
-      → takeAll m log c slots ps (slice 0 (r .count) (r .list)) ≡ openPlaces m log c slots
+  pub taken-start : (ps : List Place) (list : List ℕ) (total : ℕ) → Gathered c (isPaired m log) slots list total
+      → ps ≡ listed (tablePlace m log (waitingUnder list total)) 0 64 → takeAll m log c slots ps (slice 0 total list) ≡ openPlaces m log c slots
   unfolding openPlaces
-  taken-start ps r w t e = rw (w .list t, e) (take-all-waiting (tablePlaces m log c slots 0 64))
+  taken-start ps list total g e =
+      rw (g .numbers, e, tabled-same m log c slots (waitingUnder list total) (under-count c (isPaired m log) slots list total g) 0 64 (omega arith))
+      (take-all-waiting (tablePlaces m log c slots 0 64))
 
-  pub taken-turn : (ps next : List Place) (list : List ℕ) (i total n : ℕ) → i < total → total ≤ length list → n ≡ getD list i 0 → next ≡ takeOne m log c slots ps n
+  pub taken-turn : (ps next : List Place) (list cs : List ℕ) (i total : ℕ) → i < total → Gathered c (isPaired m log) slots list total → cs ≡ commitsOf log
+      → let n = getD list i 0 in
+      next ≡ takeAt (freeUnless (tableFind m n) ps) ps (placeOf (commitAmong cs n) (record { 0 = n }) (record { 0 = timeOrZero (commitAmong cs n) }) (getD list (64 + i) 0))
       → takeAll m log c slots next (slice (i + 1) total list) ≡ takeAll m log c slots ps (slice i total list)
-  unfolding takeAll
-  taken-turn ps next list i total n h k e w = rw (w, e, add-one) (sym (ap (takeAll m log c slots ps) (slice-cons i total list 0 h k)))
+  unfolding takeAll takeOne livePlace placeOf
+  taken-turn ps next list cs i total h g e w =
+      let q : next ≡ takeOne m log c slots ps (getD list i 0) = w ∙ rw (e, among-commits log (getD list i 0), g .counts i h) in
+      rw (q, add-one) (sym (ap (takeAll m log c slots ps) (slice-cons i total list 0 h (omega (arith, g .few, g .size)))))
 
   pub taken-end : (ps : List Place) (list : List ℕ) (i total : ℕ) → i ≤ total → total ≤ i → ps ≡ takeAll m log c slots ps (slice i total list)
   unfolding takeAll
   taken-end ps list i total h k = let e : i ≡ total = omega arith in rw (e, slice-empty total list)
-
-pub collected-few : (g : List ℕ) (r : Numbers) → Collected g r → r .ok ≡ true → r .count ≤ 64
-collected-few g r w t = let h = leb-true (length g) 64 (sym (w .few) ∙ t) in let e = w .count t in omega arith

@@ -8,22 +8,45 @@ use mathlib.Core.List.{List, [], _∷_}
 use lib.ListN.{length}
 use lib.Dec.{eqb, ltb}
 use borrow.Author.Tests.{ltb-true}
-use Rattle.layout.specs.Block.{blk, pageOf}
+use Rattle.fields.specs.Block.{blk, pageOf}
 use Rattle.layout.specs.Page.{pageUsed, putVersion}
 use Rattle.layout.specs.Journal.{version, commit}
 use Rattle.layout.specs.declared.item.VersionHead.{VersionHead}
 use Rattle.layout.specs.declared.item.Pair.{Pair}
-use Rattle.layout.proofs.Choose.{and-0, and-1}
+use Rattle.fields.proofs.Choose.{and-0, and-1}
 use Rattle.layout.proofs.CacheLaws.{length-putVersion}
 use Rattle.layout.proofs.PlaceLaws.{slot-page-below}
+use Rattle.store.specs.declared.State.{State}
 use Rattle.store.specs.Write.{cellFor, touched}
 use Rattle.store.specs.OpenLog.{Placed}
 use Rattle.store.specs.OpenRedo.{Redone, applies, redoOne, redo}
-use Rattle.opening.specs.declared.cursor.Cursor.{Cursor}
-use Rattle.opening.specs.Cursor.{restOf, Valid}
-use Rattle.opening.specs.Lookup.{slotsBelow}
-use Rattle.opening.specs.Passes.{redoOk}
-use Rattle.opening.proofs.CursorLaws.{Next}
+use Rattle.memory.specs.Memory.{firstOf, stateBy, stateOf, withFirst}
+use Rattle.conditions.specs.declared.cursor.Cursor.{Cursor}
+use Rattle.conditions.specs.Cursor.{restOf, Valid}
+use Rattle.conditions.specs.Lookup.{slotsBelow}
+use Rattle.conditions.specs.Passes.{redoOk}
+use Rattle.conditions.proofs.CursorLaws.{Next}
+
+-- ---- the first changes in the words: v has others than w, and nothing else that differs
+
+abbrev pub Noted : List ℕ → List ℕ → Type 0
+Noted w v = (tail : List ℕ) → stateOf v tail ≡ withFirst (stateOf w tail) (firstOf v)
+
+pub noted-none : (w : List ℕ) → Noted w w
+unfolding stateOf stateBy withFirst
+noted-none w = λ tail. refl
+
+-- u is v with page p touched
+module _ (v u : List ℕ) (p s : ℕ) (touch : (tail : List ℕ) → stateOf u tail ≡ withFirst (stateOf v tail) (touched (stateOf v tail .first) p s)) where
+  pub noted-first : firstOf u ≡ touched (firstOf v) p s
+  unfolding stateOf stateBy withFirst
+  noted-first = ap (λ (x : State). x .first) (touch [])
+
+  pub noted-touch : (w : List ℕ) → Noted w v → Noted w u
+  unfolding stateOf stateBy withFirst
+  noted-touch w n = λ tail. touch tail ∙ ap (λ (x : State). withFirst x (touched (firstOf v) p s)) (n tail) ∙ ap (withFirst (stateOf w tail)) (sym noted-first)
+
+-- ---- the records
 
 -- a version that the page has already, and one that it lacks
 pass-is : (d : Redone) (x : Placed) (h : VersionHead) (v : List ℕ) → x .rec ≡ version h v → applies (d .cache) h (x .end) ≡ false → redoOne d x ≡ d

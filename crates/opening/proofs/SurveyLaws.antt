@@ -10,28 +10,28 @@ use mathlib.Core.List.{List}
 use lib.ListN.{length, take, drop}
 use lib.Dec.{eqb, leb, ltb}
 use borrow.Author.Tests.{ltb-true, eqb-true, lt-ltb, le-ltb, le-leb, lt-leb, eq-eqb, ne-eqb, not-true, not-false}
-use Rattle.layout.specs.Field.{dec}
-use Rattle.layout.specs.Block.{blk, logBlockAt, endPlace}
+use Rattle.fields.specs.Field.{dec}
+use Rattle.fields.specs.Block.{blk, logBlockAt, endPlace}
 use Rattle.layout.specs.Page.{pageUsed}
 use Rattle.layout.specs.Journal.{sequenceOf, usedOf, usedForm, parsed, emptyBlock}
 use Rattle.layout.specs.Master.{masterOf, oldestOn}
 use Rattle.layout.specs.declared.master.Fields.{Fields}
 use Rattle.layout.specs.declared.master.Found.{Found}
 use Rattle.layout.specs.declared.master.Found.the-variants.{Whole, Broken}
-use Rattle.layout.proofs.Choose.{cond-elim, and-0, and-1}
-use Rattle.layout.proofs.FieldLaws.{Bytes, bytes-take, bytes-drop}
-use Rattle.layout.proofs.PartLaws.{lent-part}
-use Rattle.layout.proofs.BlockLaws.{part-blk, length-blk}
+use Rattle.fields.proofs.Choose.{cond-elim, and-0, and-1}
+use Rattle.fields.proofs.FieldLaws.{Bytes, bytes-take, bytes-drop}
+use Rattle.fields.proofs.PartLaws.{lent-part}
+use Rattle.fields.proofs.BlockLaws.{part-blk, length-blk}
 use Rattle.layout.proofs.RecordLaws.{dec-part-lt}
 use Rattle.layout.proofs.MasterLaws.{MasterParts, master-parts, oldestOn-is}
 use Rattle.layout.proofs.JournalLaws.{sequence-emptyBlock, used-emptyBlock}
 use Rattle.store.specs.OpenLog.{nextOn, blockOf, matching, readCount, readTail, logEnd}
 use Rattle.store.specs.OpenRedo.{usedIn}
 use Rattle.store.specs.OpenConditions.{sizesAre, lowAfterAll}
-use Rattle.opening.specs.Cursor.{Ready}
-use Rattle.opening.specs.Passes.{allOf, pageOk, recordsOk, masterOk, blocksOk, mediumOk}
-use Rattle.opening.proofs.ChecksLaws.{one-up}
-use Rattle.opening.proofs.CursorLaws.{block-lent, block-in, matching-low}
+use Rattle.conditions.specs.Cursor.{Ready}
+use Rattle.conditions.specs.Passes.{allOf, pageOk, recordsOk, masterOk, blocksOk, mediumOk}
+use Rattle.conditions.proofs.ChecksLaws.{one-up}
+use Rattle.conditions.proofs.CursorLaws.{block-lent, block-in, matching-low}
 
 -- ---- the answer x, found as r, where `if !r` was taken or left
 

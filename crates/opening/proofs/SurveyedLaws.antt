@@ -1,32 +1,36 @@
--- What a survey finds: each finding is one part of "well formed", and a survey that finds all of them in order has what the
--- state is made of. By the definitions; assumes nothing.
-use mathlib.Core.Path.{_≡_, refl, sym, ap, _∙_}
+-- What a survey finds: each finding is one part of "well formed", and where all of them are in order, words and tail hold
+-- the opened state. By the definitions; assumes nothing.
+use mathlib.Core.Path.{_≡_, refl, sym, ap, subst, _∙_}
 use mathlib.Core.Bool.{Bool, true, false, _&&_}
 use Prim.Native.Nat.{ℕ, _*_, _≤_, _<_, _^_, max}
 use native.Mathlib.Omega.{arith}
 use mathlib.Core.List.{List, []}
-use Rattle.layout.specs.Field.{dec}
-use Rattle.layout.specs.Part.{part}
+use lib.ListN.{length, replicate}
+use lib.Dec.{leb}
+use Rattle.fields.specs.Field.{dec}
+use Rattle.fields.specs.Part.{part}
 use Rattle.layout.specs.Master.{oldestOn}
-use Rattle.layout.proofs.Choose.{and-0, and-1}
+use Rattle.fields.proofs.Choose.{and-0, and-1}
+use Rattle.store.specs.declared.State.{State}
+use Rattle.store.specs.Places.{freePlace}
 use Rattle.store.specs.OpenLog.{nextOn, timeOn, aboveAll, latest, readCount, readLog, readTail, nextNumber, lastTime}
 use Rattle.store.specs.OpenRedo.{Redone, pagesOn, untouched, redo, usedIn}
 use Rattle.store.specs.OpenPairs.{waitingNumbers, isPaired, openPlaces}
 use Rattle.store.specs.Open.{openedState}
-use Rattle.store.specs.declared.Place.{Place}
-use Rattle.store.specs.declared.Phase.the-variants.{Idle}
 use Rattle.store.specs.OpenConditions.{fullBefore, copied, redone, wellFormed}
-use Rattle.opening.specs.declared.cursor.Cursor.{Cursor}
-use Rattle.opening.specs.declared.waiting.Numbers.{Numbers}
-use Rattle.opening.specs.declared.survey.Survey.{Survey}
+use Rattle.memory.specs.Memory.{lifeBy, placeIn, listed, placesOf, firstOf, phaseBy, stateBy, stateOf, blank, withFirst}
+use Rattle.conditions.specs.declared.cursor.Cursor.{Cursor}
+use Rattle.conditions.specs.Cursor.{Valid, restOf}
+use Rattle.conditions.specs.Lookup.{commitsOf, Extent, Known, slotsBelow}
+use Rattle.conditions.specs.Passes.{allOf, pageOk, redoOk, logOk, placeOk, masterOk, blocksOk, slotOk, tableAndSlots, cacheOk, mediumOk, passes}
+use Rattle.conditions.proofs.BlockPasses.{never, blocks-slots}
+use Rattle.conditions.proofs.CursorLaws.{rest-block, matching-low}
+use Rattle.conditions.proofs.FormedLaws.{formed}
 use Rattle.opening.specs.declared.survey.LogFound.{LogFound}
 use Rattle.opening.specs.declared.survey.LogFound.the-variants.{Good, Bad}
-use Rattle.opening.specs.Cursor.{Valid, restOf}
-use Rattle.opening.specs.Lookup.{commitsOf, Extent, Known, slotsBelow, Collected, Surveyed, ReadGood, Applied, ReadAs}
-use Rattle.opening.specs.Passes.{allOf, pageOk, redoOk, logOk, placeOk, masterOk, blocksOk, slotOk, tableAndSlots, cacheOk, mediumOk, passes}
-use Rattle.opening.proofs.BlockPasses.{never, blocks-slots}
-use Rattle.opening.proofs.CursorLaws.{rest-block, matching-low}
-use Rattle.opening.proofs.FormedLaws.{formed}
+use Rattle.opening.specs.Placing.{withPlaces}
+use Rattle.opening.specs.Surveyed.{withNumbers, ReadGood, Applied, ReadAs}
+use Rattle.opening.proofs.RedoLaws.{Noted}
 use Rattle.opening.proofs.SurveyLaws.{oldest-low}
 
 -- ---- the table, the pages and the slots of the cache: t, f and s are what was found of them
@@ -97,23 +101,27 @@ module _ (m : List ℕ) (l d : ℕ) (log : Cursor) (end : ℕ) (good : ReadGood 
   unfolding readLog
   read-slots = rw read-rest (blocks-slots m l d 0 (oldestOn m) (readCount m l) blocks-good)
 
-  -- redo, from the cache `before` to the cache `c`
-  module _ (before c : List ℕ) (pages : before ≡ pagesOn m l d) (ok : Bool) (first : List ℕ)
-      (run : (ok ≡ redoOk (record { cache = before; first = untouched }) (restOf m l log))
-      × (ok ≡ true → record { cache = c; first = first } ≡ redo (record { cache = before; first = untouched }) (restOf m l log))) where
+  -- redo, from the cache `before` to the cache c, and from the first changes of the words w to those of v
+  module _ (before c w v : List ℕ) (pages : before ≡ pagesOn m l d) (fresh : w ≡ blank) (ok : Bool)
+      (run : (ok ≡ redoOk (record { cache = before; first = firstOf w }) (restOf m l log))
+      × (ok ≡ true → record { cache = c; first = firstOf v } ≡ redo (record { cache = before; first = firstOf w }) (restOf m l log))) where
+    first-none : firstOf w ≡ untouched
+    unfolding firstOf blank untouched
+    first-none = ap firstOf fresh
+
     redo-is : redoOk (copied m l d) (readLog m l) ≡ ok
     unfolding copied
-    redo-is = sym (rw (pages, read-rest) at (run .0))
+    redo-is = sym (rw (pages, first-none, read-rest) at (run .0))
 
     pub not-redone : ok ≡ false → wellFormed m l d ≡ false
     unfolding passes
     not-redone e = formed m l d ∙ rw (good .ok, redo-is, e)
 
-    redone-is : ok ≡ true → record { cache = c; first = first } ≡ redone m l d
+    redone-is : ok ≡ true → record { cache = c; first = firstOf v } ≡ redone m l d
     unfolding redone copied
-    redone-is e = rw (pages, read-rest) at (run .1 e)
+    redone-is e = rw (pages, first-none, read-rest) at (run .1 e)
 
-    pub applied : ok ≡ true → Applied m l d log end c first
+    pub applied : ok ≡ true → Applied m l d log end c (firstOf v)
     applied e = record {
       read = good;
       redo = redo-is ∙ e;
@@ -160,42 +168,25 @@ module _ (m : List ℕ) (l d : ℕ) (log : Cursor) (end : ℕ) (c first : List �
         not-kept e = passes-is ∙ rw (log-is, fine, ← judged, e)
 
         -- the numbers that wait
-        pub few-is : kept ≡ true → (numbers : Numbers) → Collected (waitingNumbers c (isPaired m (readLog m l)) (15 * d)) numbers → wellFormed m l d ≡ numbers .ok
+        pub few-is : kept ≡ true → (few : Bool) → few ≡ leb (length (waitingNumbers c (isPaired m (readLog m l)) (15 * d))) 64 → wellFormed m l d ≡ few
         unfolding cacheOk
-        few-is e numbers waits = passes-is ∙ rw (log-is, fine, ← judged, e, ← (waits .few))
+        few-is e few waits = passes-is ∙ rw (log-is, fine, ← judged, e, ← waits)
 
-  pub surveyed : (next last : ℕ) (places : List Place) → l ≤ 32 → next ≡ nextNumber m l → last ≡ lastTime m l → places ≡ openPlaces m (readLog m l) c (15 * d)
-      → Surveyed m l d c (record { ok = true; log = log; next = next; last = last; end = end; first = first; places = places })
-  surveyed next last places h e f g = record {
-    cache = done .cache;
-    log = applied-rest;
-    valid = read-valid m l d log end (done .read) h;
-    oldest = done .read .sequence;
-    blocks = done .read .left;
-    next = e;
-    last = f;
-    end = done .read .end;
-    first = done .first;
-    places = g;
-  }
+-- ---- the state: the words w are blank but for the first changes, v has the places too, and u the numbers
 
--- ---- the state of what was found
+pub noted-blank : (w v : List ℕ) → w ≡ blank → Noted w v → Noted blank v
+noted-blank w v e n = subst (λ (x : List ℕ). Noted x v) e n
 
-module _ (m : List ℕ) (l d : ℕ) (c : List ℕ) (r : Survey) (found : Surveyed m l d c r) where
-  pub opened-is : (slots : ℕ) (tail : List ℕ) → slots ≡ usedIn c d → tail ≡ readTail m l
-      → record {
-        blocks = l;
-        pages = d;
-        slots = slots;
-        next = record { 0 = r .next };
-        last = record { 0 = r .last };
-        saved = record { 0 = r .last };
-        end = record { 0 = r .end };
-        tail = tail;
-        places = r .places;
-        ring = 0;
-        first = r .first;
-        phase = Idle;
-      } ≡ openedState m l d
-  unfolding openedState
-  opened-is slots tail e f = rw (e, f, found .places, found .next, found .last, found .end, found .first, found .cache)
+pub places-none : (w : List ℕ) → Noted blank w → placesOf w ≡ replicate 64 freePlace
+unfolding stateOf stateBy withFirst placesOf listed placeIn lifeBy blank
+places-none w noted = ap (λ (s : State). s .places) (noted [])
+
+module _ (m : List ℕ) (l d : ℕ) (log : Cursor) (end : ℕ) (c w v u tail : List ℕ) (done : Applied m l d log end c (firstOf w)) (noted : Noted blank w)
+    (laid : (tail : List ℕ) → stateOf v tail ≡ withPlaces (stateOf w tail) (openPlaces m (readLog m l) c (15 * d)))
+    (slots next last : ℕ) (numbered : (tail : List ℕ) → stateOf u tail ≡ withNumbers (stateOf v tail) l d slots next last end) where
+  pub opened-is : slots ≡ usedIn c d → next ≡ nextNumber m l → last ≡ lastTime m l → tail ≡ readTail m l → stateOf u tail ≡ openedState m l d
+  unfolding stateOf stateBy phaseBy blank withFirst withPlaces withNumbers openedState
+  opened-is a e f t =
+      numbered tail
+      ∙ ap (λ (s : State). withNumbers s l d slots next last end) (laid tail ∙ ap (λ (s : State). withPlaces s (openPlaces m (readLog m l) c (15 * d))) (noted tail))
+      ∙ rw (a, e, f, t, done .read .end, done .first, done .cache)

@@ -1,3 +1,3 @@
-pub mod Cursor
-pub mod Passes
-pub mod Lookup
+pub mod Waits
+pub mod Placing
+pub mod Surveyed

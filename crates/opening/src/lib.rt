@@ -1,11 +1,5 @@
-// Opening: what is read, the conditions that it must keep, and what is made of it.
-pub mod blocks;
-pub mod cursor;
-pub mod log;
+// Opening: whether a medium is well formed, and what is made of it: redo, the numbers that wait, places, the state.
 pub mod places;
-pub mod records;
 pub mod redo;
-pub mod slots;
 pub mod survey;
-pub mod table;
 pub mod waiting;

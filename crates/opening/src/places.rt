@@ -1,181 +1,186 @@
 // The places of live transactions that table and log give.
-use crate::log::Match;
-use crate::waiting::Numbers;
+use crate::waiting::Inserted;
+use conditions::log::Match;
 use layout::CommitTime;
 use layout::EndPlace;
 use layout::TxNumber;
-use layout::slot::Slot;
+use memory::COUNTS;
 use store::Found;
-use store::Life;
-use store::Place;
 ghost use mathlib.Core.Path.{_≡_};
 ghost use mathlib.Core.Bool.{true};
-ghost use Prim.Native.Nat.{suc, _+_, _*_, _<_, _≤_};
-ghost use lib.ListN.{length, take};
+ghost use mathlib.Core.List.{List};
+ghost use Prim.Native.Nat.{ℕ, _*_, _<_, _≤_};
+ghost use lib.ListN.{length, replicate};
+ghost use lib.Dec.{leb};
+ghost use Rattle.store.specs.declared.Life.the-variants.{Committed};
+ghost use Rattle.store.specs.Places.{freePlace, placeAt};
+ghost use Rattle.store.specs.State.{withPlace};
 ghost use Rattle.store.specs.OpenLog.{readLog};
-ghost use Rattle.store.specs.OpenPairs.{tableFind, timeOrZero, waitsUnder, countWaiting, tablePlaces, isPaired, waitingNumbers, openPlaces};
-ghost use Rattle.chain.specs.Room.{Room};
-ghost use Rattle.opening.specs.Cursor.{Ready};
-ghost use Rattle.opening.specs.Lookup.{Extent, Known, commitsOf, commitAmong, Collected, placeOf, tablePlace, freeUnless};
+ghost use Rattle.store.specs.OpenPairs.{tableFind, endOfCommitment, timeOrZero, takeAt, isPaired, waitingNumbers, openPlaces};
+ghost use Rattle.memory.specs.Memory.{listed, placesOf, stateOf};
+ghost use Rattle.conditions.specs.Cursor.{Ready};
+ghost use Rattle.conditions.specs.Lookup.{Extent, Known, commitsOf, commitAmong};
+ghost use Rattle.opening.specs.Waits.{waitingUnder};
+ghost use Rattle.opening.specs.Placing.{withPlaces, placeOf, tablePlace, freeUnless};
 
-fn waits_under(slot: Slot, n: u64) -> bool
-    ensures { λ r. ⌜ r ≡ waitsUnder slot n ⌝ }
+// How many versions wait under a number, by the list.
+fn waiting_under(list: &[u64; 128], total: u64, n: u64) -> u64
+    requires { ⌜ total ≤ 64 ⌝ }
+    ensures { λ r. ⌜ r ≡ waitingUnder (now (list .entry)) total n ⌝ }
 {
-    match slot {
-        Slot::Empty => false,
-        Slot::Waiting(m) => m.0 == n,
-        Slot::Stamped(_) => false,
+    let f = crate::waiting::find(list, total, n);
+    match f {
+        Found::At(i) => list[64 + (i as usize)],
+        Found::Nothing => 0,
     }
 }
 
-// How many slots wait under a number.
-pub fn count(cache: &[u8], n: u64, slots: u64) -> u64
-    requires { ⌜ Room (length (now cache)) slots ⌝ }
-    ensures { λ r. ⌜ r ≡ countWaiting (now (cache .entry)) n slots ⌝ }
+// The end place of a number's commit record; 0 where the log has none.
+fn end_under(commits: &[u64], n: u64) -> EndPlace
+    ensures { λ r. ⌜ r ≡ record { 0 = endOfCommitment (commitAmong (now (commits .entry)) n) } ⌝ }
 {
-    let mut k: u64 = 0;
-    let mut i: u64 = 0;
-    while i < slots {
-        if waits_under(chain::newest::state_at(cache, i), n) {
-            k = k + 1;
-        }
-        i += 1;
-    }
-    k
-}
-
-// A live committed transaction's place.
-fn live_place(commits: &[u64], n: TxNumber, t: CommitTime, waiting: u64) -> Place
-    ensures { λ r. ⌜ r ≡ placeOf (commitAmong (now (commits .entry)) (n .0)) n t waiting ⌝ }
-{
-    let c = crate::log::commit_under(commits, n.0);
+    let c = conditions::log::commit_under(commits, n);
     match c {
-        Match::Found(_, e) => Place {
-            life: Life::Committed(n, t, e),
-            waiting: waiting,
-        },
-        Match::Absent => Place {
-            life: Life::Committed(n, t, EndPlace(0)),
-            waiting: waiting,
-        },
+        Match::Found(_, e) => e,
+        Match::Absent => EndPlace(0),
     }
 }
 
-// The place that a table place gives: live if versions wait under its number.
-fn table_place(
+// Puts a committed transaction with its waiting versions into place i.
+fn put_live(
+    words: &mut [u64],
+    i: usize,
+    number: TxNumber,
+    time: CommitTime,
+    end: EndPlace,
+    waiting: u64,
+)
+    requires { ⌜ length (now words) ≡ 448 ⌝ }
+    requires { ⌜ i < 64 ⌝ }
+    ensures { λ _. ⌜ ((tail : List ℕ) → stateOf (now (words .exit)) tail ≡ withPlace (stateOf (now (words .entry)) tail) i (record { life = Committed number time end; waiting = waiting })) ⌝ }
+{
+    live::places::put_committed(words, i, number, time, end);
+    words[COUNTS + i] = waiting;
+}
+
+// Puts the transaction of a table place into its place: live if versions wait under its number.
+fn take_table(
     medium: &[u8],
     blocks: u64,
     commits: &[u64],
-    cache: &[u8],
-    slots: u64,
+    list: &[u64; 128],
+    total: u64,
+    words: &mut [u64; 448],
     i: usize,
-) -> Place
+)
     requires { ⌜ Ready blocks (length (now medium)) ⌝ }
     requires { ⌜ now commits ≡ commitsOf (readLog (now medium) blocks) ⌝ }
-    requires { ⌜ Room (length (now cache)) slots ⌝ }
-    requires { ⌜ i < 64 ⌝ }
-    ensures { λ r. ⌜ r ≡ tablePlace (now (medium .entry)) (readLog (now (medium .entry)) blocks) (now (cache .entry)) slots i ⌝ }
+    requires { ⌜ (total ≤ 64) × (i < 64) ⌝ }
+    requires { ⌜ placeAt (placesOf (now words)) i ≡ freePlace ⌝ }
+    ensures { λ _. ⌜ ((tail : List ℕ) → stateOf (now (words .exit)) tail ≡ withPlace (stateOf (now (words .entry)) tail) i (tablePlace (now (medium .entry)) (readLog (now (medium .entry)) blocks) (waitingUnder (now (list .entry)) total) i)) ⌝ }
 {
     let p = layout::table::read(medium, i);
     let n = p.number;
     let t = p.time;
-    let free = Place {
-        life: Life::Free,
-        waiting: 0,
-    };
     if n.0 == 0 {
-        return free;
+        return;
     }
-    let k = count(cache, n.0, slots);
+    let k = waiting_under(list, total, n.0);
     if k == 0 {
-        return free;
+        return;
     }
-    live_place(commits, n, t, k)
+    put_live(words, i, n, t, end_under(commits, n.0), k);
 }
 
 // The places of the table's live pairs.
 fn table_places(
     medium: &[u8],
     blocks: u64,
+    used: usize,
     commits: &[u64],
-    cache: &[u8],
-    slots: u64,
-) -> [Place; 64]
+    list: &[u64; 128],
+    total: u64,
+    words: &mut [u64; 448],
+)
     requires { ⌜ Ready blocks (length (now medium)) ⌝ }
-    requires { ⌜ now commits ≡ commitsOf (readLog (now medium) blocks) ⌝ }
-    requires { ⌜ Room (length (now cache)) slots ⌝ }
-    ensures { λ r. ⌜ r ≡ tablePlaces (now (medium .entry)) (readLog (now (medium .entry)) blocks) (now (cache .entry)) slots 0 64 ⌝ }
+    requires { ⌜ Known (now medium) blocks used (now commits) ⌝ }
+    requires { ⌜ total ≤ 64 ⌝ }
+    requires { ⌜ placesOf (now words) ≡ replicate 64 freePlace ⌝ }
+    ensures { λ _. ⌜ ((tail : List ℕ) → stateOf (now (words .exit)) tail ≡ withPlaces (stateOf (now (words .entry)) tail) (listed (tablePlace (now (medium .entry)) (readLog (now (medium .entry)) blocks) (waitingUnder (now (list .entry)) total)) 0 64)) ⌝ }
 {
-    let mut places = [Place {
-        life: Life::Free,
-        waiting: 0,
-    }; 64];
     let mut i: usize = 0;
-    while i < 64 {
-        places[i] = table_place(medium, blocks, commits, cache, slots, i);
+    while i < used {
+        take_table(medium, blocks, commits, list, total, words, i);
         i += 1;
     }
-    places
 }
 
 // Where a live pair of the log is put: the first free place, if the table has none for it.
-fn place_for(medium: &[u8], used: usize, places: [Place; 64], n: u64) -> Found
+fn place_for(medium: &[u8], used: usize, words: &[u64; 448], n: u64) -> Found
     requires { ⌜ 1536 ≤ length (now medium) ⌝ }
     requires { ⌜ Extent (now medium) used ⌝ }
-    ensures { λ r. ⌜ r ≡ freeUnless (tableFind (now (medium .entry)) n) places ⌝ }
+    ensures { λ r. ⌜ r ≡ freeUnless (tableFind (now (medium .entry)) n) (placesOf (now (words .entry))) ⌝ }
 {
-    let f = crate::table::find(medium, used, n);
+    let f = conditions::table::find(medium, used, n);
     match f {
         Found::At(_) => Found::Nothing,
-        Found::Nothing => live::find_free(places, 0),
+        Found::Nothing => live::places::find_free(words, 0),
     }
 }
 
-// The place of a pair that the log has.
-fn log_place(commits: &[u64], n: u64, waiting: u64) -> Place
-    ensures { λ r. ⌜ r ≡ placeOf (commitAmong (now (commits .entry)) n) (record { 0 = n }) (record { 0 = timeOrZero (commitAmong (now (commits .entry)) n) }) waiting ⌝ }
+// Puts a live pair of the log into its place.
+fn take_log(
+    medium: &[u8],
+    used: usize,
+    commits: &[u64],
+    words: &mut [u64; 448],
+    n: u64,
+    waiting: u64,
+)
+    requires { ⌜ 1536 ≤ length (now medium) ⌝ }
+    requires { ⌜ Extent (now medium) used ⌝ }
+    ensures { λ _. ⌜ ((tail : List ℕ) → stateOf (now (words .exit)) tail ≡ withPlaces (stateOf (now (words .entry)) tail) (takeAt (freeUnless (tableFind (now (medium .entry)) n) (placesOf (now (words .entry)))) (placesOf (now (words .entry))) (placeOf (commitAmong (now (commits .entry)) n) (record { 0 = n }) (record { 0 = timeOrZero (commitAmong (now (commits .entry)) n) }) waiting))) ⌝ }
 {
-    let c = crate::log::commit_under(commits, n);
+    let f = place_for(medium, used, words, n);
+    let Found::At(k) = f else {
+        return;
+    };
+    let i = k as usize;
+    let c = conditions::log::commit_under(commits, n);
     match c {
-        Match::Found(t, e) => Place {
-            life: Life::Committed(TxNumber(n), t, e),
-            waiting: waiting,
-        },
-        Match::Absent => Place {
-            life: Life::Committed(TxNumber(n), CommitTime(0), EndPlace(0)),
-            waiting: waiting,
-        },
+        Match::Found(t, e) => put_live(words, i, TxNumber(n), t, e, waiting),
+        Match::Absent => put_live(words, i, TxNumber(n), CommitTime(0), EndPlace(0), waiting),
     }
 }
 
-// The places of all live transactions.
-pub fn all(
+// Puts the places of all live transactions into the words, if they are at most 64.
+pub fn lay(
     medium: &[u8],
     blocks: u64,
+    pages: u64,
     used: usize,
     commits: &[u64],
     cache: &[u8],
-    slots: u64,
-    numbers: Numbers,
-) -> [Place; 64]
+    words: &mut [u64; 448],
+) -> bool
     requires { ⌜ Ready blocks (length (now medium)) ⌝ }
     requires { ⌜ Known (now medium) blocks used (now commits) ⌝ }
-    requires { ⌜ Room (length (now cache)) slots ⌝ }
-    requires { ⌜ Collected (waitingNumbers (now cache) (isPaired (now medium) (readLog (now medium) blocks)) slots) numbers ⌝ }
-    requires { ⌜ numbers .ok ≡ true ⌝ }
-    ensures { λ r. ⌜ r ≡ openPlaces (now (medium .entry)) (readLog (now (medium .entry)) blocks) (now (cache .entry)) slots ⌝ }
+    requires { ⌜ (pages ≤ 64) × (length (now cache) ≡ 512 * pages) ⌝ }
+    requires { ⌜ placesOf (now words) ≡ replicate 64 freePlace ⌝ }
+    ensures { λ r. ⌜ (r ≡ leb (length (waitingNumbers (now (cache .entry)) (isPaired (now (medium .entry)) (readLog (now (medium .entry)) blocks)) (15 * pages))) 64) × (r ≡ true → (tail : List ℕ) → stateOf (now (words .exit)) tail ≡ withPlaces (stateOf (now (words .entry)) tail) (openPlaces (now (medium .entry)) (readLog (now (medium .entry)) blocks) (now (cache .entry)) (15 * pages))) ⌝ }
 {
-    let mut places = table_places(medium, blocks, commits, cache, slots);
-    let list = numbers.list;
-    let total = numbers.count;
+    let mut list = [0u64; 128];
+    let slots = 15 * pages;
+    let found = crate::waiting::collect(medium, blocks, used, commits, cache, slots, &mut list);
+    let Inserted::Count(total) = found else {
+        return false;
+    };
+    table_places(medium, blocks, used, commits, &list, total, words);
     let mut i: u64 = 0;
     while i < total {
-        let n = list[i as usize];
-        let f = place_for(medium, used, places, n);
-        if let Found::At(k) = f {
-            places[k as usize] = log_place(commits, n, count(cache, n, slots));
-        }
+        let k = i as usize;
+        take_log(medium, used, commits, words, list[k], list[64 + k]);
         i += 1;
     }
-    places
+    true
 }

@@ -1,26 +1,22 @@
 // Redo: the logged versions that the pages lack.
-use crate::cursor::Cursor;
-use crate::cursor::Step;
+use conditions::cursor::Cursor;
+use conditions::cursor::Step;
 use layout::EndPlace;
 use layout::item::VersionHead;
 ghost use mathlib.Core.Path.{_≡_};
-ghost use mathlib.Core.Bool.{true, cond};
-ghost use Prim.Native.Nat.{_+_, _*_, _<_, _≤_, _%_};
+ghost use mathlib.Core.Bool.{true};
+ghost use mathlib.Core.List.{List};
+ghost use Prim.Native.Nat.{ℕ, _+_, _*_, _<_, _≤_, _%_};
 ghost use lib.ListN.{length};
-ghost use lib.Dec.{eqb, ltb};
-ghost use Rattle.layout.specs.Block.{blk, pageOf};
+ghost use lib.Dec.{eqb};
+ghost use Rattle.fields.specs.Block.{blk, pageOf};
 ghost use Rattle.layout.specs.Page.{pageUsed, putVersion};
-ghost use Rattle.store.specs.Write.{cellFor, touched};
-ghost use Rattle.store.specs.OpenRedo.{applies, redo, untouched};
-ghost use Rattle.opening.specs.Cursor.{Ready, Valid, restOf};
-ghost use Rattle.opening.specs.Lookup.{slotsBelow};
-ghost use Rattle.opening.specs.Passes.{redoOk};
-
-// Whether every applied version stood in the next slot of its page, and for each page the block of the first applied.
-pub struct Redone {
-    pub ok: bool,
-    pub first: [u64; 64],
-}
+ghost use Rattle.store.specs.Write.{cellFor};
+ghost use Rattle.store.specs.OpenRedo.{applies, redo};
+ghost use Rattle.memory.specs.Memory.{firstOf, stateOf, withFirst};
+ghost use Rattle.conditions.specs.Cursor.{Ready, Valid, restOf};
+ghost use Rattle.conditions.specs.Lookup.{slotsBelow};
+ghost use Rattle.conditions.specs.Passes.{redoOk};
 
 // Is the record's end place above its page's?
 fn must_apply(cache: &[u8], h: VersionHead, end: EndPlace) -> bool
@@ -59,38 +55,30 @@ fn apply(cache: &mut [u8], h: VersionHead, end: EndPlace, value: &[u8])
     );
 }
 
-// The first block that changed a page, if it has none yet.
-fn touch(first: [u64; 64], page: u64, sequence: u64) -> [u64; 64]
-    requires { ⌜ page < 64 ⌝ }
-    ensures { λ r. ⌜ r ≡ touched first page sequence ⌝ }
-{
-    let p = page as usize;
-    let mut f = first;
-    if f[p] == 0 {
-        f[p] = sequence;
-    }
-    f
-}
-
-// Applies the version records from the cursor on.
-pub fn run(medium: &[u8], blocks: u64, pages: u64, from: Cursor, cache: &mut [u8]) -> Redone
+// Applies the version records from the cursor on, and notes for each page the block of the first applied. Answers whether
+// every one stood in the next slot of its page.
+pub fn run(
+    medium: &[u8],
+    blocks: u64,
+    pages: u64,
+    from: Cursor,
+    cache: &mut [u8],
+    words: &mut [u64; 448],
+) -> bool
     requires { ⌜ Ready blocks (length (now medium)) ⌝ }
     requires { ⌜ Valid from ⌝ }
     requires { ⌜ (pages ≤ 64) × (length (now cache) ≡ 512 * pages) ⌝ }
     requires { ⌜ slotsBelow pages (restOf (now medium) blocks from) ≡ true ⌝ }
-    ensures { λ r. ⌜ (r .ok ≡ redoOk (record { cache = now (cache .entry); first = untouched }) (restOf (now (medium .entry)) blocks from)) × (r .ok ≡ true → record { cache = now (cache .exit); first = r .first } ≡ redo (record { cache = now (cache .entry); first = untouched }) (restOf (now (medium .entry)) blocks from)) ⌝ }
+    ensures { λ r. ⌜ (r ≡ redoOk (record { cache = now (cache .entry); first = firstOf (now (words .entry)) }) (restOf (now (medium .entry)) blocks from)) × (r ≡ true → record { cache = now (cache .exit); first = firstOf (now (words .exit)) } ≡ redo (record { cache = now (cache .entry); first = firstOf (now (words .entry)) }) (restOf (now (medium .entry)) blocks from)) ⌝ }
+    ensures { λ _. ⌜ ((tail : List ℕ) → stateOf (now (words .exit)) tail ≡ withFirst (stateOf (now (words .entry)) tail) (firstOf (now (words .exit)))) ⌝ }
 {
-    let mut first = [0u64; 64];
     let mut c = from;
     loop {
         let s = c.sequence;
-        let step = crate::cursor::next(medium, blocks, c);
+        let step = conditions::cursor::next(medium, blocks, c);
         match step {
             Step::Done => {
-                return Redone {
-                    ok: true,
-                    first: first,
-                };
+                return true;
             }
             Step::Skip(d) => {
                 c = d;
@@ -98,15 +86,11 @@ pub fn run(medium: &[u8], blocks: u64, pages: u64, from: Cursor, cache: &mut [u8
             Step::Written(h, v, e, d) => {
                 if must_apply(cache, h, e) {
                     if !is_next(cache, h) {
-                        return Redone {
-                            ok: false,
-                            first: first,
-                        };
+                        return false;
                     }
                     let a = v as usize;
                     apply(cache, h, e, &medium[a..a + 16]);
-                    let f = touch(first, h.slot / 15, s);
-                    first = f;
+                    memory::touch(words, (h.slot / 15) as usize, s);
                 }
                 c = d;
             }

@@ -1,37 +1,34 @@
 // Opening as a whole: is the medium well formed, and the state that it gives.
-use crate::cursor::Cursor;
-use layout::CommitTime;
-use layout::EndPlace;
-use layout::TxNumber;
+use conditions::cursor::Cursor;
 use layout::master::Found;
-use store::Life;
-use store::Phase;
-use store::Place;
-use store::State;
+use memory::BLOCKS;
+use memory::END;
+use memory::LAST;
+use memory::NEXT;
+use memory::PAGES;
+use memory::SAVED;
+use memory::SLOTS;
 ghost use mathlib.Core.Path.{_≡_};
 ghost use mathlib.Core.Bool.{true, false};
-ghost use Prim.Native.Nat.{_+_, _-_, _*_, _<_, _≤_, _^_};
+ghost use mathlib.Core.List.{List};
+ghost use Prim.Native.Nat.{ℕ, _+_, _*_, _<_, _≤_, _^_};
 ghost use lib.ListN.{length};
-ghost use Rattle.layout.specs.Block.{mediumLength};
+ghost use Rattle.fields.specs.Block.{mediumLength};
 ghost use Rattle.layout.specs.Master.{oldestOn};
 ghost use Rattle.store.specs.OpenLog.{readCount, logEnd, readTail, nextNumber, lastTime};
 ghost use Rattle.store.specs.OpenRedo.{pagesOn, usedIn};
-ghost use Rattle.store.specs.State.{noState};
-ghost use Rattle.store.specs.OpenConditions.{wellFormed};
+ghost use Rattle.store.specs.OpenConditions.{wellFormed, redone};
 ghost use Rattle.store.specs.Open.{openedState};
-ghost use Rattle.opening.specs.Cursor.{Ready, Valid};
-ghost use Rattle.opening.specs.Lookup.{Known, Surveyed, Applied, ReadAs};
-ghost use Rattle.opening.specs.Passes.{masterOk, tableAndSlots};
+ghost use Rattle.memory.specs.Memory.{firstOf, stateOf, blank, withFirst};
+ghost use Rattle.conditions.specs.Cursor.{Ready, Valid};
+ghost use Rattle.conditions.specs.Lookup.{Known};
+ghost use Rattle.conditions.specs.Passes.{masterOk, tableAndSlots};
+ghost use Rattle.opening.specs.Surveyed.{withNumbers, ReadAs, Applied, OpenedAs};
 
-// What is known of a medium once it was gone through.
-pub struct Survey {
+// Whether a medium is well formed, and its last time.
+pub struct Opened {
     pub ok: bool,
-    pub log: Cursor,
-    pub next: u64,
     pub last: u64,
-    pub end: u64,
-    pub first: [u64; 64],
-    pub places: [Place; 64],
 }
 
 // Are the master's fields in form, the sizes those given, and its numbers in range?
@@ -69,7 +66,7 @@ fn log_end(medium: &[u8], blocks: u64, oldest: u64, count: u64) -> u64
         return 512 * oldest + 10;
     }
     let s = oldest + count - 1;
-    let start = crate::cursor::block_start(blocks, s);
+    let start = conditions::cursor::block_start(blocks, s);
     512 * s + layout::journal::used(&medium[start..start + 512])
 }
 
@@ -89,12 +86,12 @@ fn read_log(medium: &[u8], blocks: u64, pages: u64) -> LogFound
         return LogFound::Bad;
     }
     let oldest = layout::master::oldest(medium);
-    let count = crate::log::read_count(medium, blocks, oldest);
-    if !crate::blocks::blocks_ok(medium, blocks, pages, oldest, count) {
+    let count = conditions::log::read_count(medium, blocks, oldest);
+    if !conditions::blocks::blocks_ok(medium, blocks, pages, oldest, count) {
         return LogFound::Bad;
     }
     let end = log_end(medium, blocks, oldest, count);
-    if !crate::blocks::pages_ok(medium, blocks, pages, end) {
+    if !conditions::blocks::pages_ok(medium, blocks, pages, end) {
         return LogFound::Bad;
     }
     LogFound::Good(
@@ -107,28 +104,11 @@ fn read_log(medium: &[u8], blocks: u64, pages: u64) -> LogFound
     )
 }
 
-// What a survey says of a medium that is not well formed.
-fn malformed() -> Survey
+// What is said of a medium that is not well formed.
+fn malformed() -> Opened
     ensures { λ r. ⌜ r .ok ≡ false ⌝ }
 {
-    let first = [0u64; 64];
-    let places = [Place {
-        life: Life::Free,
-        waiting: 0,
-    }; 64];
-    Survey {
-        ok: false,
-        log: Cursor {
-            sequence: 0,
-            at: 10,
-            left: 0,
-        },
-        next: 0,
-        last: 0,
-        end: 0,
-        first: first,
-        places: places,
-    }
+    Opened { ok: false, last: 0 }
 }
 
 // Copies the pages into the cache.
@@ -140,73 +120,7 @@ fn copy_pages(medium: &[u8], blocks: u64, pages: u64, cache: &mut [u8])
 {
     let a = (512 * (3 + blocks)) as usize;
     let n = (512 * pages) as usize;
-    layout::block::copy(cache, &medium[a..a + n]);
-}
-
-// Goes through the medium: the cache then holds the pages as redo leaves them, if the medium is well formed.
-pub fn examine(medium: &[u8], blocks: u64, pages: u64, cache: &mut [u8]) -> Survey
-    requires { ⌜ Ready blocks (length (now medium)) ⌝ }
-    requires { ⌜ (pages ≤ 64) × (length (now medium) ≡ mediumLength blocks pages) ⌝ }
-    requires { ⌜ length (now cache) ≡ 512 * pages ⌝ }
-    ensures { λ r. ⌜ (r .ok ≡ wellFormed (now (medium .entry)) blocks pages) × (r .ok ≡ true → Surveyed (now (medium .entry)) blocks pages (now (cache .exit)) r) ⌝ }
-{
-    let found = read_log(medium, blocks, pages);
-    let LogFound::Good(log, end) = found else {
-        return malformed();
-    };
-    copy_pages(medium, blocks, pages, cache);
-    let done = crate::redo::run(medium, blocks, pages, log, cache);
-    if !done.ok {
-        return malformed();
-    }
-    let first = done.first;
-    judge(medium, blocks, pages, log, end, cache, first)
-}
-
-// Judges log, table and slots once redo is done, and takes what the state is made of.
-fn judge(
-    medium: &[u8],
-    blocks: u64,
-    pages: u64,
-    log: Cursor,
-    end: u64,
-    cache: &[u8],
-    first: [u64; 64],
-) -> Survey
-    requires { ⌜ Ready blocks (length (now medium)) ⌝ }
-    requires { ⌜ (pages ≤ 64) × (length (now cache) ≡ 512 * pages) ⌝ }
-    requires { ⌜ Applied (now medium) blocks pages log end (now cache) first ⌝ }
-    ensures { λ r. ⌜ (r .ok ≡ wellFormed (now (medium .entry)) blocks pages) × (r .ok ≡ true → Surveyed (now (medium .entry)) blocks pages (now (cache .entry)) r) ⌝ }
-{
-    let mut gathered = [0u64; 2592];
-    let used = crate::table::extent(medium);
-    let n = crate::log::gather(medium, blocks, log, &mut gathered);
-    let commits = &gathered[..n];
-    let tally = crate::records::all_ok(medium, blocks, log, used, commits);
-    if !tally.ok {
-        return malformed();
-    }
-    let given = layout::field::get8(medium, 24);
-    let stored = layout::field::get8(medium, 35);
-    let next = live::larger(given, tally.above);
-    let last = live::larger(stored, tally.latest);
-    if !cache_ok(medium, blocks, pages, used, commits, cache, next, last) {
-        return malformed();
-    }
-    let numbers = crate::waiting::collect(medium, blocks, used, commits, cache, 15 * pages);
-    if !numbers.ok {
-        return malformed();
-    }
-    let places = crate::places::all(medium, blocks, used, commits, cache, 15 * pages, numbers);
-    Survey {
-        ok: true,
-        log: log,
-        next: next,
-        last: last,
-        end: end,
-        first: first,
-        places: places,
-    }
+    fields::block::copy(cache, &medium[a..a + n]);
 }
 
 // The table and the slots of the cache.
@@ -226,13 +140,13 @@ fn cache_ok(
     requires { ⌜ (next ≡ nextNumber (now medium) blocks) × (last ≡ lastTime (now medium) blocks) ⌝ }
     ensures { λ r. ⌜ r ≡ tableAndSlots (now (medium .entry)) blocks pages (now (cache .entry)) ⌝ }
 {
-    if !crate::table::all_ok(medium, next, last) {
+    if !conditions::table::all_ok(medium, next, last) {
         return false;
     }
-    if !crate::slots::pages_full(cache, pages) {
+    if !conditions::slots::pages_full(cache, pages) {
         return false;
     }
-    crate::slots::all_ok(medium, blocks, pages, used, commits, cache, next, last)
+    conditions::slots::all_ok(medium, blocks, pages, used, commits, cache, next, last)
 }
 
 // How many slots are used.
@@ -250,73 +164,110 @@ fn used_slots(cache: &[u8], pages: u64) -> u64
     n
 }
 
-// The tail: the last block read, or an empty one.
-fn tail_of(medium: &[u8], blocks: u64, log: Cursor) -> [u8; 512]
+// Lays the tail: the last block read, or an empty one.
+fn lay_tail(medium: &[u8], blocks: u64, log: Cursor, tail: &mut [u8; 512])
     requires { ⌜ Ready blocks (length (now medium)) ⌝ }
     requires { ⌜ Valid log ⌝ }
     requires { ⌜ (log .sequence ≡ oldestOn (now medium)) × (log .left ≡ readCount (now medium) blocks) ⌝ }
-    ensures { λ r. ⌜ r ≡ readTail (now (medium .entry)) blocks ⌝ }
+    ensures { λ _. ⌜ now (tail .exit) ≡ readTail (now (medium .entry)) blocks ⌝ }
 {
-    let mut tail = [0u8; 512];
     let left = log.left;
     if left == 0 {
-        layout::journal::begin(&mut tail, log.sequence);
-        return tail;
+        layout::journal::begin(tail, log.sequence);
+        return;
     }
-    let start = crate::cursor::block_start(blocks, log.sequence + left - 1);
-    layout::block::copy(&mut tail, &medium[start..start + 512]);
-    tail
+    let start = conditions::cursor::block_start(blocks, log.sequence + left - 1);
+    fields::block::copy(tail, &medium[start..start + 512]);
 }
 
-// The state of a medium that is well formed.
-pub fn state(medium: &[u8], blocks: u64, pages: u64, cache: &[u8], found: Survey) -> State
+// Sets the numbers of an opened medium.
+fn put_numbers(
+    words: &mut [u64],
+    blocks: u64,
+    pages: u64,
+    slots: u64,
+    next: u64,
+    last: u64,
+    end: u64,
+)
+    requires { ⌜ length (now words) ≡ 448 ⌝ }
+    ensures { λ _. ⌜ ((tail : List ℕ) → stateOf (now (words .exit)) tail ≡ withNumbers (stateOf (now (words .entry)) tail) blocks pages slots next last end) ⌝ }
+{
+    words[BLOCKS] = blocks;
+    words[PAGES] = pages;
+    words[SLOTS] = slots;
+    words[NEXT] = next;
+    words[LAST] = last;
+    words[SAVED] = last;
+    words[END] = end;
+}
+
+// Judges log, table and slots once redo is done, and puts into words and tail what the state is made of.
+fn judge(
+    medium: &[u8],
+    blocks: u64,
+    pages: u64,
+    log: Cursor,
+    end: u64,
+    cache: &[u8],
+    words: &mut [u64; 448],
+    tail: &mut [u8; 512],
+) -> Opened
     requires { ⌜ Ready blocks (length (now medium)) ⌝ }
     requires { ⌜ (pages ≤ 64) × (length (now cache) ≡ 512 * pages) ⌝ }
-    requires { ⌜ Surveyed (now medium) blocks pages (now cache) found ⌝ }
-    ensures { λ r. ⌜ r ≡ openedState (now (medium .entry)) blocks pages ⌝ }
+    requires { ⌜ Applied (now medium) blocks pages log end (now cache) (firstOf (now words)) ⌝ }
+    requires { ⌜ ((t : List ℕ) → stateOf (now words) t ≡ withFirst (stateOf blank t) (firstOf (now words))) ⌝ }
+    ensures { λ r. ⌜ OpenedAs (now (medium .entry)) blocks pages (now (words .exit)) (now (tail .exit)) r ⌝ }
 {
-    let log = found.log;
-    let first = found.first;
-    let places = found.places;
-    let tail = tail_of(medium, blocks, log);
-    State {
-        blocks: blocks,
-        pages: pages,
-        slots: used_slots(cache, pages),
-        next: TxNumber(found.next),
-        last: CommitTime(found.last),
-        saved: CommitTime(found.last),
-        end: EndPlace(found.end),
-        tail: tail,
-        places: places,
-        ring: 0,
-        first: first,
-        phase: Phase::Idle,
+    let mut gathered = [0u64; 2592];
+    let used = conditions::table::extent(medium);
+    let n = conditions::log::gather(medium, blocks, log, &mut gathered);
+    let commits = &gathered[..n];
+    let tally = conditions::records::all_ok(medium, blocks, log, used, commits);
+    if !tally.ok {
+        return malformed();
+    }
+    let given = fields::field::get8(medium, 24);
+    let stored = fields::field::get8(medium, 35);
+    let next = live::times::larger(given, tally.above);
+    let last = live::times::larger(stored, tally.latest);
+    if !cache_ok(medium, blocks, pages, used, commits, cache, next, last) {
+        return malformed();
+    }
+    if !crate::places::lay(medium, blocks, pages, used, commits, cache, words) {
+        return malformed();
+    }
+    lay_tail(medium, blocks, log, tail);
+    let slots = used_slots(cache, pages);
+    put_numbers(words, blocks, pages, slots, next, last, end);
+    Opened {
+        ok: true,
+        last: last,
     }
 }
 
-// A state of zeros.
-pub fn no_state() -> State
-    ensures { λ r. ⌜ r ≡ noState ⌝ }
+// Opens a medium, if it is well formed: the cache then holds the pages as redo leaves them, words and tail the state.
+pub fn open_state(
+    medium: &[u8],
+    blocks: u64,
+    pages: u64,
+    cache: &mut [u8],
+    words: &mut [u64; 448],
+    tail: &mut [u8; 512],
+) -> Opened
+    requires { ⌜ Ready blocks (length (now medium)) ⌝ }
+    requires { ⌜ (pages ≤ 64) × (length (now medium) ≡ mediumLength blocks pages) ⌝ }
+    requires { ⌜ length (now cache) ≡ 512 * pages ⌝ }
+    requires { ⌜ now words ≡ blank ⌝ }
+    ensures { λ r. ⌜ (r .ok ≡ wellFormed (now (medium .entry)) blocks pages) × (r .ok ≡ true → (now (cache .exit) ≡ redone (now (medium .entry)) blocks pages .cache) × (stateOf (now (words .exit)) (now (tail .exit)) ≡ openedState (now (medium .entry)) blocks pages) × (r .last ≡ lastTime (now (medium .entry)) blocks)) ⌝ }
 {
-    let places = [Place {
-        life: Life::Free,
-        waiting: 0,
-    }; 64];
-    let first = [0u64; 64];
-    let tail = [0u8; 512];
-    State {
-        blocks: 0,
-        pages: 0,
-        slots: 0,
-        next: TxNumber(0),
-        last: CommitTime(0),
-        saved: CommitTime(0),
-        end: EndPlace(0),
-        tail: tail,
-        places: places,
-        ring: 0,
-        first: first,
-        phase: Phase::Idle,
+    let found = read_log(medium, blocks, pages);
+    let LogFound::Good(log, end) = found else {
+        return malformed();
+    };
+    copy_pages(medium, blocks, pages, cache);
+    if !crate::redo::run(medium, blocks, pages, log, cache, words) {
+        return malformed();
     }
+    judge(medium, blocks, pages, log, end, cache, words, tail)
 }

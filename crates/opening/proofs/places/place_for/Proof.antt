@@ -1,12 +1,12 @@
--- Where the table has the number, no place is taken; else the first free one.
+-- Where the table has the number, no place is taken; else the first free one. Assumes nothing.
 use Rattle.opening.proofs.PlacesLaws.{free-tabled, free-untabled}
 use borrow.Author.Needs.{needs}
 use Rattle.opening.proofs.places.place_for.Statement.{statement}
 use Rattle.opening.proofs.places.place_for.Tie as tie
 use Rattle.opening.proofs.places.place_for.Reads as reads
 use Rattle.opening.proofs.places.place_for.Lts as lts
-use Rattle.live.proofs.find_free.Reads as find-free-reads
-use Rattle.opening.proofs.table.find.Reads as find-reads
+use Rattle.conditions.proofs.table.find.Reads as find-reads
+use Rattle.live.proofs.places.find_free.Reads as find-free-reads
 
 find-requires : tie.Need-find-requires
 find-requires c κs = search needs
@@ -24,7 +24,7 @@ returns : tie.Need-returns
 returns c = free-tabled _ _ _ _ (c .before .before .find .ensures) (c .enum-told .given .1)
 
 returns-2 : tie.Need-returns-2
-returns-2 c = free-untabled _ _ _ _ (c .before .before .before .find .ensures) (c .before .enum-told2 .given .1) (c .find-free .ensures)
+returns-2 c = free-untabled _ _ _ _ (c .before .before .before .before .find .ensures) (c .before .before .enum-told2 .given .1) (c .find-free .ensures)
 
 pub place-for-spec : {M : Type 1} → statement M
 place-for-spec =

@@ -1,66 +1,55 @@
--- `table_places` meets its contract: the places laid, with those that the table places from i on give, are all of them.
-use mathlib.Core.List.{_++_}
-use mathlib.Core.Path.{_≡_, refl, _∙_}
-use Prim.Native.Nat.{_-_}
+-- The first i places are those that the table gives, the others free; behind its extent the table gives free ones. Assumes
+-- nothing.
+use mathlib.Core.Path.{_≡_}
+use Prim.Native.Nat.{_-_, _≤_, _<_}
 use native.Mathlib.Omega.{arith}
-use lib.ListN.{length, take, length-set}
-use borrow.Author.Needs.{needs}
 use Rattle.store.specs.OpenLog.{readLog}
-use Rattle.store.specs.OpenPairs.{tablePlaces}
-use Rattle.opening.proofs.PlacesLaws.{places-turn, places-end}
+use Rattle.conditions.specs.Lookup.{Extent}
+use Rattle.opening.specs.Waits.{waitingUnder}
+use Rattle.opening.proofs.PlacesLaws.{Laying, laying-start, laying-turn, laying-end}
 use Rattle.opening.proofs.places.table_places.Statement.{statement}
 use Rattle.opening.proofs.places.table_places.Tie as tie
 use Rattle.opening.proofs.places.table_places.Reads as reads
 use Rattle.opening.proofs.places.table_places.Lts as lts
-use Rattle.opening.proofs.places.table_place.Reads as table-place-reads
+use Rattle.opening.proofs.places.take_table.Reads as take-table-reads
 
 abbrev Inv-loop : tie.InvT-loop
-Inv-loop medium blocks commits cache slots places₀ i₀ places i =
-    (length places ≡ 64)
-    × (take i places ++ tablePlaces medium (readLog medium blocks) cache slots i (64 - i) ≡ tablePlaces medium (readLog medium blocks) cache slots 0 64)
+Inv-loop medium blocks used commits list total words₀ i₀ words i = (i ≤ used) × Laying medium (readLog medium blocks) (waitingUnder list total) words₀ words i
 
 abbrev μ-loop : tie.MeasureT-loop
-μ-loop medium blocks commits cache slots places₀ i₀ places i = 64 - i
+μ-loop medium blocks used commits list total words₀ i₀ words i = used - i
 
 loop-holds : tie.Need-loop-holds Inv-loop μ-loop
-loop-holds c = (refl, refl)
+loop-holds c = (omega arith, laying-start _ _ _ _ (c .before .before .pre .1 .1 .1))
 
-table-place-requires : tie.Need-table-place-requires Inv-loop μ-loop
-table-place-requires c κs = let a = c .before .before .before .before .before in (a .pre .0, (a .pre .1 .0, (a .pre .1 .1, c .loop-test .taken)))
-
-mul-places : tie.Need-mul-places Inv-loop μ-loop
-mul-places c = search needs
-
-array-set-from-places : tie.Need-array-set-from-places Inv-loop μ-loop
-array-set-from-places c = search needs
+take-table-requires : tie.Need-take-table-requires Inv-loop μ-loop
+take-table-requires c κs =
+    let a = c .before .before .before .before .before .pre in
+    let l = c .before .before .loop in
+    let h : l .i < 64 = omega (arith, a .1 .0 .table .few, c .before .loop-test .taken) in
+    (a .0, (a .1 .0 .log, ((a .1 .1 .0, h), l .inv .1 .free (l .i) (omega arith) h)))
 
 add-i : tie.Need-add-i Inv-loop μ-loop
-add-i c = search needs
+add-i c = omega (arith, c .before .before .before .before .before .before .pre .1 .0 .table .few)
 
 loop-less : tie.Need-loop-less Inv-loop μ-loop
 loop-less c = omega arith
 
 loop-again : tie.Need-loop-again Inv-loop μ-loop
 loop-again c =
-    let k = c .before .before in (
-      simp length-set (k .loop .inv .0),
-      places-turn _ _ _ _ (k .loop .places) (k .loop .i) _ (k .loop .inv .0) (c .before .loop-test .taken) (c .table-place .ensures) ∙ k .loop .inv .1,
-    )
+    let l = c .before .before .before .loop in
+    let a = c .before .before .before .before .before .before .pre in
+    (omega arith, laying-turn _ _ _ _ _ _ (l .i) (omega (arith, a .1 .0 .table .few, c .before .before .loop-test .taken)) (l .inv .1) (c .take-table .ensures))
 
 returns : tie.Need-returns Inv-loop μ-loop
-returns c = places-end _ _ _ _ _ (c .before .loop .i) _ (c .before .loop .inv .0) (c .loop-test .left) (c .before .loop .inv .1)
+returns c =
+    let l = c .before .loop in
+    let a = c .before .before .before .before in
+    let e : l .i ≡ a .args .used = omega arith in
+    let x : Extent (a .args .medium .now) (l .i) = rw e (a .pre .1 .0 .table) in
+    laying-end _ _ _ _ _ (l .i) x (l .inv .1)
 
 pub table-places-spec : {M : Type 1} → statement M
 table-places-spec =
     tie.close
-    (tie.spec
-    Inv-loop
-    μ-loop
-    loop-holds
-    table-place-requires
-    mul-places
-    array-set-from-places
-    add-i
-    loop-less
-    loop-again
-    returns)
+    (tie.spec Inv-loop μ-loop loop-holds take-table-requires add-i loop-less loop-again returns)

@@ -1,16 +1,16 @@
 -- The answer is that of the first test that fails.
 use native.Mathlib.Omega.{arith}
 use borrow.Author.Tests.{not-true, not-false}
-use Rattle.layout.specs.Block.{mediumLength}
+use Rattle.fields.specs.Block.{mediumLength}
 use Rattle.opening.proofs.SurveyedLaws.{no-table, not-full, slots-left}
 use borrow.Author.Needs.{needs}
 use Rattle.opening.proofs.survey.cache_ok.Statement.{statement}
 use Rattle.opening.proofs.survey.cache_ok.Tie as tie
 use Rattle.opening.proofs.survey.cache_ok.Reads as reads
 use Rattle.opening.proofs.survey.cache_ok.Lts as lts
-use Rattle.opening.proofs.slots.all_ok.Reads as slots-all-ok-reads
-use Rattle.opening.proofs.slots.pages_full.Reads as pages-full-reads
-use Rattle.opening.proofs.table.all_ok.Reads as table-all-ok-reads
+use Rattle.conditions.proofs.slots.all_ok.Reads as slots-all-ok-reads
+use Rattle.conditions.proofs.slots.pages_full.Reads as pages-full-reads
+use Rattle.conditions.proofs.table.all_ok.Reads as table-all-ok-reads
 
 all-ok-requires : tie.Need-all-ok-requires
 unfolding mediumLength

@@ -2,15 +2,15 @@
 use mathlib.Core.Path.{_∙_}
 use Prim.Native.Nat.{_+_, _*_}
 use native.Mathlib.Omega.{arith}
-use Rattle.layout.specs.Block.{mediumLength}
+use Rattle.fields.specs.Block.{mediumLength}
 use Rattle.store.specs.OpenRedo.{pagesOn}
-use Rattle.layout.proofs.PartLaws.{lent-part}
+use Rattle.fields.proofs.PartLaws.{lent-part}
 use borrow.Author.Needs.{needs}
 use Rattle.opening.proofs.survey.copy_pages.Statement.{statement}
 use Rattle.opening.proofs.survey.copy_pages.Tie as tie
 use Rattle.opening.proofs.survey.copy_pages.Reads as reads
 use Rattle.opening.proofs.survey.copy_pages.Lts as lts
-use Rattle.layout.proofs.block.copy.Reads as copy-reads
+use Rattle.fields.proofs.block.copy.Reads as copy-reads
 
 add-a : tie.Need-add-a
 add-a c = search needs

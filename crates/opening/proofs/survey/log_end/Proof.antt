@@ -9,7 +9,7 @@ use Rattle.opening.proofs.survey.log_end.Tie as tie
 use Rattle.opening.proofs.survey.log_end.Reads as reads
 use Rattle.opening.proofs.survey.log_end.Lts as lts
 use Rattle.layout.proofs.journal.used.Reads as used-reads
-use Rattle.opening.proofs.cursor.block_start.Reads as block-start-reads
+use Rattle.conditions.proofs.cursor.block_start.Reads as block-start-reads
 
 -- the block lies within the medium
 inside : (c : tie.After-block-start) → c .block-start .result + 512 ≤ length (c .before .before .before .args .medium .now)

@@ -1,5 +1,5 @@
 -- The numbers of a whole master lie where the definition reads them.
-use Rattle.layout.specs.Block.{blk}
+use Rattle.fields.specs.Block.{blk}
 use Rattle.opening.proofs.SurveyLaws.{master-broken, master-blocks, master-pages, master-none, master-high, master-next}
 use borrow.Author.Needs.{needs}
 use Rattle.opening.proofs.survey.master_ok.Statement.{statement}

@@ -3,17 +3,17 @@ use mathlib.Core.Path.{_≡_, refl}
 use mathlib.Core.Bool.{true}
 use Prim.Native.Nat.{_<_, _^_}
 use native.Mathlib.Omega.{arith}
-use Rattle.layout.specs.Block.{mediumLength}
-use Rattle.opening.specs.Passes.{masterOk, blocksOk}
+use Rattle.fields.specs.Block.{mediumLength}
+use Rattle.conditions.specs.Passes.{masterOk, blocksOk}
 use Rattle.opening.proofs.SurveyLaws.{told-no, told-yes, no-master, oldest-low, blocks-below, count-is, count-low, no-blocks, no-pages, all-in-form}
 use Rattle.opening.proofs.survey.read_log.Statement.{statement}
 use Rattle.opening.proofs.survey.read_log.Tie as tie
 use Rattle.opening.proofs.survey.read_log.Reads as reads
 use Rattle.opening.proofs.survey.read_log.Lts as lts
 use Rattle.layout.proofs.master.oldest.Reads as oldest-reads
-use Rattle.opening.proofs.blocks.blocks_ok.Reads as blocks-ok-reads
-use Rattle.opening.proofs.blocks.pages_ok.Reads as pages-ok-reads
-use Rattle.opening.proofs.log.read_count.Reads as read-count-reads
+use Rattle.conditions.proofs.blocks.blocks_ok.Reads as blocks-ok-reads
+use Rattle.conditions.proofs.blocks.pages_ok.Reads as pages-ok-reads
+use Rattle.conditions.proofs.log.read_count.Reads as read-count-reads
 use Rattle.opening.proofs.survey.log_end.Reads as log-end-reads
 use Rattle.opening.proofs.survey.master_ok.Reads as master-ok-reads
 

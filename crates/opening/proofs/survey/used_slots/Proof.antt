@@ -3,7 +3,7 @@ use mathlib.Core.Path.{_≡_, refl}
 use Prim.Native.Nat.{_-_, _*_, _≤_}
 use native.Mathlib.Omega.{arith}
 use borrow.Author.Needs.{needs}
-use Rattle.layout.proofs.PartLaws.{lent-length}
+use Rattle.fields.proofs.PartLaws.{lent-length}
 use Rattle.store.specs.OpenRedo.{usedIn}
 use Rattle.opening.proofs.SurveyLaws.{used-turn}
 use Rattle.opening.proofs.survey.used_slots.Statement.{statement}

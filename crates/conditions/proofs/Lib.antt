@@ -1,0 +1,9 @@
+pub mod CursorLaws
+pub mod GatherLaws
+pub mod BlockPasses
+pub mod AllOfLaws
+pub mod TableLaws
+pub mod RecordsLaws
+pub mod SlotsLaws
+pub mod ChecksLaws
+pub mod FormedLaws
