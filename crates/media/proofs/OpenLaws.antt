@@ -1,15 +1,14 @@
 -- What open leaves, by the question that refuses it or by what the survey found. By the definition of the call; assumes nothing.
-use mathlib.Core.Path.{_≡_, sym, _∙_}
+use mathlib.Core.Path.{_≡_, sym, ap, _∙_}
 use mathlib.Core.Bool.{Bool, true, false, _&&_}
 use Prim.Native.Nat.{ℕ, _*_}
 use mathlib.Core.List.{List}
 use lib.ListN.{length}
 use lib.Dec.{eqb}
 use borrow.Author.Tests.{eqb-true, eq-eqb, ne-eqb}
-use Rattle.layout.specs.Block.{zeros, mediumLength, cacheLength}
-use Rattle.layout.proofs.Choose.{and-0, and-1}
+use Rattle.fields.specs.Block.{zeros, mediumLength, cacheLength}
+use Rattle.fields.proofs.Choose.{and-0, and-1}
 use Rattle.store.specs.declared.Answer.the-variants.{Refused, Opened}
-use Rattle.store.specs.declared.Ended.{Ended}
 use Rattle.store.specs.declared.Refusal.{Refusal}
 use Rattle.store.specs.declared.Refusal.the-variants.{BadSizes, BadCache, Malformed}
 use Rattle.store.specs.declared.State.{State}
@@ -19,12 +18,17 @@ use Rattle.store.specs.OpenLog.{lastTime}
 use Rattle.store.specs.OpenConditions.{wellFormed, redone}
 use Rattle.store.specs.Open.{openedState, refusedCache, openIf, openOf}
 use Rattle.store.proofs.FitLaws.{InRange, range-of}
-use Rattle.opening.specs.Cursor.{Ready}
+use Rattle.memory.specs.Memory.{lifeBy, placeIn, listed, placesOf, firstOf, phaseBy, stateBy, stateOf, blank}
+use Rattle.conditions.specs.Cursor.{Ready}
 
--- a refusal with the state of zeros
-pub ended-is : (m c : List ℕ) (r : Ended) (s : State) (why : Refusal) → r ≡ record { answer = Refused why; state = s } → s ≡ noState
-    → leaves (r .answer) (r .state) m c ≡ refuses why noState m c
-ended-is m c r s why e f = rw (e, f)
+-- words and tail of zeros hold the state of zeros
+pub cleared : (w t : List ℕ) → w ≡ blank → t ≡ zeros 512 → stateOf w t ≡ noState
+unfolding noState stateOf stateBy firstOf placesOf listed placeIn lifeBy phaseBy blank
+cleared w t e f = ap (λ (x : List ℕ). stateOf x t) e ∙ ap (stateOf blank) f
+
+-- a refusal with it
+pub refused-is : (m c : List ℕ) (s : State) (why : Refusal) → s ≡ noState → leaves (Refused why) s m c ≡ refuses why noState m c
+refused-is m c s why e = rw e
 
 -- t is what was found of the sizes
 module _ (m c : List ℕ) (l d : ℕ) (t : Bool) (sizes : t ≡ inRange l d && eqb (length m) (mediumLength l d)) where

@@ -9,14 +9,14 @@ ghost use mathlib.Core.Bool.{_&&_};
 ghost use lib.ListN.{length};
 ghost use lib.Dec.{eqb};
 ghost use Rattle.store.specs.State.{inRange};
-ghost use Rattle.layout.specs.Block.{mediumLength};
+ghost use Rattle.fields.specs.Block.{mediumLength};
 ghost use Rattle.store.specs.Format.{freshMedium, formatOf};
 
 // Are L and D in range, and is the medium's length right?
 pub(crate) fn sizes_fit(medium: usize, blocks: u64, pages: u64) -> bool
     ensures { λ r. ⌜ r ≡ (inRange blocks pages && eqb medium (mediumLength blocks pages)) ⌝ }
 {
-    if !live::in_range(blocks, pages) {
+    if !memory::fit::in_range(blocks, pages) {
         return false;
     }
     medium == layout::place::medium_length(blocks, pages)
@@ -27,7 +27,7 @@ fn lay(medium: &mut [u8], blocks: u64, pages: u64)
     requires { ⌜ length (now medium) ≡ mediumLength blocks pages ⌝ }
     ensures { λ _. ⌜ now (medium .exit) ≡ freshMedium blocks pages ⌝ }
 {
-    layout::block::clear(medium);
+    fields::block::clear(medium);
     layout::master::write(
         &mut medium[0..512],
         Fields {

@@ -1,23 +1,12 @@
-// A refusal leaves the state as it was.
+// What a refused call answers.
 use store::Answer;
-use store::Ended;
 use store::Reading;
 use store::Refusal;
-use store::State;
 ghost use mathlib.Core.Path.{_≡_};
-ghost use Rattle.layout.specs.Block.{zeros};
+ghost use Rattle.fields.specs.Block.{zeros};
 ghost use Rattle.store.specs.declared.Answer.the-variants.{Refused};
 
-pub fn ended(s: State, why: Refusal) -> Ended
-    ensures { λ r. ⌜ r ≡ record { answer = Refused why; state = s } ⌝ }
-{
-    Ended {
-        answer: Answer::Refused(why),
-        state: s,
-    }
-}
-
-// Of a read, with zeros for its value.
+// A read, with zeros for its value.
 pub fn reading(why: Refusal) -> Reading
     ensures { λ r. ⌜ r ≡ record { answer = Refused why; value = zeros 16 } ⌝ }
 {

@@ -3,19 +3,19 @@
 use mathlib.Core.Path.{_≡_, refl, sym, ap, subst, _∙_}
 use mathlib.Core.Bool.{Bool, true, false, cond}
 use mathlib.Core.List.{List}
-use Prim.Native.Nat.{ℕ, zero, suc, _+_, _-_, _*_, _/_, _≤_, _<_}
+use Prim.Native.Nat.{ℕ, zero, suc, _+_, _-_, _*_, _≤_, _<_}
 use native.Mathlib.Omega.{arith}
 use lib.ListN.{length, take, drop, getD}
-use lib.Dec.{eqb, ltb}
+use lib.Dec.{eqb, leb, ltb}
 use borrow.Author.Tests.{eq-eqb, ne-eqb, ltb-true, le-leb, lt-leb}
-use Rattle.layout.specs.Block.{zeros, slotAt}
-use Rattle.layout.specs.Part.{splice}
-use Rattle.layout.specs.Cells.{flat}
+use Rattle.fields.specs.Block.{zeros, slotAt}
+use Rattle.fields.specs.Part.{splice}
+use Rattle.fields.specs.Cells.{flat}
 use Rattle.layout.specs.Slot.{Cell}
 use Rattle.layout.specs.declared.slot.Slot.{Slot}
 use Rattle.layout.specs.declared.slot.Slot.the-variants.{Empty, Waiting, Stamped}
-use Rattle.layout.proofs.Choose.{cond-elim}
-use Rattle.layout.proofs.PartLaws.{lent-part}
+use Rattle.fields.proofs.Choose.{cond-elim}
+use Rattle.fields.proofs.PartLaws.{lent-part}
 use Rattle.store.specs.declared.Answer.the-variants.{Refused, Erased, Present, Listed}
 use Rattle.store.specs.declared.Refusal.the-variants.{ShortBuffer}
 use Rattle.store.specs.declared.Reading.{Reading}
@@ -29,11 +29,9 @@ use Rattle.store.specs.State.{fits}
 use Rattle.store.specs.Chain.{newest, held, cellAt, visible, unlessEmpty, visibleFrom, visibleOf, bestOf}
 use Rattle.store.specs.CurrentRead.{reads, readCell, currentAt, currentIf, currentOf}
 use Rattle.store.specs.AsOf.{asOfAt, asOfIf, asOfOf}
-use Rattle.store.specs.Changes.{lineBytes, linesBelow, changeLines, changesIf, changesOf}
-use Rattle.live.specs.Pairs.{pairTable, timeIn}
-use Rattle.live.proofs.PairLaws.{times-any}
-use Rattle.chain.specs.Room.{Room, Head}
-use Rattle.chain.proofs.RoomLaws.{room-lower, kind-read, value-read}
+use Rattle.store.specs.Changes.{Line, lineBytes, linesBelow, changeLines, changesIf, changesOf}
+use Rattle.cached.specs.Room.{Room, Head}
+use Rattle.cached.proofs.RoomLaws.{room-lower, kind-read, value-read}
 use Rattle.reads.specs.Said.{readingOf}
 
 -- ---- the room
@@ -85,40 +83,47 @@ read-cell r v s m c e = ap (λ (x : Reading). reads (x .answer) (x .value) s m c
 
 -- ---- the reads, once their questions are answered
 
-pub current-done : (s : State) (m c : List ℕ) (n key i : ℕ) (head f : Found) (table : List ℕ) → fits s (length m) (length c) ≡ true
-    → findActive (s .places) n ≡ At i → held c (s .places) (s .slots) key n ≡ false → table ≡ pairTable (s .places) true 0
-    → head ≡ newest c key (s .slots) → f ≡ visibleOf head c (timeIn table) n → currentOf s m c n key ≡ currentAt f s m c
+pub current-done : (s : State) (m c : List ℕ) (n key i : ℕ) (head f : Found) → fits s (length m) (length c) ≡ true
+    → findActive (s .places) n ≡ At i → held c (s .places) (s .slots) key n ≡ false
+    → head ≡ newest c key (s .slots) → f ≡ visibleOf head c (timeUnder (s .places)) n → currentOf s m c n key ≡ currentAt f s m c
 unfolding currentOf currentIf
-current-done s m c n key i head f table e₁ e₂ e₃ et eh ef =
-    let w : f ≡ visibleOf (newest c key (s .slots)) c (timeUnder (s .places)) n = rw (et, eh, times-any (s .places) 0) at ef in
-    simp (e₁, e₂, e₃, ← w)
+current-done s m c n key i head f e a h eh ef = simp (e, a, h, ef, eh)
 
-pub as-of-done : (s : State) (m c : List ℕ) (key t : ℕ) (head : Found) (b : Best) (table : List ℕ) → fits s (length m) (length c) ≡ true
-    → t ≤ s .last .0 → table ≡ pairTable (s .places) true 0
-    → head ≡ newest c key (s .slots) → b ≡ bestOf head c (timeIn table) t → asOfOf s m c key t ≡ asOfAt b s m c
+pub as-of-done : (s : State) (m c : List ℕ) (key t : ℕ) (head : Found) (b : Best) → fits s (length m) (length c) ≡ true
+    → t ≤ s .last .0 → head ≡ newest c key (s .slots) → b ≡ bestOf head c (timeUnder (s .places)) t → asOfOf s m c key t ≡ asOfAt b s m c
 unfolding asOfOf asOfIf
-as-of-done s m c key t head b table e₁ h et eh eb =
-    let w : b ≡ bestOf (newest c key (s .slots)) c (timeUnder (s .places)) t = rw (et, eh, times-any (s .places) 0) at eb in
-    simp (e₁, le-leb _ _ h, ← w)
+as-of-done s m c key t head b e l eh eb = simp (e, le-leb t (s .last .0) l, eb, eh)
 
--- a list of changes: n lines were counted in the searches' own terms
-module _ (s : State) (m c b : List ℕ) (key t1 t2 n : ℕ) (head : Found) (table : List ℕ) (e : fits s (length m) (length c) ≡ true)
-    (h : t2 ≤ s .last .0) (et : table ≡ pairTable (s .places) true 0) (eh : head ≡ newest c key (s .slots))
-    (en : n ≡ length (linesBelow c (timeIn table) head t1 (suc (suc t2)) (suc t2))) where
-  lines-are : linesBelow c (timeIn table) head t1 (suc (suc t2)) (suc t2) ≡ changeLines s c key t1 t2
+-- a list of changes: b is the buffer before it and d behind it, r what writing its lines answered
+module _ (s : State) (m c b d : List ℕ) (key t1 t2 : ℕ) (head r : Found) (e : fits s (length m) (length c) ≡ true) (l : t2 ≤ s .last .0)
+    (eh : head ≡ newest c key (s .slots)) where
+  abbrev found : List Line
+  found = linesBelow c (timeUnder (s .places)) head t1 (suc (suc t2)) (suc t2)
+
+  lines-are : found ≡ changeLines s c key t1 t2
   unfolding changeLines
-  lines-are = rw (et, eh, times-any (s .places) 0)
+  lines-are = rw eh
 
-  count-is : n ≡ length (changeLines s c key t1 t2)
-  count-is = en ∙ ap length lines-are
+  module _ (er : r ≡ cond (leb (32 * length found) (length b)) (At (length found)) Nothing)
+      (ed : d ≡ cond (leb (32 * length found) (length b)) (splice b 0 (flat lineBytes found)) b) where
+    pub changes-listed : (n : ℕ) → r ≡ At n
+        → record { answer = Listed n; value = zeros 16; state = s; medium = m; cache = c; buffer = d } ≡ changesOf s m c b key t1 t2
+    unfolding changesOf changesIf
+    changes-listed n en = go (leb (32 * length found) (length b)) refl er ed
+      where
+        go : (t : Bool) → leb (32 * length found) (length b) ≡ t → r ≡ cond t (At (length found)) Nothing → d ≡ cond t (splice b 0 (flat lineBytes found)) b
+            → record { answer = Listed n; value = zeros 16; state = s; medium = m; cache = c; buffer = d } ≡ changesOf s m c b key t1 t2
+        go true q x y =
+            let z : n ≡ length found = cc in
+            simp (e, le-leb t2 (s .last .0) l, ← lines-are, q, z, y)
+        go false q x y = let z : _≡_ {A = ℕ} 0 1 = cc in absurd (omega arith)
 
-  pub changes-short : length b / 32 < n
-      → record { answer = Refused ShortBuffer; value = zeros 16; state = s; medium = m; cache = c; buffer = b } ≡ changesOf s m c b key t1 t2
-  unfolding changesOf changesIf
-  changes-short k = simp (e, le-leb _ _ h, ← count-is, lt-leb (32 * n) (length b) (omega arith))
-
-  pub changes-done : (out : List ℕ) → n ≤ length b / 32
-      → out ≡ splice b 0 (flat lineBytes (linesBelow c (timeIn table) head t1 (suc (suc t2)) (suc t2)))
-      → record { answer = Listed n; value = zeros 16; state = s; medium = m; cache = c; buffer = out } ≡ changesOf s m c b key t1 t2
-  unfolding changesOf changesIf
-  changes-done out k w = simp (e, le-leb _ _ h, ← count-is, le-leb (32 * n) (length b) (omega arith), w, lines-are)
+    pub changes-short : r ≡ Nothing
+        → record { answer = Refused ShortBuffer; value = zeros 16; state = s; medium = m; cache = c; buffer = d } ≡ changesOf s m c b key t1 t2
+    unfolding changesOf changesIf
+    changes-short en = go (leb (32 * length found) (length b)) refl er ed
+      where
+        go : (t : Bool) → leb (32 * length found) (length b) ≡ t → r ≡ cond t (At (length found)) Nothing → d ≡ cond t (splice b 0 (flat lineBytes found)) b
+            → record { answer = Refused ShortBuffer; value = zeros 16; state = s; medium = m; cache = c; buffer = d } ≡ changesOf s m c b key t1 t2
+        go true q x y = let z : _≡_ {A = ℕ} 0 1 = cc in absurd (omega arith)
+        go false q x y = simp (e, le-leb t2 (s .last .0) l, ← lines-are, q, y)

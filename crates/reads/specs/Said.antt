@@ -1,7 +1,7 @@
 -- What a read says of the version that it found.
 use mathlib.Core.Bool.{cond}
 use lib.Dec.{eqb}
-use Rattle.layout.specs.Block.{zeros}
+use Rattle.fields.specs.Block.{zeros}
 use Rattle.layout.specs.Slot.{Cell}
 use Rattle.store.specs.declared.Answer.the-variants.{Erased, Present}
 use Rattle.store.specs.declared.Reading.{Reading}

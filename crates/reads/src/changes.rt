@@ -1,13 +1,17 @@
 // List of changes.
+use memory::LAST;
+use memory::SLOTS;
 use store::Answer;
+use store::Found;
 use store::Refusal;
-use store::State;
 ghost use mathlib.Core.Path.{_≡_};
-ghost use Rattle.layout.specs.Block.{zeros};
+ghost use Rattle.fields.specs.Block.{zeros};
 ghost use Rattle.store.specs.Changes.{changesOf};
+ghost use Rattle.memory.specs.Memory.{stateOf};
 
 pub fn changes(
-    s: State,
+    words: &[u64; 448],
+    tail: &[u8; 512],
     medium: &[u8],
     cache: &[u8],
     key: u8,
@@ -15,21 +19,18 @@ pub fn changes(
     t2: u64,
     buffer: &mut [u8],
 ) -> Answer
-    ensures { λ r. ⌜ record { answer = r; value = zeros 16; state = s; medium = now (medium .entry); cache = now (cache .entry); buffer = now (buffer .exit) } ≡ changesOf s (now (medium .entry)) (now (cache .entry)) (now (buffer .entry)) key t1 t2 ⌝ }
+    ensures { λ r. ⌜ record { answer = r; value = zeros 16; state = (stateOf (now (words .entry)) (now (tail .entry))); medium = now (medium .entry); cache = now (cache .entry); buffer = now (buffer .exit) } ≡ changesOf (stateOf (now (words .entry)) (now (tail .entry))) (now (medium .entry)) (now (cache .entry)) (now (buffer .entry)) key t1 t2 ⌝ }
 {
-    if !live::is_fit(s, medium.len(), cache.len()) {
+    if !memory::fit::is_fit(words, tail, medium.len(), cache.len()) {
         return Answer::Refused(Refusal::Unfit);
     }
-    if s.last.0 < t2 {
+    if words[LAST] < t2 {
         return Answer::Refused(Refusal::NotYet);
     }
-    let places = s.places;
-    let table = live::pair_table(places, true, 0);
-    let head = chain::newest::find(cache, key, s.slots);
-    let n = chain::lines::count(head, cache, &table, t1, t2);
-    if (buffer.len() as u64) / 32 < n {
-        return Answer::Refused(Refusal::ShortBuffer);
+    let head = chain::newest::find(cache, key, words[SLOTS]);
+    let listed = chain::lines::list(head, cache, words, t1, t2, buffer);
+    match listed {
+        Found::At(n) => Answer::Listed(n),
+        Found::Nothing => Answer::Refused(Refusal::ShortBuffer),
     }
-    chain::lines::write(head, cache, &table, t1, t2, n, buffer);
-    Answer::Listed(n)
 }

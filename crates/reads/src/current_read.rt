@@ -1,16 +1,17 @@
 // Current read, and what a version says.
+use memory::SLOTS;
 use store::Answer;
 use store::Found;
 use store::Reading;
 use store::Refusal;
-use store::State;
 ghost use mathlib.Core.Path.{_≡_};
 ghost use Prim.Native.Nat.{suc, _+_};
 ghost use lib.ListN.{length};
 ghost use Rattle.store.specs.Chain.{cellAt};
 ghost use Rattle.store.specs.CurrentRead.{reads, currentOf};
-ghost use Rattle.chain.specs.Room.{Room};
-ghost use Rattle.layout.specs.Block.{zeros};
+ghost use Rattle.memory.specs.Memory.{stateOf};
+ghost use Rattle.cached.specs.Room.{Room};
+ghost use Rattle.fields.specs.Block.{zeros};
 ghost use Rattle.store.specs.declared.Answer.the-variants.{Missing};
 ghost use Rattle.reads.specs.Said.{readingOf};
 
@@ -28,7 +29,7 @@ pub(crate) fn read_slot(cache: &[u8], n: u64) -> Reading
         };
     }
     let p = a + 16;
-    layout::block::copy(&mut value, &cache[p..p + 16]);
+    fields::block::copy(&mut value, &cache[p..p + 16]);
     Reading {
         answer: Answer::Present,
         value: value,
@@ -45,23 +46,28 @@ pub(crate) fn missing() -> Reading
     }
 }
 
-pub fn current_read(s: State, medium: &[u8], cache: &[u8], number: u64, key: u8) -> Reading
-    ensures { λ r. ⌜ reads (r .answer) (r .value) s (now (medium .entry)) (now (cache .entry)) ≡ currentOf s (now (medium .entry)) (now (cache .entry)) number key ⌝ }
+pub fn current_read(
+    words: &[u64; 448],
+    tail: &[u8; 512],
+    medium: &[u8],
+    cache: &[u8],
+    number: u64,
+    key: u8,
+) -> Reading
+    ensures { λ r. ⌜ reads (r .answer) (r .value) (stateOf (now (words .entry)) (now (tail .entry))) (now (medium .entry)) (now (cache .entry)) ≡ currentOf (stateOf (now (words .entry)) (now (tail .entry))) (now (medium .entry)) (now (cache .entry)) number key ⌝ }
 {
-    if !live::is_fit(s, medium.len(), cache.len()) {
+    if !memory::fit::is_fit(words, tail, medium.len(), cache.len()) {
         return questions::refuse::reading(Refusal::Unfit);
     }
-    let places = s.places;
-    let f = live::find_active(places, number);
+    let f = live::places::find_active(words, number);
     let Found::At(_) = f else {
         return questions::refuse::reading(Refusal::NotActive);
     };
-    if chain::newest::is_held(cache, places, s.slots, key, number) {
+    let newest = chain::newest::find(cache, key, words[SLOTS]);
+    if chain::newest::is_held(newest, cache, words, number) {
         return questions::refuse::reading(Refusal::Held);
     }
-    let table = live::pair_table(places, true, 0);
-    let head = chain::newest::find(cache, key, s.slots);
-    let found = chain::visible::find(head, cache, &table, number);
+    let found = chain::visible::find(newest, cache, words, number);
     match found {
         Found::At(n) => read_slot(cache, n),
         Found::Nothing => missing(),

@@ -1,109 +1,152 @@
--- What the stores need: the blocks of a state that fits lie within its medium and its cache, and the page laid over its block
--- in both is the stamped one. Assumes nothing.
+-- What the stores need: the blocks of a state that fits lie within its medium and its cache, and what a page store leaves of state,
+-- medium and cache is what its definition says. Assumes nothing.
 use mathlib.Core.Path.{_≡_, sym, ap, _∙_}
-use mathlib.Core.Bool.{Bool, true, false}
+use mathlib.Core.Bool.{Bool, true, false, cond, not}
 use mathlib.Core.List.{List, _++_}
-use Prim.Native.Nat.{ℕ, _+_, _-_, _*_, _≤_, _<_}
+use Prim.Native.Nat.{ℕ, _+_, _-_, _*_, _^_, _≤_, _<_}
 use native.Mathlib.Omega.{arith}
-use lib.ListN.{length, take, drop}
+use lib.ListN.{length, take, drop, getD, set}
 use borrow.Author.Tests.{lt-ltb, le-leb}
-use Rattle.layout.specs.Block.{blk, put, logBlockAt, pageBlockAt}
-use Rattle.layout.specs.Equal.{eqList}
+use Rattle.fields.specs.Block.{blk, put, logBlockAt, pageBlockAt, mediumLength, cacheLength}
+use Rattle.fields.specs.Equal.{eqList}
+use Rattle.layout.specs.Journal.{sequenceOf}
 use Rattle.layout.specs.Page.{pageEnd}
-use Rattle.layout.proofs.PartLaws.{lent-part, lent-laid}
-use Rattle.layout.proofs.BlockLaws.{length-blk}
+use Rattle.fields.proofs.PartLaws.{splice-self, lent-part, lent-back}
 use Rattle.layout.proofs.PlaceLaws.{log-in-medium, page-in-medium, page-in-cache}
-use Rattle.store.specs.declared.Answer.the-variants.{Done}
-use Rattle.store.specs.declared.Place.{Place}
+use Rattle.store.specs.declared.Answer.{Answer}
+use Rattle.store.specs.declared.Answer.the-variants.{Refused, Done}
+use Rattle.store.specs.declared.Refusal.the-variants.{Unchanged}
 use Rattle.store.specs.declared.State.{State}
 use Rattle.store.specs.Answer.{leaves}
 use Rattle.store.specs.State.{fits}
-use Rattle.store.specs.StorePage.{stampFrom, storedPair, stampedPage, settleFrom, settled, pageStored, storePageIf, storePageOf}
-use Rattle.live.specs.Pairs.{pairTable, timeIn}
+use Rattle.store.specs.StoreLog.{logStored, storeLogIf, storeLogOf}
+use Rattle.store.specs.Tail.{storedTail}
+use Rattle.store.specs.StorePage.{storedPair, stampedPage, settled, pageStored, storePageIf, storePageOf}
 use Rattle.store.proofs.FitLaws.{fit-of}
-use Rattle.live.proofs.PairLaws.{times-stored}
-use Rattle.pages.proofs.StampLaws.{length-stampFrom}
+use Rattle.memory.specs.Memory.{firstOf, stateBy, stateOf, withFirst}
+use Rattle.pages.specs.Stamped.{stampedUnder, settledUnder, withPlaces}
 
--- ---- where the blocks lie
+-- ---- where the blocks lie; m and c are the lengths of medium and cache
 
-pub log-within : (s : State) (m c k q : ℕ) → fits s m c ≡ true → k ≡ logBlockAt (s .blocks) q → 512 * k + 512 ≤ m
-log-within s m c k q e ek =
-    let f = fit-of s m c e in
-    let h = log-in-medium (s .blocks) (s .pages) q (omega arith) in
-    omega arith
+pub record Sizes (w t : List ℕ) (m c : ℕ) : Type 0 where
+  pub blocks-low : 2 ≤ getD w 0 0
+  pub blocks-high : getD w 0 0 ≤ 32
+  pub pages-high : getD w 1 0 ≤ 64
+  pub medium : m ≡ mediumLength (getD w 0 0) (getD w 1 0)
+  pub cache : c ≡ cacheLength (getD w 1 0)
+  pub sequence : sequenceOf t < 2 ^ 48
 
-pub page-within : (s : State) (m c p : ℕ) → fits s m c ≡ true → p < s .pages → (p < 64) × (512 * p + 512 ≤ c)
-page-within s m c p e h =
-    let f = fit-of s m c e in
-    let k = page-in-cache (s .pages) p h in
-    (omega arith, omega arith)
+pub sizes : (w t : List ℕ) (m c : ℕ) → fits (stateOf w t) m c ≡ true → Sizes w t m c
+unfolding stateOf stateBy
+sizes w t m c e =
+    let f = fit-of (stateOf w t) m c e in
+    record {
+      blocks-low = f .range .blocks-low;
+      blocks-high = f .range .blocks-high;
+      pages-high = f .range .pages-high;
+      medium = f .medium;
+      cache = f .cache;
+      sequence = f .tail .sequence-high;
+    }
 
-pub block-within : (s : State) (m c p k : ℕ) → fits s m c ≡ true → p < s .pages → k ≡ pageBlockAt (s .blocks) p → (k < 128) × (512 * k + 512 ≤ m)
-unfolding pageBlockAt
-block-within s m c p k e h ek =
-    let f = fit-of s m c e in
-    let w = page-in-medium (s .blocks) (s .pages) p h in
-    (omega arith, omega arith)
+module _ (w t : List ℕ) (m c : ℕ) (f : Sizes w t m c) where
+  pub log-within : (k q : ℕ) → k ≡ logBlockAt (getD w 0 0) q → 512 * k + 512 ≤ m
+  log-within k q e = let h = log-in-medium (getD w 0 0) (getD w 1 0) q (omega arith) in omega arith
 
--- ---- the page as it was lent
+  pub page-within : (p : ℕ) → p < getD w 1 0 → (p < 64) × (512 * p + 512 ≤ c)
+  page-within p h = let k = page-in-cache (getD w 1 0) p h in (omega arith, omega arith)
+
+  pub block-within : (p k : ℕ) → p < getD w 1 0 → k ≡ pageBlockAt (getD w 0 0) p → (k < 128) × (512 * k + 512 ≤ m)
+  unfolding pageBlockAt
+  block-within p k h e = let x = page-in-medium (getD w 0 0) (getD w 1 0) p h in (omega arith, omega arith)
+
+-- ---- storing the log; u is the state that it leaves, n the medium
+
+pub log-done : (s u : State) (m n c : List ℕ) → fits s (length m) (length c) ≡ true
+    → eqList (blk m (logBlockAt (s .blocks) (sequenceOf (s .tail)))) (s .tail) ≡ false → u ≡ logStored s → n ≡ storedTail (s .blocks) m (s .tail)
+    → leaves Done u n c ≡ storeLogOf s m c
+unfolding storeLogOf storeLogIf
+log-done s u m n c e q eu en = simp (e, q, eu, en)
+
+-- ---- block k of l as it is lent, and l once v is left in it
 
 abbrev lent : List ℕ → ℕ → List ℕ
 lent l k = take (512 * k + 512 - 512 * k) (drop (512 * k) l)
+
+abbrev laid : List ℕ → ℕ → List ℕ → List ℕ
+laid l k v = take (512 * k) l ++ (v ++ drop (512 * k + 512 - 512 * k) (drop (512 * k) l))
 
 lent-blk : (l : List ℕ) (k : ℕ) → lent l k ≡ blk l k
 unfolding blk
 lent-blk l k = lent-part l (512 * k) 512
 
--- a block that was lent, with v left in it
-laid-blk : (l v : List ℕ) (k : ℕ) → 512 * k + 512 ≤ length l → length v ≡ 512
-    → take (512 * k) l ++ (v ++ drop (512 * k + 512 - 512 * k) (drop (512 * k) l)) ≡ put l k v
+laid-blk : (l v : List ℕ) (k : ℕ) → 512 * k + 512 ≤ length l → length v ≡ length (lent l k) → laid l k v ≡ put l k v
 unfolding put
-laid-blk l v k h n = lent-laid l v (512 * k) 512 h n
+laid-blk l v k h n = lent-back l v (512 * k) 512 h n
+
+-- nothing was changed
+laid-same : (l v : List ℕ) (k : ℕ) → 512 * k + 512 ≤ length l → v ≡ lent l k → laid l k v ≡ l
+laid-same l v k h e =
+    lent-back l v (512 * k) 512 h (ap length e) ∙ rw (e, lent-part l (512 * k) 512) (splice-self l (512 * k) 512)
 
 pub end-asked : (c : List ℕ) (p e : ℕ) → e ≡ pageEnd (lent c p) → pageEnd (blk c p) ≡ e
 end-asked c p e w = sym (w ∙ ap pageEnd (lent-blk c p))
 
--- ---- storing page p, whose block is k
+-- ---- the outcome of storing page p, where all questions but the last are answered; e is its end place, r the last answer
 
-module _ (s : State) (m c : List ℕ) (p k : ℕ) (table : List ℕ) (ek : k ≡ pageBlockAt (s .blocks) p)
-    (et : table ≡ pairTable (s .places) false (s .end .0)) where
-  pair-is : timeIn table ≡ storedPair s
-  unfolding storedPair
-  pair-is = ap timeIn et ∙ times-stored (s .places) (s .end .0)
-
-  stamped-is : stampFrom (timeIn table) (lent c p) 0 15 ≡ stampedPage s (blk c p)
-  unfolding stampedPage
-  stamped-is = rw (lent-blk c p, pair-is)
-
-  pub page-asked : (b : Bool) → b ≡ eqList (lent m k) (stampFrom (timeIn table) (lent c p) 0 15)
-      → eqList (blk m (pageBlockAt (s .blocks) p)) (stampedPage s (blk c p)) ≡ b
-  page-asked b w = sym (w ∙ rw (lent-blk m k, stamped-is, ek))
-
-  -- page and block are what the lent parts hold in the end, ps the places settled, t the new state
-  page-laid : (page block : List ℕ) (ps : List Place) (t : State) → fits s (length m) (length c) ≡ true → p < s .pages
-      → ps ≡ settleFrom (timeIn table) (s .places) (lent c p) (s .places) 0 15
-      → page ≡ stampFrom (timeIn table) (lent c p) 0 15 → block ≡ stampFrom (timeIn table) (lent c p) 0 15
-      → ((bytes : List ℕ) → ps ≡ settled s bytes → t ≡ pageStored s p bytes)
-      → leaves Done t (take (512 * k) m ++ (block ++ drop (512 * k + 512 - 512 * k) (drop (512 * k) m)))
-      (take (512 * p) c ++ (page ++ drop (512 * p + 512 - 512 * p) (drop (512 * p) c)))
-      ≡ leaves Done (pageStored s p (blk c p)) (put m (pageBlockAt (s .blocks) p) (stampedPage s (blk c p))) (put c p (stampedPage s (blk c p)))
-  unfolding settled
-  page-laid page block ps t e h es ep eb st =
-      let w = page-within s (length m) (length c) p e h .1 in
-      let x = block-within s (length m) (length c) p k e h ek .1 in
-      let n : length (stampFrom (timeIn table) (lent c p) 0 15) ≡ 512 =
-      length-stampFrom (timeIn table) 15 (lent c p) 0 ∙ ap length (lent-blk c p) ∙ length-blk c p w in
-      let u : t ≡ pageStored s p (blk c p) = st (blk c p) (es ∙ rw (pair-is, lent-blk c p)) in
-      rw (laid-blk m block k x (ap length eb ∙ n), laid-blk c page p w (ap length ep ∙ n), u, ep, eb, stamped-is, ek)
-
-  pub page-done : (page block : List ℕ) (ps : List Place) (t : State) (v : ℕ) (b : Bool) → fits s (length m) (length c) ≡ true → p < s .pages
-      → pageEnd (blk c p) ≡ v → v ≤ s .end .0 → eqList (blk m (pageBlockAt (s .blocks) p)) (stampedPage s (blk c p)) ≡ b → b ≡ false
-      → ps ≡ settleFrom (timeIn table) (s .places) (lent c p) (s .places) 0 15
-      → page ≡ stampFrom (timeIn table) (lent c p) 0 15 → block ≡ stampFrom (timeIn table) (lent c p) 0 15
-      → ((bytes : List ℕ) → ps ≡ settled s bytes → t ≡ pageStored s p bytes)
-      → leaves Done t (take (512 * k) m ++ (block ++ drop (512 * k + 512 - 512 * k) (drop (512 * k) m)))
-      (take (512 * p) c ++ (page ++ drop (512 * p + 512 - 512 * p) (drop (512 * p) c)))
-      ≡ storePageOf s m c p
+module _ (s : State) (m c : List ℕ) (p e : ℕ) (r : Bool) (f : fits s (length m) (length c) ≡ true) (h : p < s .pages)
+    (ee : pageEnd (blk c p) ≡ e) (he : e ≤ s .end .0)
+    (er : not (eqList (blk m (pageBlockAt (s .blocks) p)) (stampedPage s (blk c p))) ≡ r) where
+  pub page-unchanged : r ≡ false → storePageOf s m c p ≡ leaves (Refused Unchanged) s m c
   unfolding storePageOf storePageIf
-  page-done page block ps t v b e h ev hv eb hb es ep el st =
-      page-laid page block ps t e h es ep el st ∙ sym (simp (e, lt-ltb _ _ h, ev, le-leb _ _ hv, eb, hb))
+  page-unchanged w = simp (f, lt-ltb _ _ h, ee, le-leb _ _ he, er, w)
+
+  pub page-done : r ≡ true
+      → storePageOf s m c p
+      ≡ leaves Done (pageStored s p (blk c p)) (put m (pageBlockAt (s .blocks) p) (stampedPage s (blk c p))) (put c p (stampedPage s (blk c p)))
+  unfolding storePageOf storePageIf
+  page-done w = simp (f, lt-ltb _ _ h, ee, le-leb _ _ he, er, w)
+
+-- ---- storing page p, whose block is k; r is the answer of `pages::store`, v the words, page and block the bytes that it leaves
+
+module _ (w t m c : List ℕ) (p k : ℕ) (ek : k ≡ pageBlockAt (getD w 0 0) p) where
+  abbrev s : State
+  s = stateOf w t
+
+  stamped-is : stampedUnder w (lent c p) ≡ stampedPage s (blk c p)
+  unfolding stampedUnder stampedPage storedPair stateOf stateBy
+  stamped-is = ap (stampedUnder w) (lent-blk c p)
+
+  settled-is : settledUnder w (lent c p) ≡ settled s (blk c p)
+  unfolding settledUnder settled storedPair stateOf stateBy
+  settled-is = ap (settledUnder w) (lent-blk c p)
+
+  pub page-asked : (r : Bool) → r ≡ not (eqList (lent m k) (stampedUnder w (lent c p)))
+      → not (eqList (blk m (pageBlockAt (s .blocks) p)) (stampedPage s (blk c p))) ≡ r
+  unfolding stateOf stateBy
+  page-asked r e = sym (e ∙ rw (stamped-is, lent-blk m k, ek))
+
+  module _ (r : Bool) (v page block : List ℕ) (hp : 512 * p + 512 ≤ length c) (hk : 512 * k + 512 ≤ length m)
+      (ev : stateOf v t ≡ cond r (withPlaces s (settledUnder w (lent c p))) s)
+      (ep : page ≡ cond r (stampedUnder w (lent c p)) (lent c p)) (eb : block ≡ cond r (stampedUnder w (lent c p)) (lent m k)) where
+    -- the block held the page already
+    pub page-kept : (a : Answer) → r ≡ false → leaves a (stateOf v t) (laid m k block) (laid c p page) ≡ leaves a s m c
+    page-kept a e =
+        let x : stateOf v t ≡ s = rw e at ev in
+        let y : page ≡ lent c p = rw e at ep in
+        let z : block ≡ lent m k = rw e at eb in
+        rw (x, laid-same m block k hk z, laid-same c page p hp y)
+
+    -- it did not; u are the words without the page's first change
+    pub page-laid : (u : List ℕ) → r ≡ true → stateOf u t ≡ withFirst (stateOf v t) (set (firstOf v) p 0)
+        → length page ≡ length (lent c p) → length block ≡ length (lent m k)
+        → leaves Done (stateOf u t) (laid m k block) (laid c p page)
+        ≡ leaves Done (pageStored s p (blk c p)) (put m (pageBlockAt (s .blocks) p) (stampedPage s (blk c p))) (put c p (stampedPage s (blk c p)))
+    unfolding pageStored withFirst withPlaces stateOf stateBy
+    page-laid u e eu np nb =
+        let x : stateOf v t ≡ withPlaces s (settledUnder w (lent c p)) = rw e at ev in
+        let y : page ≡ stampedUnder w (lent c p) = rw e at ep in
+        let z : block ≡ stampedUnder w (lent c p) = rw e at eb in
+        let f : firstOf v ≡ firstOf w = ap (λ (q : State). q .first) x in
+        let g : stateOf u t ≡ pageStored s p (blk c p) = eu ∙ ap (λ (q : State). withFirst q (set (firstOf v) p 0)) x ∙ rw (f, settled-is) in
+        rw (g, laid-blk m block k hk nb, laid-blk c page p hp np, y, z, stamped-is, ek)

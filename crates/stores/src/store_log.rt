@@ -1,41 +1,28 @@
 // Store log.
+use memory::BLOCKS;
 use store::Answer;
-use store::Ended;
 use store::Refusal;
-use store::State;
 ghost use mathlib.Core.Path.{_≡_};
-ghost use Prim.Native.Nat.{_<_, _^_};
-ghost use Rattle.layout.specs.Journal.{sequenceOf};
 ghost use Rattle.store.specs.Answer.{leaves};
-ghost use Rattle.store.specs.StoreLog.{logStored, storeLogOf};
+ghost use Rattle.store.specs.StoreLog.{storeLogOf};
+ghost use Rattle.memory.specs.Memory.{stateOf};
 
-// The state with all of the tail stored.
-fn all_stored(s: State) -> State
-    requires { ⌜ sequenceOf (s .tail) < 2 ^ 48 ⌝ }
-    ensures { λ r. ⌜ r ≡ logStored s ⌝ }
+pub fn store_log(
+    words: &mut [u64; 448],
+    tail: &[u8; 512],
+    medium: &mut [u8],
+    cache: &[u8],
+) -> Answer
+    ensures { λ r. ⌜ leaves r (stateOf (now (words .exit)) (now (tail .entry))) (now (medium .exit)) (now (cache .entry)) ≡ storeLogOf (stateOf (now (words .entry)) (now (tail .entry))) (now (medium .entry)) (now (cache .entry)) ⌝ }
 {
-    let end = tail::end_of(s);
-    let last = s.last;
-    let mut t = s;
-    t.end.0 = end.0;
-    t.saved.0 = last.0;
-    t
-}
-
-pub fn store_log(s: State, medium: &mut [u8], cache: &[u8]) -> Ended
-    ensures { λ r. ⌜ leaves (r .answer) (r .state) (now (medium .exit)) (now (cache .entry)) ≡ storeLogOf s (now (medium .entry)) (now (cache .entry)) ⌝ }
-{
-    if !live::is_fit(s, medium.len(), cache.len()) {
-        return questions::refuse::ended(s, Refusal::Unfit);
+    if !memory::fit::is_fit(words, tail, medium.len(), cache.len()) {
+        return Answer::Refused(Refusal::Unfit);
     }
-    let tail = s.tail;
-    let k = layout::place::log_block(s.blocks, layout::journal::sequence(&tail));
-    if layout::block::same_block(medium, k, &tail) {
-        return questions::refuse::ended(s, Refusal::Unchanged);
+    let k = layout::place::log_block(words[BLOCKS], layout::journal::sequence(tail));
+    if fields::block::same_block(medium, k, tail) {
+        return Answer::Refused(Refusal::Unchanged);
     }
-    layout::block::store(medium, k, &tail);
-    Ended {
-        answer: Answer::Done,
-        state: all_stored(s),
-    }
+    fields::block::store(medium, k, tail);
+    tail::all_stored(words, tail);
+    Answer::Done
 }

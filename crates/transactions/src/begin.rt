@@ -1,50 +1,53 @@
 // Begin.
+use layout::TxNumber;
+use memory::NEXT;
+use memory::RING;
 use store::Answer;
-use store::Ended;
 use store::Found;
-use store::Life;
-use store::Place;
 use store::Refusal;
-use store::State;
 ghost use mathlib.Core.Path.{_≡_};
-ghost use Prim.Native.Nat.{_+_, _-_, _<_, _^_};
+ghost use mathlib.Core.List.{List};
+ghost use Prim.Native.Nat.{ℕ, _+_, _-_, _<_, _^_};
+ghost use lib.ListN.{length, getD};
 ghost use Rattle.store.specs.Answer.{leaves};
 ghost use Rattle.store.specs.Begin.{begun, beginOf};
+ghost use Rattle.memory.specs.Memory.{stateOf};
 
-// The state with a new transaction in place i.
-fn take_place(s: State, i: u64, clock: u64) -> State
-    requires { ⌜ i < 64 ⌝ }
-    requires { ⌜ s .next .0 < 2 ^ 64 - 1 ⌝ }
-    ensures { λ r. ⌜ r ≡ begun s i clock ⌝ }
+// Puts a new transaction into place i.
+fn take_place(words: &mut [u64], i: u64, clock: u64)
+    requires { ⌜ length (now words) ≡ 448 ⌝ }
+    requires { ⌜ (i < 64) × (getD (now words) 3 0 < 2 ^ 64 - 1) ⌝ }
+    ensures { λ _. ⌜ ((tail : List ℕ) → stateOf (now (words .exit)) tail ≡ begun (stateOf (now (words .entry)) tail) i clock) ⌝ }
 {
-    let number = s.next;
-    let mut t = s;
-    t.places[i as usize] = Place {
-        life: Life::Active(number, clock),
-        waiting: 0,
-    };
-    t.next.0 = number.0 + 1;
-    t.ring = (i + 1) % 64;
-    t
+    let number = words[NEXT];
+    live::places::put_active(words, i as usize, TxNumber(number), clock);
+    words[NEXT] = number + 1;
+    words[RING] = (i + 1) % 64;
 }
 
-pub fn begin(s: State, medium: &[u8], cache: &[u8], clock: u64) -> Ended
-    ensures { λ r. ⌜ leaves (r .answer) (r .state) (now (medium .entry)) (now (cache .entry)) ≡ beginOf s (now (medium .entry)) (now (cache .entry)) clock ⌝ }
+pub fn begin(
+    words: &mut [u64; 448],
+    tail: &[u8; 512],
+    medium: &[u8],
+    cache: &[u8],
+    clock: u64,
+) -> Answer
+    ensures { λ r. ⌜ leaves r (stateOf (now (words .exit)) (now (tail .entry))) (now (medium .entry)) (now (cache .entry)) ≡ beginOf (stateOf (now (words .entry)) (now (tail .entry))) (now (medium .entry)) (now (cache .entry)) clock ⌝ }
 {
-    if !live::is_fit(s, medium.len(), cache.len()) {
-        return questions::refuse::ended(s, Refusal::Unfit);
+    if !memory::fit::is_fit(words, tail, medium.len(), cache.len()) {
+        return Answer::Refused(Refusal::Unfit);
     }
-    let number = s.next;
-    if number.0 == 18446744073709551615 {
-        return questions::refuse::ended(s, Refusal::NoNumber);
+    let number = words[NEXT];
+    if 18446744073709551615 <= number {
+        return Answer::Refused(Refusal::NoNumber);
     }
-    let places = s.places;
-    let f = live::find_free(places, s.ring);
+    let ring = words[RING];
+    let f = live::places::find_free(words, ring);
     match f {
-        Found::Nothing => questions::refuse::ended(s, Refusal::NoPlace),
-        Found::At(k) => Ended {
-            answer: Answer::Begun(number),
-            state: take_place(s, (s.ring % 64 + k) % 64, clock),
-        },
+        Found::Nothing => Answer::Refused(Refusal::NoPlace),
+        Found::At(k) => {
+            take_place(words, (ring % 64 + k) % 64, clock);
+            Answer::Begun(TxNumber(number))
+        }
     }
 }

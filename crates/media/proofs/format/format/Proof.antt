@@ -4,8 +4,8 @@ use mathlib.Core.Bool.{true, _&&_}
 use lib.ListN.{length}
 use lib.Dec.{eqb}
 use borrow.Author.Tests.{not-true, not-false, eqb-true}
-use Rattle.layout.specs.Block.{mediumLength}
-use Rattle.layout.proofs.Choose.{and-1}
+use Rattle.fields.specs.Block.{mediumLength}
+use Rattle.fields.proofs.Choose.{and-1}
 use Rattle.store.specs.Format.{formatOf, formatIf}
 use Rattle.store.specs.State.{inRange}
 use borrow.Author.Needs.{needs}

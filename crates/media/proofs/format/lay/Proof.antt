@@ -4,20 +4,20 @@ use mathlib.Core.List.{List, _++_}
 use Prim.Native.Nat.{ℕ, _+_, _-_, _*_}
 use native.Mathlib.Omega.{arith}
 use lib.ListN.{length}
-use Rattle.layout.specs.Block.{zeros, mediumLength}
-use Rattle.layout.specs.Part.{splice}
+use Rattle.fields.specs.Block.{zeros, mediumLength}
+use Rattle.fields.specs.Part.{splice}
 use Rattle.layout.specs.Master.{masterBytes}
 use Rattle.layout.specs.declared.master.Fields.{Fields}
-use Rattle.layout.proofs.CellLaws.{splice-zeros}
+use Rattle.fields.proofs.CellLaws.{splice-zeros}
 use Rattle.layout.proofs.MasterLaws.{length-masterBytes}
-use Rattle.layout.proofs.PartLaws.{lent-back}
+use Rattle.fields.proofs.PartLaws.{lent-back}
 use Rattle.store.specs.Format.{freshMedium}
 use borrow.Author.Needs.{needs}
 use Rattle.media.proofs.format.lay.Statement.{statement}
 use Rattle.media.proofs.format.lay.Tie as tie
 use Rattle.media.proofs.format.lay.Reads as reads
 use Rattle.media.proofs.format.lay.Lts as lts
-use Rattle.layout.proofs.block.clear.Reads as clear-reads
+use Rattle.fields.proofs.block.clear.Reads as clear-reads
 use Rattle.layout.proofs.master.write.Reads as write-reads
 
 fresh : (l d : ℕ) (z v : List ℕ) → z ≡ zeros (mediumLength l d)

@@ -10,7 +10,7 @@ use Rattle.media.proofs.format.sizes_fit.Tie as tie
 use Rattle.media.proofs.format.sizes_fit.Reads as reads
 use Rattle.media.proofs.format.sizes_fit.Lts as lts
 use Rattle.layout.proofs.place.medium_length.Reads as medium-length-reads
-use Rattle.live.proofs.in_range.Reads as in-range-reads
+use Rattle.memory.proofs.fit.in_range.Reads as in-range-reads
 
 q1 : (c : tie.Else1) → inRange (c .before .before .args .blocks) (c .before .before .args .pages) ≡ true
 q1 c = sym (c .before .in-range .ensures) ∙ not-false (c .before .in-range .result) (c .if1 .left)

@@ -1,13 +1,13 @@
 -- `current_read::read_slot` meets its contract: kind and value lie at their places in the slot.
 use native.Mathlib.Omega.{arith}
-use Rattle.chain.proofs.RoomLaws.{slot-room}
+use Rattle.cached.proofs.RoomLaws.{slot-room}
 use Rattle.reads.proofs.ReadLaws.{says-erased, says-present}
 use borrow.Author.Needs.{needs}
 use Rattle.reads.proofs.current_read.read_slot.Statement.{statement}
 use Rattle.reads.proofs.current_read.read_slot.Tie as tie
 use Rattle.reads.proofs.current_read.read_slot.Reads as reads
 use Rattle.reads.proofs.current_read.read_slot.Lts as lts
-use Rattle.layout.proofs.block.copy.Reads as copy-reads
+use Rattle.fields.proofs.block.copy.Reads as copy-reads
 use Rattle.layout.proofs.place.slot_at.Reads as slot-at-reads
 
 slot-at-requires : tie.Need-slot-at-requires

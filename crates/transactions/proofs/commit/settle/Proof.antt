@@ -1,29 +1,37 @@
--- The changed state is the definition's record, field by field: the end place is the tail's.
+-- The place is committed, then the last time moves: each changes one field of the state. Assumes nothing.
+use mathlib.Core.Path.{_≡_, sym, ap, _∙_}
+use mathlib.Core.List.{List}
+use Rattle.layout.specs.declared.EndPlace.{EndPlace}
+use Rattle.store.specs.declared.State.{State}
 use Rattle.store.specs.Commit.{committed}
-use Rattle.store.specs.Places.{placeAt}
+use Rattle.store.specs.State.{withPlace}
+use Rattle.memory.specs.Memory.{stateBy, stateOf}
+use Rattle.memory.specs.With.{withLast}
+use Rattle.memory.proofs.NumberLaws.{set-last}
 use borrow.Author.Needs.{needs}
 use Rattle.transactions.proofs.commit.settle.Statement.{statement}
 use Rattle.transactions.proofs.commit.settle.Tie as tie
 use Rattle.transactions.proofs.commit.settle.Reads as reads
 use Rattle.transactions.proofs.commit.settle.Lts as lts
+use Rattle.live.proofs.places.put_committed.Reads as put-committed-reads
 
-mul-p : tie.Need-mul-p
-mul-p c = search needs
+put-committed-requires : tie.Need-put-committed-requires
+put-committed-requires c κs = search needs
 
-element-copy-out-p : tie.Need-element-copy-out-p
-element-copy-out-p c = search needs
+slice-write-words : tie.Need-slice-write-words
+slice-write-words c = search needs
 
-mul-t10 : tie.Need-mul-t10
-mul-t10 c = search needs
-
-element-set-from-u : tie.Need-element-set-from-u
-element-set-from-u c = search needs
+same-length : tie.Need-same-length
+same-length c = search needs
 
 returns : tie.Need-returns
-unfolding committed placeAt
-returns c = simp (c .before .before .pre .1)
+unfolding committed withPlace withLast stateOf stateBy
+returns c = λ tail e.
+    let k = c .before .before in
+    let a = k .before .before .before .args in
+    set-last (k .put-committed .last .0) tail (a .time .0) (k .put-committed .kept .0 ∙ k .before .before .before .pre .0)
+    ∙ ap (λ (s : State). withLast s (a .time .0)) (k .put-committed .ensures tail)
+    ∙ rw e
 
 pub settle-spec : {M : Type 1} → statement M
-settle-spec =
-    tie.close
-    (tie.spec mul-p element-copy-out-p mul-t10 element-set-from-u returns)
+settle-spec = tie.close (tie.spec put-committed-requires slice-write-words same-length returns)

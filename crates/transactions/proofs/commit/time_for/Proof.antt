@@ -1,22 +1,23 @@
--- The largest of the three, two at a time.
+-- The clock at begin is a word of the place, the last time a number of the state. Assumes nothing.
+use mathlib.Core.Path.{_≡_, sym, ap, _∙_}
+use Prim.Native.Nat.{ℕ, _+_, max}
+use lib.ListN.{getD}
+use Rattle.layout.specs.declared.CommitTime.{CommitTime}
 use Rattle.store.specs.Commit.{commitTime}
-use Rattle.store.specs.Places.{placeAt}
+use Rattle.memory.specs.Memory.{stateBy, stateOf}
 use borrow.Author.Needs.{needs}
 use Rattle.transactions.proofs.commit.time_for.Statement.{statement}
 use Rattle.transactions.proofs.commit.time_for.Tie as tie
 use Rattle.transactions.proofs.commit.time_for.Reads as reads
 use Rattle.transactions.proofs.commit.time_for.Lts as lts
-use Rattle.live.proofs.clock_of.Reads as clock-of-reads
-use Rattle.live.proofs.larger.Reads as larger-reads
+use Rattle.live.proofs.places.clock_at.Reads as clock-at-reads
+use Rattle.live.proofs.times.larger.Reads as larger-reads
 
-mul-p : tie.Need-mul-p
-mul-p c = search needs
+clock-at-requires : tie.Need-clock-at-requires
+clock-at-requires c κs = search needs
 
-element-copy-out-p : tie.Need-element-copy-out-p
-element-copy-out-p c = search needs
-
-clock-of-requires : tie.Need-clock-of-requires
-clock-of-requires c κs = search needs
+shared-slice-read-larger : tie.Need-shared-slice-read-larger
+shared-slice-read-larger c = search needs
 
 add-larger : tie.Need-add-larger
 add-larger c = search needs
@@ -28,16 +29,15 @@ larger-requires-2 : tie.Need-larger-requires-2
 larger-requires-2 c κs = search needs
 
 returns : tie.Need-returns
-unfolding commitTime placeAt
-returns c = simp (c .larger2 .ensures, c .before .larger .ensures, c .before .before .clock-of .ensures)
+unfolding commitTime stateOf stateBy
+returns c = λ tail. simp (c .larger2 .ensures, c .before .larger .ensures, c .before .before .before .clock-at .ensures)
 
 pub time-for-spec : {M : Type 1} → statement M
 time-for-spec =
     tie.close
     (tie.spec
-    mul-p
-    element-copy-out-p
-    clock-of-requires
+    clock-at-requires
+    shared-slice-read-larger
     add-larger
     larger-requires
     larger-requires-2
