@@ -8,7 +8,7 @@ use native.Mathlib.Omega.{arith}
 use lib.ListN.{length, take, drop, length-take, length-drop, take-append-drop}
 use lib.Dec.{ltb}
 use borrow.Author.Tests.{ltb-true, lt-ltb, le-ltb}
-use Rattle.layout.proofs.Choose.{and-0, and-1}
+use Rattle.fields.proofs.Choose.{and-0, and-1}
 use Rattle.script.specs.Words.{hexDigit, allHex, bytesOf}
 use Rattle.script.specs.Reader.{wide}
 

@@ -11,7 +11,7 @@ use native.Mathlib.Nat.{pow-suc, pow-le-pow-right}
 use lib.ListN.{length}
 use lib.Dec.{eqb, ltb, leb}
 use borrow.Author.Tests.{ltb-true, ltb-false, leb-true, leb-false, eqb-true, lt-ltb, le-ltb, le-leb, lt-leb, ne-eqb}
-use Rattle.layout.proofs.Choose.{and-0, and-1, cond-when}
+use Rattle.fields.proofs.Choose.{and-0, and-1, cond-when}
 use Rattle.script.specs.declared.line.Line.{Line}
 use Rattle.script.specs.Words.{isIn, isDigit, allDigits, valueFrom, numberOf, hexDigit, allHex, bytesOf, hexBytes}
 use Rattle.script.specs.Form.{Word, wordOf}

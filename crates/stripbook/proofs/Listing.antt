@@ -2,11 +2,11 @@
 use mathlib.Core.Path.{_≡_, refl}
 use mathlib.Core.List.{List, [], _∷_}
 use Prim.Native.Nat.{ℕ}
-use Rattle.layout.specs.Field.{enc, dec}
-use Rattle.layout.specs.Part.{splice}
-use Rattle.layout.specs.Equal.{eqList, allZero}
-use Rattle.layout.specs.Cells.{flat}
-use Rattle.layout.specs.Block.{blk, put, logBlockAt, pageBlockAt, mediumLength, cacheLength, pageOf, slotIn, slotAt, endPlace, blockOfEnd}
+use Rattle.fields.specs.Field.{enc, dec}
+use Rattle.fields.specs.Part.{splice}
+use Rattle.fields.specs.Equal.{eqList, allZero}
+use Rattle.fields.specs.Cells.{flat}
+use Rattle.fields.specs.Block.{blk, put, logBlockAt, pageBlockAt, mediumLength, cacheLength, pageOf, slotIn, slotAt, endPlace, blockOfEnd}
 use Rattle.layout.specs.Slot.{codeOf, sharedField, slotBytes, slotState, cellOf, stamped, kindForm, slotForm}
 use Rattle.layout.specs.Page.{pageBytes, pageEnd, pageUsed, pageSlot, cellsFrom, pageCells, putCell, stampCell, slotFormAt, slotsForm, pageForm, putVersion, stampVersion, cacheSlot}
 use Rattle.layout.specs.Item.{itemBytes, headOf, valueOf, pairOf, numberItem, versionItem, commitItem, byTag, itemOf}
@@ -38,9 +38,10 @@ use Rattle.store.specs.Open.{openedState, refusedCache, openIf, openOf}
 use Rattle.script.specs.Words.{linesOf, wordsOf, isIn, isDigit, allDigits, valueFrom, numberOf, numbersOf}
 use Rattle.script.specs.Print.{decimalFrom, decimal}
 use Rattle.script.specs.Run.{printsFrom}
-use Rattle.stripbook.specs.Line.{writeIf as lineWriteIf, queryIf, callOf, lineOf}
-use Rattle.stripbook.specs.Room.{outcomeOf, resultOf, resultText, lineText, letterOf, printed}
-use Rattle.stripbook.specs.Whole.{stepBy, opened, start, printsOf}
+use Rattle.book.specs.Line.{writeIf as lineWriteIf, queryIf, callOf, lineOf}
+use Rattle.book.specs.Room.{outcomeOf, resultOf, resultText, lineText, letterOf, printed}
+use Rattle.book.specs.Steps.{stepBy}
+use Rattle.stripbook.specs.Whole.{opened, start, printsOf}
 
 -- 01: "Input `B 10`, `W 1 7 65`, `C 1 5`, `Q 7 10`, `X`, `Q 7 10`"
 unfoldable pub input : List ℕ

@@ -7,9 +7,10 @@ use Prim.Native.Nat.{ℕ}
 use Rattle.script.specs.Reader.{noLine}
 use Rattle.script.specs.Run.{stand, overReads, joinedReads}
 use Rattle.script.proofs.RunLaws.{whole-reads}
-use Rattle.stripbook.specs.Line.{lineOf}
-use Rattle.stripbook.specs.Whole.{stepBy, start, printsOf, does}
-use Rattle.stripbook.proofs.LineLaws.{line-call, no-letter}
+use Rattle.book.specs.Line.{lineOf}
+use Rattle.book.specs.Steps.{stepBy, does}
+use Rattle.stripbook.specs.Whole.{start, printsOf}
+use Rattle.book.proofs.LineLaws.{line-call, no-letter}
 
 pub prints : (ps : List (List ℕ)) → overReads does (stand noLine start true []) ps ≡ printsOf (joinedReads ps)
 unfolding printsOf stepBy

@@ -1,5 +1,1 @@
-pub mod Line
-pub mod Room
 pub mod Whole
-pub mod Play
-pub mod Show

@@ -1,0 +1,5 @@
+pub mod Line
+pub mod Room
+pub mod Steps
+pub mod Play
+pub mod Show
