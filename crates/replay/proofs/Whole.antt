@@ -18,10 +18,11 @@ use Rattle.script.proofs.Meaning.{line-meaning}
 use Rattle.script.proofs.RunLaws.{whole-reads}
 use Rattle.rooms.specs.Room.{Room, gone, shut, ready, planOf, plays}
 use Rattle.rooms.specs.Parts.{roomOf}
-use Rattle.replay.specs.Whole.{stepOf, says, does, printsOf}
+use Rattle.rooms.specs.Steps.{stepOf, says, does}
+use Rattle.replay.specs.Whole.{printsOf}
 
 -- the program begins without a medium
-pub room-first : (m c : List ℕ) (s : State) → roomOf (record { stage = 1; blocks = 0; pages = 0 }) m c s ≡ gone
+pub room-first : (m c : List ℕ) (s : State) → roomOf (record { stage = 1; blocks = 0; pages = 0; bytes = 0 }) m c s ≡ gone
 unfolding roomOf
 room-first m c s = refl
 

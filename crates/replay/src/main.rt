@@ -13,13 +13,16 @@ ghost use mathlib.Core.List.{[]};
 ghost use Prim.Native.Nat.{_≤_, _<_};
 ghost use lib.ListN.{length, take};
 ghost use Rattle.script.specs.Run.{stand, playOf, finished};
+ghost use Rattle.memory.specs.Memory.{stateOf};
 ghost use Rattle.rooms.specs.Parts.{roomOf};
-ghost use Rattle.replay.specs.Whole.{does};
+ghost use Rattle.rooms.specs.Steps.{does};
 
 // Plays bytes and writes out what they print; not all of them where they print much.
 fn play_out(
     run: Run,
     bytes: &[u8],
+    words: &mut [u64; 448],
+    tail: &mut [u8; 512],
     medium: &mut [u8],
     cache: &mut [u8],
     buffer: &mut [u8],
@@ -31,12 +34,21 @@ fn play_out(
     requires { ⌜ length (now out) ≡ 200000 ⌝ }
     requires { ⌜ 0 < length (now bytes) ⌝ }
     ensures { λ r. ⌜ (0 < r .next) × (r .next ≤ length (now (bytes .entry))) ⌝ }
-    ensures { λ r. ⌜ stand (r .line) (roomOf (r .standing) (now (medium .exit)) (now (cache .exit)) (r .state)) (r .on) (take (r .n) (now (out .exit))) ≡ playOf does (stand (run .line) (roomOf (run .standing) (now (medium .entry)) (now (cache .entry)) (run .state)) true []) (take (r .next) (now (bytes .entry))) ⌝ }
+    ensures { λ r. ⌜ stand (r .line) (roomOf (r .standing) (now (medium .exit)) (now (cache .exit)) (stateOf (now (words .exit)) (now (tail .exit)))) (r .on) (take (r .n) (now (out .exit))) ≡ playOf does (stand (run .line) (roomOf (run .standing) (now (medium .entry)) (now (cache .entry)) (stateOf (now (words .entry)) (now (tail .entry)))) true []) (take (r .next) (now (bytes .entry))) ⌝ }
 {
     let line = run.line;
     let standing = run.standing;
-    let state = run.state;
-    let next = play::play(line, standing, state, bytes, medium, cache, buffer, out);
+    let next = play::play(
+        line,
+        standing,
+        words,
+        tail,
+        bytes,
+        medium,
+        cache,
+        buffer,
+        out,
+    );
     let n = next.n;
     io::write_all(STDOUT_FILENO, &out[..n]);
     next
@@ -46,6 +58,8 @@ fn play_out(
 fn play_all(
     run: Run,
     bytes: &[u8],
+    words: &mut [u64; 448],
+    tail: &mut [u8; 512],
     medium: &mut [u8],
     cache: &mut [u8],
     buffer: &mut [u8],
@@ -62,7 +76,7 @@ fn play_all(
         if !r.on {
             return r;
         }
-        let next = play_out(r, &bytes[i..], medium, cache, buffer, out);
+        let next = play_out(r, &bytes[i..], words, tail, medium, cache, buffer, out);
         i += next.next;
         r = next;
     }
@@ -70,13 +84,21 @@ fn play_all(
 }
 
 // The end of the input, which ends a line that was begun.
-fn finish(run: Run, medium: &mut [u8], cache: &mut [u8], buffer: &mut [u8], out: &mut [u8]) -> Run
+fn finish(
+    run: Run,
+    words: &mut [u64; 448],
+    tail: &mut [u8; 512],
+    medium: &mut [u8],
+    cache: &mut [u8],
+    buffer: &mut [u8],
+    out: &mut [u8],
+) -> Run
     requires { ⌜ length (now medium) ≡ 50688 ⌝ }
     requires { ⌜ length (now cache) ≡ 32768 ⌝ }
     requires { ⌜ length (now buffer) ≡ 40000 ⌝ }
     requires { ⌜ length (now out) ≡ 200000 ⌝ }
     ensures { λ r. ⌜ r .on ≡ false ⌝ }
-    ensures { λ r. ⌜ take (r .n) (now (out .exit)) ≡ finished does (stand (run .line) (roomOf (run .standing) (now (medium .entry)) (now (cache .entry)) (run .state)) true []) ⌝ }
+    ensures { λ r. ⌜ take (r .n) (now (out .exit)) ≡ finished does (stand (run .line) (roomOf (run .standing) (now (medium .entry)) (now (cache .entry)) (stateOf (now (words .entry)) (now (tail .entry)))) true []) ⌝ }
 {
     let line = run.line;
     if line.letter == 0 {
@@ -85,7 +107,7 @@ fn finish(run: Run, medium: &mut [u8], cache: &mut [u8], buffer: &mut [u8], out:
         same.n = 0;
         return same;
     }
-    let mut last = play_out(run, b"\n", medium, cache, buffer, out);
+    let mut last = play_out(run, b"\n", words, tail, medium, cache, buffer, out);
     last.on = false;
     last
 }
@@ -93,6 +115,8 @@ fn finish(run: Run, medium: &mut [u8], cache: &mut [u8], buffer: &mut [u8], out:
 // Reads once and plays what came.
 fn read_some(
     run: Run,
+    words: &mut [u64; 448],
+    tail: &mut [u8; 512],
     medium: &mut [u8],
     cache: &mut [u8],
     buffer: &mut [u8],
@@ -106,14 +130,16 @@ fn read_some(
     let mut bytes = io::large_buffer();
     let got = libc::read(STDIN_FILENO, &mut bytes);
     if got <= 0 {
-        return finish(run, medium, cache, buffer, out);
+        return finish(run, words, tail, medium, cache, buffer, out);
     }
     let n = io::count(got, &bytes);
-    play_all(run, &bytes[..n], medium, cache, buffer, out)
+    play_all(run, &bytes[..n], words, tail, medium, cache, buffer, out)
 }
 
 // The buffers are as long as the largest sizes ask, 32 log blocks and 64 pages, and as the longest answer buffer.
 fn main() {
+    let mut words = [0u64; 448];
+    let mut tail = [0u8; 512];
     let mut medium = [0u8; 50688];
     let mut cache = [0u8; 32768];
     let mut buffer = [0u8; 40000];
@@ -122,12 +148,11 @@ fn main() {
         stage: 1,
         blocks: 0,
         pages: 0,
+        bytes: 0,
     };
-    let state = opening::survey::no_state();
     let mut run = Run {
         line: line::empty(),
         standing: standing,
-        state: state,
         on: true,
         n: 0,
         next: 0,
@@ -138,7 +163,15 @@ fn main() {
         if !run.on {
             return;
         }
-        let next = read_some(run, &mut medium, &mut cache, &mut buffer, &mut out);
+        let next = read_some(
+            run,
+            &mut words,
+            &mut tail,
+            &mut medium,
+            &mut cache,
+            &mut buffer,
+            &mut out,
+        );
         run = next;
         turns -= 1;
     }

@@ -1,5 +1,4 @@
-pub mod TextLaws
 pub mod RoomLaws
-pub mod TurnLaws
 pub mod PlanLaws
 pub mod LookLaws
+pub mod PlayLaws

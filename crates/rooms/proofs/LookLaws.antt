@@ -11,8 +11,8 @@ use lib.Dec.{eqb, leb}
 use borrow.Author.Tests.{leb-true}
 use types.Run.{OneOf, miss}
 use denote.Enum.Declared.{tagOf}
-use Rattle.layout.specs.Block.{zeros}
-use Rattle.layout.proofs.PartLaws.{lent-rest}
+use Rattle.fields.specs.Block.{zeros}
+use Rattle.fields.proofs.PartLaws.{lent-rest}
 use Rattle.store.specs.declared.Answer.{Answer}
 use Rattle.store.specs.declared.Answer.the-variants.{Refused, Done, Begun, Written, Committed, Opened, Missing, Erased, Present, Listed}
 use Rattle.store.specs.declared.Refusal.{Refusal}
@@ -27,7 +27,7 @@ use Rattle.script.specs.declared.call.Call.the-variants.{Format, Open, OpenSize
 use Rattle.script.proofs.call.Call.{the-type}
 use Rattle.script.proofs.Cases.{bool-case, no}
 use Rattle.rooms.specs.declared.parts.Standing.{Standing}
-use Rattle.rooms.specs.Text.{answerText, changesText, allAre, keptText, listText}
+use Rattle.answers.specs.Text.{answerText, changesText, allAre, keptText, listText}
 use Rattle.rooms.specs.Room.{Room, ready, Turn, planOf, outcomeOf, called, calling, mediumIn, cacheIn, stays}
 use Rattle.rooms.specs.Parts.{stageOf, mediumPart, cachePart, roomOf, Prints}
 use Rattle.rooms.proofs.RoomLaws.{stage-3, room-ready}
@@ -43,27 +43,6 @@ pub list-prints : (x z y m c b : List ℕ) (s : State) (a : Answer) (o : Outcome
     → record { answer = a; value = zeros 16; state = s; medium = m; cache = c; buffer = b } ≡ o → Prints x y (ready l d m c s) (called 76 l d o)
 unfolding called
 list-prints x z y m c b s a o l d e g f = (simp (← f) (g ∙ ap (λ (w : List ℕ). w ++ listText a b) e ∙ append-assoc x (answerText 76 a (zeros 16)) (listText a b)), simp (← f))
-
--- the lines, and then the rest of the buffer
-pub list-put : (x z y b : List ℕ) (k : ℕ) (flag : Bool) → z ≡ x ++ changesText k b → flag ≡ allAre 170 (take (length b - 32 * k) (drop (32 * k) b)) → y ≡ z ++ keptText flag
-    → y ≡ x ++ listText (Listed k) b
-unfolding listText
-list-put x z y b k flag e f g =
-    g ∙ ap (λ (w : List ℕ). w ++ keptText flag) e ∙ append-assoc x (changesText k b) (keptText flag)
-    ∙ ap (λ (w : Bool). x ++ (changesText k b ++ keptText w)) (f ∙ ap (allAre 170) (lent-rest b (32 * k)))
-
-pub list-none : (a : Answer) (b : List ℕ) → OneOf (0 ∷ 1 ∷ 2 ∷ 3 ∷ 4 ∷ 5 ∷ 6 ∷ 7 ∷ 8 ∷ []) (tagOf answer-type a) → listText a b ≡ []
-unfolding listText
-list-none (Refused r) b o = refl
-list-none Done b o = refl
-list-none (Begun n) b o = refl
-list-none (Written k) b o = refl
-list-none (Committed t) b o = refl
-list-none (Opened t) b o = refl
-list-none Missing b o = refl
-list-none Erased b o = refl
-list-none Present b o = refl
-list-none (Listed k) b o = absurd (miss (0 ∷ 1 ∷ 2 ∷ 3 ∷ 4 ∷ 5 ∷ 6 ∷ 7 ∷ 8 ∷ []) 9 tt o)
 
 -- question 14: a list that is answered lies within its buffer
 pub list-fits : (s : State) (m c b : List ℕ) (key t1 t2 k : ℕ) (a : Answer) → a ≡ changesOf s m c b key t1 t2 .answer → a ≡ Listed k → 32 * k ≤ length b

@@ -3,9 +3,10 @@
 use mathlib.Core.Path.{_≡_, refl, sym, ap, _∙_}
 use mathlib.Core.Bool.{Bool, true, false, cond}
 use mathlib.Core.List.{List, [], _∷_, _++_, append-nil}
-use Prim.Native.Nat.{ℕ, zero, suc, _+_, _-_, _*_, _≤_, _<_}
+use Prim.Native.Nat.{ℕ, zero, suc, _+_, _-_, _*_, _≤_, _<_, min}
 use native.Mathlib.Omega.{arith}
 use lib.ListN.{length, take, drop, set}
+use lib.Seq.{length-take-le, take-at}
 use lib.Dec.{eqb, ltb}
 use borrow.Author.Tests.{lt-ltb, le-ltb, ltb-true, ltb-false, eq-eqb, ne-eqb}
 use Rattle.store.specs.declared.State.{State}
@@ -78,10 +79,17 @@ module _ (t : Standing) (m c : List ℕ) (s : State) where
       stage-case t (λ h. absurd (omega arith)) (λ h g. ap pagesIn (room-shut h g)) (λ h. ap pagesIn (room-ready h))
 
 -- the medium's part does not depend on the stage where there is a medium
-pub medium-part : (t : Standing) → 2 ≤ t .stage → mediumPart t ≡ freshLength (t .blocks) (t .pages)
+pub medium-part : (t : Standing) → 2 ≤ t .stage → mediumPart t ≡ min (t .bytes) 50688
 unfolding mediumPart
 medium-part t h = simp (le-ltb _ _ h)
 
 pub no-medium : (t : Standing) → t .stage < 2 → mediumPart t ≡ 0
 unfolding mediumPart
 no-medium t h = simp (lt-ltb _ _ h)
+
+-- the first n elements, lent and laid back
+pub first-length : (l : List ℕ) (n : ℕ) → n ≤ length l → n ≡ length (take n l)
+first-length l n h = sym (length-take-le n l h)
+
+pub first-back : (l v : List ℕ) (n : ℕ) → n ≤ length l → length v ≡ length (take n l) → take n (v ++ drop n l) ≡ v
+first-back l v n h e = take-at v (drop n l) n (e ∙ length-take-le n l h)

@@ -1,3 +1,3 @@
-pub mod Text
 pub mod Room
 pub mod Parts
+pub mod Steps

@@ -1,27 +1,28 @@
 -- How the program keeps a room: the buffers that it lends are as long as any sizes ask, and medium and cache are their
 -- first bytes.
-use Prim.Native.Nat.{ℕ}
+use Prim.Native.Nat.{ℕ, min}
 use mathlib.Core.Path.{_≡_}
 use mathlib.Core.Bool.{cond}
 use mathlib.Core.List.{List, _++_}
 use lib.ListN.{take}
 use lib.Dec.{eqb, ltb}
-use Rattle.layout.specs.Block.{zeros}
+use Rattle.fields.specs.Block.{zeros}
 use Rattle.store.specs.declared.Answer.{Answer}
 use Rattle.store.specs.declared.State.{State}
 use Rattle.store.specs.Answer.{answerNumber}
 use Rattle.rooms.specs.declared.parts.Standing.{Standing}
-use Rattle.rooms.specs.Text.{answerText}
-use Rattle.rooms.specs.Room.{Room, gone, shut, ready, Turn, freshLength, rightLength}
+use Rattle.answers.specs.Text.{answerText}
+use Rattle.rooms.specs.Room.{Room, gone, shut, ready, Turn, rightLength}
 
 -- replay: "any other line but `F`", "the only calls are `O`, `o`, `X`, `F` (and `M`, `V`, `Z`)": the stage, 1 without a
 -- medium, 2 with one, 3 with one that is opened
 unfoldable pub stageOf : Standing → ℕ
 stageOf t = cond (ltb (t .stage) 2) 1 (cond (ltb (t .stage) 3) 2 3)
 
--- 01: "The medium is 512 × (3 + L + D) bytes": how many bytes of the buffer are the medium
+-- 01: "The medium is 512 × (3 + L + D) bytes": how many bytes of the buffer are the medium; a buffer of the longest medium
+-- has no more
 unfoldable pub mediumPart : Standing → ℕ
-mediumPart t = cond (ltb (t .stage) 2) 0 (freshLength (t .blocks) (t .pages))
+mediumPart t = cond (ltb (t .stage) 2) 0 (min (t .bytes) 50688)
 
 -- 01: "The cache is 512 × D bytes": how many bytes of the buffer are the cache
 unfoldable pub cachePart : Standing → ℕ
@@ -32,8 +33,8 @@ cachePart t = cond (ltb (t .stage) 3) 0 (rightLength (t .pages))
 unfoldable pub roomOf : Standing → List ℕ → List ℕ → State → Room
 roomOf t m c s =
     cond (ltb (t .stage) 2) gone
-    (cond (ltb (t .stage) 3) (shut (t .blocks) (t .pages) (take (freshLength (t .blocks) (t .pages)) m))
-    (ready (t .blocks) (t .pages) (take (freshLength (t .blocks) (t .pages)) m) (take (rightLength (t .pages)) c) s))
+    (cond (ltb (t .stage) 3) (shut (t .blocks) (t .pages) (take (min (t .bytes) 50688) m))
+    (ready (t .blocks) (t .pages) (take (min (t .bytes) 50688) m) (take (rightLength (t .pages)) c) s))
 
 -- replay, `F L D`: "after a refusal, there is no medium": the stage behind a formatting
 unfoldable pub stageAfter : Answer → ℕ

@@ -4,7 +4,7 @@ use mathlib.Core.Bool.{Bool, true, false, cond, _&&_}
 use mathlib.Core.List.{List, [], _∷_, _++_}
 use lib.ListN.{length, set, replicate}
 use lib.Dec.{eqb, leb, ltb}
-use Rattle.layout.specs.Block.{zeros, mediumLength, cacheLength}
+use Rattle.fields.specs.Block.{zeros, mediumLength, cacheLength}
 use Rattle.store.specs.declared.Answer.{Answer}
 use Rattle.store.specs.declared.Answer.the-variants.{Done}
 use Rattle.store.specs.declared.State.{State}
@@ -27,7 +27,7 @@ use Rattle.script.specs.declared.call.Call.{Call}
 use Rattle.script.specs.declared.call.Call.the-variants.{Format, Open, OpenSized, Cut, Begin, Write, Erase, Read, Commit, Abort, AsOf, Changes, StoreLog, StorePage, Checkpoint, Block, Page, Poke, Other}
 use Rattle.script.specs.declared.call.Asked.{Asked}
 use Rattle.rooms.specs.declared.plan.Plan.{Plan}
-use Rattle.rooms.specs.Text.{answerText, listText, shownText}
+use Rattle.answers.specs.Text.{answerText, listText, shownText}
 
 -- replay: "there is no medium", "After `F` or `X`, until an accepted `O`": no medium; a medium with its sizes L and D,
 -- shut; and opened, with a cache and a state

@@ -2,5 +2,3 @@
 pub mod look;
 pub mod parts;
 pub mod plan;
-pub mod text;
-pub mod turn;

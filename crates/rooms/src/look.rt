@@ -1,27 +1,24 @@
 // The lines that leave the room as it is.
 use crate::parts;
 use crate::parts::Standing;
-use crate::text;
+use answers::text;
 use script::call::Asked;
 use script::call::Call;
-use store::Answer;
-use store::State;
 ghost use mathlib.Core.Path.{_≡_};
 ghost use mathlib.Core.Bool.{true};
-ghost use mathlib.Core.List.{_++_};
-ghost use Prim.Native.Nat.{ℕ, _+_, _*_, _≤_};
+ghost use Prim.Native.Nat.{ℕ, _+_, _≤_};
 ghost use lib.ListN.{length, take, replicate};
-ghost use Rattle.store.specs.declared.Answer.the-variants.{Listed};
 ghost use Rattle.store.specs.CurrentRead.{currentOf};
 ghost use Rattle.store.specs.AsOf.{asOfOf};
 ghost use Rattle.store.specs.Changes.{changesOf};
-ghost use Rattle.rooms.specs.Text.{listText};
+ghost use Rattle.memory.specs.Memory.{stateOf};
 ghost use Rattle.rooms.specs.Room.{ready, planOf, called, turnOf};
 ghost use Rattle.rooms.specs.Parts.{stageOf, roomOf, Prints};
 
 // `R`.
 fn current(
-    s: State,
+    words: &[u64; 448],
+    tail: &[u8; 512],
     medium: &[u8],
     cache: &[u8],
     number: u64,
@@ -31,9 +28,9 @@ fn current(
 ) -> usize
     requires { ⌜ n + 56 ≤ length (now out) ⌝ }
     ensures { λ r. ⌜ r ≤ n + 56 ⌝ }
-    ensures { λ r. ⌜ ((l d : ℕ) → Prints (take n (now (out .entry))) (take r (now (out .exit))) (ready l d (now (medium .entry)) (now (cache .entry)) s) (called 82 l d (currentOf s (now (medium .entry)) (now (cache .entry)) number key))) ⌝ }
+    ensures { λ r. ⌜ ((l d : ℕ) → Prints (take n (now (out .entry))) (take r (now (out .exit))) (ready l d (now (medium .entry)) (now (cache .entry)) (stateOf (now (words .entry)) (now (tail .entry)))) (called 82 l d (currentOf (stateOf (now (words .entry)) (now (tail .entry))) (now (medium .entry)) (now (cache .entry)) number key))) ⌝ }
 {
-    let r = reads::current_read::current_read(s, medium, cache, number, key);
+    let r = reads::current_read::current_read(words, tail, medium, cache, number, key);
     let answer = r.answer;
     let value = r.value;
     text::put_answer(out, n, b'R', answer, value)
@@ -41,7 +38,8 @@ fn current(
 
 // `Q`.
 fn as_of(
-    s: State,
+    words: &[u64; 448],
+    tail: &[u8; 512],
     medium: &[u8],
     cache: &[u8],
     key: u8,
@@ -51,37 +49,18 @@ fn as_of(
 ) -> usize
     requires { ⌜ n + 56 ≤ length (now out) ⌝ }
     ensures { λ r. ⌜ r ≤ n + 56 ⌝ }
-    ensures { λ r. ⌜ ((l d : ℕ) → Prints (take n (now (out .entry))) (take r (now (out .exit))) (ready l d (now (medium .entry)) (now (cache .entry)) s) (called 81 l d (asOfOf s (now (medium .entry)) (now (cache .entry)) key time))) ⌝ }
+    ensures { λ r. ⌜ ((l d : ℕ) → Prints (take n (now (out .entry))) (take r (now (out .exit))) (ready l d (now (medium .entry)) (now (cache .entry)) (stateOf (now (words .entry)) (now (tail .entry)))) (called 81 l d (asOfOf (stateOf (now (words .entry)) (now (tail .entry))) (now (medium .entry)) (now (cache .entry)) key time))) ⌝ }
 {
-    let r = reads::as_of::as_of(s, medium, cache, key, time);
+    let r = reads::as_of::as_of(words, tail, medium, cache, key, time);
     let answer = r.answer;
     let value = r.value;
     text::put_answer(out, n, b'Q', answer, value)
 }
 
-// What stands behind the line of a list's answer.
-fn put_list(out: &mut [u8], n: usize, answer: Answer, buffer: &[u8]) -> usize
-    requires { ⌜ length (now buffer) ≤ 40000 ⌝ }
-    requires { ⌜ n + 93759 ≤ length (now out) ⌝ }
-    requires { ⌜ ((k : ℕ) → answer ≡ Listed k → 32 * k ≤ length (now buffer)) ⌝ }
-    ensures { λ r. ⌜ r ≤ n + 93759 ⌝ }
-    ensures { λ r. ⌜ take r (now (out .exit)) ≡ take n (now (out .entry)) ++ listText answer (now (buffer .entry)) ⌝ }
-{
-    match answer {
-        Answer::Listed(count) => {
-            let k = count as usize;
-            let a = text::put_changes(out, n, k, buffer);
-            let at = 32 * k;
-            let kept = text::all_are(&buffer[at..], 170);
-            text::put_kept(out, a, kept)
-        }
-        _ => n,
-    }
-}
-
 // `L`, into an answer buffer.
 fn list(
-    s: State,
+    words: &[u64; 448],
+    tail: &[u8; 512],
     medium: &[u8],
     cache: &[u8],
     key: u8,
@@ -94,19 +73,20 @@ fn list(
     requires { ⌜ length (now buffer) ≤ 40000 ⌝ }
     requires { ⌜ n + 94000 ≤ length (now out) ⌝ }
     ensures { λ r. ⌜ r ≤ n + 94000 ⌝ }
-    ensures { λ r. ⌜ ((l d : ℕ) → Prints (take n (now (out .entry))) (take r (now (out .exit))) (ready l d (now (medium .entry)) (now (cache .entry)) s) (called 76 l d (changesOf s (now (medium .entry)) (now (cache .entry)) (replicate (length (now (buffer .entry))) 170) key t1 t2))) ⌝ }
+    ensures { λ r. ⌜ ((l d : ℕ) → Prints (take n (now (out .entry))) (take r (now (out .exit))) (ready l d (now (medium .entry)) (now (cache .entry)) (stateOf (now (words .entry)) (now (tail .entry)))) (called 76 l d (changesOf (stateOf (now (words .entry)) (now (tail .entry))) (now (medium .entry)) (now (cache .entry)) (replicate (length (now (buffer .entry))) 170) key t1 t2))) ⌝ }
 {
     parts::fill(buffer, 170);
-    let answer = reads::changes::changes(s, medium, cache, key, t1, t2, buffer);
+    let answer = reads::changes::changes(words, tail, medium, cache, key, t1, t2, buffer);
     let a = text::put_answer(out, n, b'L', answer, [0u8; 16]);
-    put_list(out, a, answer, buffer)
+    text::put_list(out, a, answer, buffer)
 }
 
 // Plays a line that looks: puts what it prints behind the first n bytes of the output.
 pub fn look(
     asked: Asked,
     t: Standing,
-    s: State,
+    words: &[u64; 448],
+    tail: &[u8; 512],
     medium: &[u8],
     cache: &[u8],
     buffer: &mut [u8],
@@ -120,18 +100,28 @@ pub fn look(
     requires { ⌜ planOf (asked .call) .looks ≡ true ⌝ }
     requires { ⌜ planOf (asked .call) .stage ≤ stageOf t ⌝ }
     ensures { λ r. ⌜ r ≤ n + 94000 ⌝ }
-    ensures { λ r. ⌜ Prints (take n (now (out .entry))) (take r (now (out .exit))) (roomOf t (now (medium .entry)) (now (cache .entry)) s) (turnOf asked (roomOf t (now (medium .entry)) (now (cache .entry)) s)) ⌝ }
+    ensures { λ r. ⌜ Prints (take n (now (out .entry))) (take r (now (out .exit))) (roomOf t (now (medium .entry)) (now (cache .entry)) (stateOf (now (words .entry)) (now (tail .entry)))) (turnOf asked (roomOf t (now (medium .entry)) (now (cache .entry)) (stateOf (now (words .entry)) (now (tail .entry))))) ⌝ }
 {
     let m = parts::medium_part(t);
     let c = parts::cache_part(t);
     let call = asked.call;
     match call {
-        Call::Read(number, key) => current(s, &medium[..m], &cache[..c], number, key, out, n),
-        Call::AsOf(key, time) => as_of(s, &medium[..m], &cache[..c], key, time, out, n),
+        Call::Read(number, key) => current(
+            words,
+            tail,
+            &medium[..m],
+            &cache[..c],
+            number,
+            key,
+            out,
+            n,
+        ),
+        Call::AsOf(key, time) => as_of(words, tail, &medium[..m], &cache[..c], key, time, out, n),
         Call::Changes(key, t1, t2, bytes) => {
             let k = bytes as usize;
             list(
-                s,
+                words,
+                tail,
                 &medium[..m],
                 &cache[..c],
                 key,

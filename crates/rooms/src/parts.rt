@@ -5,11 +5,13 @@ ghost use lib.ListN.{length, replicate};
 ghost use Rattle.rooms.specs.Room.{freshLength, rightLength};
 ghost use Rattle.rooms.specs.Parts.{stageOf, mediumPart, cachePart};
 
-// The stage is 1 without a medium, 2 with one, 3 with one that is opened; the sizes are those of its formatting.
+// The stage is 1 without a medium, 2 with one, 3 with one that is opened; the sizes L and D with which it is opened, and how
+// many bytes it has.
 pub struct Standing {
     pub stage: u8,
     pub blocks: u64,
     pub pages: u64,
+    pub bytes: usize,
 }
 
 // The stage that the room has reached.
@@ -30,7 +32,7 @@ pub fn fresh_length(blocks: u64, pages: u64) -> usize
     ensures { λ r. ⌜ r ≡ freshLength blocks pages ⌝ }
     ensures { λ r. ⌜ r ≤ 50688 ⌝ }
 {
-    if live::in_range(blocks, pages) {
+    if memory::fit::in_range(blocks, pages) {
         return layout::place::medium_length(blocks, pages);
     }
     0
@@ -55,7 +57,10 @@ pub fn medium_part(t: Standing) -> usize
     if t.stage < 2 {
         return 0;
     }
-    fresh_length(t.blocks, t.pages)
+    if 50688 < t.bytes {
+        return 50688;
+    }
+    t.bytes
 }
 
 // How many bytes of the buffer are the cache.

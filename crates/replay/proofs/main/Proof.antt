@@ -5,15 +5,16 @@ use lib.ListN.{length, length-replicate}
 use borrow.Author.Needs.{needs}
 use Rattle.replay.proofs.main.Statement.{statement}
 use Rattle.replay.proofs.main.Tie as tie
+use Rattle.replay.proofs.main.Reads as reads
+use Rattle.replay.proofs.main.Lts as lts
+use Rattle.replay.proofs.read_some.Reads as read-some-reads
+use Rattle.script.proofs.line.empty.Reads as empty-reads
 
 abbrev Inv-loop : tie.InvT-loop
-Inv-loop medium₀ cache₀ buffer₀ out₀ run₀ turns₀ medium cache buffer out run turns = (length medium ≡ 50688) × (length cache ≡ 32768) × (length buffer ≡ 40000) × (length out ≡ 200000)
+Inv-loop words₀ tail₀ medium₀ cache₀ buffer₀ out₀ run₀ turns₀ words tail medium cache buffer out run turns = (length medium ≡ 50688) × (length cache ≡ 32768) × (length buffer ≡ 40000) × (length out ≡ 200000)
 
 abbrev μ-loop : tie.MeasureT-loop
-μ-loop medium₀ cache₀ buffer₀ out₀ run₀ turns₀ medium cache buffer out run turns = turns
-
-no-state-requires : tie.Need-no-state-requires Inv-loop μ-loop
-no-state-requires c κs = search needs
+μ-loop words₀ tail₀ medium₀ cache₀ buffer₀ out₀ run₀ turns₀ words tail medium cache buffer out run turns = turns
 
 empty-requires : tie.Need-empty-requires Inv-loop μ-loop
 empty-requires c κs = search needs
@@ -52,4 +53,20 @@ returns-2 : tie.Need-returns-2 Inv-loop μ-loop
 returns-2 c = search needs
 
 pub main-spec : {M : Type 1} → statement M
-main-spec = tie.close (tie.spec Inv-loop μ-loop no-state-requires empty-requires loop-holds returns slice-aggregate-read-some slice-aggregate-read-some-2 slice-aggregate-read-some-3 slice-aggregate-read-some-4 read-some-requires sub-turns loop-less loop-again returns-2)
+main-spec =
+    tie.close
+    (tie.spec
+    Inv-loop
+    μ-loop
+    empty-requires
+    loop-holds
+    returns
+    slice-aggregate-read-some
+    slice-aggregate-read-some-2
+    slice-aggregate-read-some-3
+    slice-aggregate-read-some-4
+    read-some-requires
+    sub-turns
+    loop-less
+    loop-again
+    returns-2)

@@ -4,12 +4,21 @@ use native.Mathlib.Omega.{arith}
 use lib.ListN.{length, take, length-take}
 use Rattle.rooms.specs.Room.{planOf, outcomeOf, turnBy, turnOf}
 use Rattle.rooms.proofs.RoomLaws.{stage-most, medium-in, cache-in}
-use Rattle.rooms.proofs.TurnLaws.{first-length}
+use Rattle.rooms.proofs.RoomLaws.{first-length}
 use Rattle.rooms.proofs.PlanLaws.{plan-stage, within-fits}
 use Rattle.rooms.proofs.LookLaws.{look-call, look-list, look-rest}
+use Rattle.memory.specs.Memory.{stateOf}
 use borrow.Author.Needs.{needs}
 use Rattle.rooms.proofs.look.look.Statement.{statement}
 use Rattle.rooms.proofs.look.look.Tie as tie
+use Rattle.rooms.proofs.look.look.Reads as reads
+use Rattle.rooms.proofs.look.look.Lts as lts
+use Rattle.answers.proofs.text.put_shown.Reads as put-shown-reads
+use Rattle.rooms.proofs.look.as_of.Reads as as-of-reads
+use Rattle.rooms.proofs.look.current.Reads as current-reads
+use Rattle.rooms.proofs.look.list.Reads as list-reads
+use Rattle.rooms.proofs.parts.cache_part.Reads as cache-part-reads
+use Rattle.rooms.proofs.parts.medium_part.Reads as medium-part-reads
 
 medium-part-requires : tie.Need-medium-part-requires
 medium-part-requires c κs = search needs
@@ -84,14 +93,14 @@ same-length c = search needs
 
 returns : tie.Need-returns
 unfolding turnOf turnBy planOf outcomeOf
-returns c = (omega arith, simp (c .before .before .before .before .before .before .before .call .given .1) (look-call (c .before .before .before .before .before .before .before .before .before .before .before .before .before .before .before .args .t) (c .before .before .before .before .before .before .before .before .before .before .before .before .before .before .before .args .medium .now) (c .before .before .before .before .before .before .before .before .before .before .before .before .before .before .before .args .cache .now) (c .before .before .before .before .before .before .before .before .before .before .before .before .before .before .before .args .s) _ _ (take (c .before .before .before .before .before .before .before .before .before .before .before .before .before .before .before .args .n) (c .before .before .before .before .before .before .before .before .before .before .before .before .before .before .before .args .out .now)) _ _ _ (plan-stage _ _ _ _ refl (c .before .before .before .before .before .before .before .call .given .1) (c .before .before .before .before .before .before .before .before .before .before .before .before .before .before .before .pre .1 .1 .1 .1 .1)) (c .before .before .before .before .before .before .before .before .before .before .medium-part .ensures .0) (c .before .before .before .before .before .before .before .before .before .cache-part .ensures .0) (c .before .before .current .ensures .1 _ _)))
+returns c = (omega arith, simp (c .before .before .before .before .before .before .before .call .given .1) (look-call (c .before .before .before .before .before .before .before .before .before .before .before .before .before .before .before .args .t) (c .before .before .before .before .before .before .before .before .before .before .before .before .before .before .before .args .medium .now) (c .before .before .before .before .before .before .before .before .before .before .before .before .before .before .before .args .cache .now) ((stateOf (c .before .before .before .before .before .before .before .before .before .before .before .before .before .before .before .args .words .now) (c .before .before .before .before .before .before .before .before .before .before .before .before .before .before .before .args .tail .now))) _ _ (take (c .before .before .before .before .before .before .before .before .before .before .before .before .before .before .before .args .n) (c .before .before .before .before .before .before .before .before .before .before .before .before .before .before .before .args .out .now)) _ _ _ (plan-stage _ _ _ _ refl (c .before .before .before .before .before .before .before .call .given .1) (c .before .before .before .before .before .before .before .before .before .before .before .before .before .before .before .pre .1 .1 .1 .1 .1)) (c .before .before .before .before .before .before .before .before .before .before .medium-part .ensures .0) (c .before .before .before .before .before .before .before .before .before .cache-part .ensures .0) (c .before .before .current .ensures .1 _ _)))
 
 same-length-2 : tie.Need-same-length-2
 same-length-2 c = search needs
 
 returns-2 : tie.Need-returns-2
 unfolding turnOf turnBy planOf outcomeOf
-returns-2 c = (omega arith, simp (c .before .before .before .before .before .before .before .call2 .given .1) (look-call (c .before .before .before .before .before .before .before .before .before .before .before .before .before .before .before .args .t) (c .before .before .before .before .before .before .before .before .before .before .before .before .before .before .before .args .medium .now) (c .before .before .before .before .before .before .before .before .before .before .before .before .before .before .before .args .cache .now) (c .before .before .before .before .before .before .before .before .before .before .before .before .before .before .before .args .s) _ _ (take (c .before .before .before .before .before .before .before .before .before .before .before .before .before .before .before .args .n) (c .before .before .before .before .before .before .before .before .before .before .before .before .before .before .before .args .out .now)) _ _ _ (plan-stage _ _ _ _ refl (c .before .before .before .before .before .before .before .call2 .given .1) (c .before .before .before .before .before .before .before .before .before .before .before .before .before .before .before .pre .1 .1 .1 .1 .1)) (c .before .before .before .before .before .before .before .before .before .before .medium-part .ensures .0) (c .before .before .before .before .before .before .before .before .before .cache-part .ensures .0) (c .before .before .as-of .ensures .1 _ _)))
+returns-2 c = (omega arith, simp (c .before .before .before .before .before .before .before .call2 .given .1) (look-call (c .before .before .before .before .before .before .before .before .before .before .before .before .before .before .before .args .t) (c .before .before .before .before .before .before .before .before .before .before .before .before .before .before .before .args .medium .now) (c .before .before .before .before .before .before .before .before .before .before .before .before .before .before .before .args .cache .now) ((stateOf (c .before .before .before .before .before .before .before .before .before .before .before .before .before .before .before .args .words .now) (c .before .before .before .before .before .before .before .before .before .before .before .before .before .before .before .args .tail .now))) _ _ (take (c .before .before .before .before .before .before .before .before .before .before .before .before .before .before .before .args .n) (c .before .before .before .before .before .before .before .before .before .before .before .before .before .before .before .args .out .now)) _ _ _ (plan-stage _ _ _ _ refl (c .before .before .before .before .before .before .before .call2 .given .1) (c .before .before .before .before .before .before .before .before .before .before .before .before .before .before .before .pre .1 .1 .1 .1 .1)) (c .before .before .before .before .before .before .before .before .before .before .medium-part .ensures .0) (c .before .before .before .before .before .before .before .before .before .cache-part .ensures .0) (c .before .before .as-of .ensures .1 _ _)))
 
 same-length-3 : tie.Need-same-length-3
 same-length-3 c = search needs
@@ -101,7 +110,7 @@ same-length-4 c = search needs
 
 returns-3 : tie.Need-returns-3
 unfolding turnOf turnBy planOf outcomeOf
-returns-3 c = let f = within-fits _ 3 _ (plan-stage _ _ _ _ refl (c .before .before .before .before .before .before .before .before .before .before .call3 .given .1) (c .before .before .before .before .before .before .before .before .before .before .before .before .before .before .before .before .before .before .pre .1 .1 .1 .1 .1)) (stage-most (c .before .before .before .before .before .before .before .before .before .before .before .before .before .before .before .before .before .before .args .t)) in (c .before .before .before .before .list .ensures .0, simp (c .before .before .before .before .before .before .before .before .before .before .call3 .given .1) (look-call (c .before .before .before .before .before .before .before .before .before .before .before .before .before .before .before .before .before .before .args .t) (c .before .before .before .before .before .before .before .before .before .before .before .before .before .before .before .before .before .before .args .medium .now) (c .before .before .before .before .before .before .before .before .before .before .before .before .before .before .before .before .before .before .args .cache .now) (c .before .before .before .before .before .before .before .before .before .before .before .before .before .before .before .before .before .before .args .s) _ _ (take (c .before .before .before .before .before .before .before .before .before .before .before .before .before .before .before .before .before .before .args .n) (c .before .before .before .before .before .before .before .before .before .before .before .before .before .before .before .before .before .before .args .out .now)) _ _ _ (f .1) (c .before .before .before .before .before .before .before .before .before .before .before .before .before .medium-part .ensures .0) (c .before .before .before .before .before .before .before .before .before .before .before .before .cache-part .ensures .0) (look-list (c .before .before .before .before .before .before .before .before .before .before .before .before .before .before .before .before .before .before .args .buffer .now) (take (c .before .before .before .before .before .before .before .before .before .before .before .before .before .before .before .before .before .before .args .n) (c .before .before .before .before .before .before .before .before .before .before .before .before .before .before .before .before .before .before .args .out .now)) _ _ _ _ _ _ _ _ _ _ (c .before .before .before .before .before .before .before .before .before .before .before .before .before .before .before .before .before .before .pre .1 .1 .0) (f .0) (c .before .before .before .before .list .ensures .1 _ _))))
+returns-3 c = let f = within-fits _ 3 _ (plan-stage _ _ _ _ refl (c .before .before .before .before .before .before .before .before .before .before .call3 .given .1) (c .before .before .before .before .before .before .before .before .before .before .before .before .before .before .before .before .before .before .pre .1 .1 .1 .1 .1)) (stage-most (c .before .before .before .before .before .before .before .before .before .before .before .before .before .before .before .before .before .before .args .t)) in (c .before .before .before .before .list .ensures .0, simp (c .before .before .before .before .before .before .before .before .before .before .call3 .given .1) (look-call (c .before .before .before .before .before .before .before .before .before .before .before .before .before .before .before .before .before .before .args .t) (c .before .before .before .before .before .before .before .before .before .before .before .before .before .before .before .before .before .before .args .medium .now) (c .before .before .before .before .before .before .before .before .before .before .before .before .before .before .before .before .before .before .args .cache .now) ((stateOf (c .before .before .before .before .before .before .before .before .before .before .before .before .before .before .before .before .before .before .args .words .now) (c .before .before .before .before .before .before .before .before .before .before .before .before .before .before .before .before .before .before .args .tail .now))) _ _ (take (c .before .before .before .before .before .before .before .before .before .before .before .before .before .before .before .before .before .before .args .n) (c .before .before .before .before .before .before .before .before .before .before .before .before .before .before .before .before .before .before .args .out .now)) _ _ _ (f .1) (c .before .before .before .before .before .before .before .before .before .before .before .before .before .medium-part .ensures .0) (c .before .before .before .before .before .before .before .before .before .before .before .before .cache-part .ensures .0) (look-list (c .before .before .before .before .before .before .before .before .before .before .before .before .before .before .before .before .before .before .args .buffer .now) (take (c .before .before .before .before .before .before .before .before .before .before .before .before .before .before .before .before .before .before .args .n) (c .before .before .before .before .before .before .before .before .before .before .before .before .before .before .before .before .before .before .args .out .now)) _ _ _ _ _ _ _ _ _ _ (c .before .before .before .before .before .before .before .before .before .before .before .before .before .before .before .before .before .before .pre .1 .1 .0) (f .0) (c .before .before .before .before .list .ensures .1 _ _))))
 
 same-length-5 : tie.Need-same-length-5
 same-length-5 c = search needs
@@ -121,4 +130,40 @@ returns-6 : tie.Need-returns-6
 returns-6 c = absurd (look-rest (c .before .before .before .before .before .before .before .args .asked .call) (c .match .keys6) (c .before .before .before .before .before .before .before .pre .1 .1 .1 .1 .0))
 
 pub look-spec : {M : Type 1} → statement M
-look-spec = tie.close (tie.spec medium-part-requires cache-part-requires enum-known-call slice-aggregate-current slice-aggregate-current-2 current-requires enum-known-call-2 slice-aggregate-as-of slice-aggregate-as-of-2 as-of-requires enum-known-call-3 slice-aggregate-list slice-aggregate-list-2 slice-relend-prefix-list slice-aggregate-list-3 list-requires enum-known-call-4 slice-aggregate-put-shown put-shown-requires enum-known-call-5 slice-aggregate-put-shown-2 put-shown-requires-2 same-length returns same-length-2 returns-2 same-length-3 same-length-4 returns-3 same-length-5 returns-4 same-length-6 returns-5 returns-6)
+look-spec =
+    tie.close
+    (tie.spec
+    medium-part-requires
+    cache-part-requires
+    enum-known-call
+    slice-aggregate-current
+    slice-aggregate-current-2
+    current-requires
+    enum-known-call-2
+    slice-aggregate-as-of
+    slice-aggregate-as-of-2
+    as-of-requires
+    enum-known-call-3
+    slice-aggregate-list
+    slice-aggregate-list-2
+    slice-relend-prefix-list
+    slice-aggregate-list-3
+    list-requires
+    enum-known-call-4
+    slice-aggregate-put-shown
+    put-shown-requires
+    enum-known-call-5
+    slice-aggregate-put-shown-2
+    put-shown-requires-2
+    same-length
+    returns
+    same-length-2
+    returns-2
+    same-length-3
+    same-length-4
+    returns-3
+    same-length-5
+    returns-4
+    same-length-6
+    returns-5
+    returns-6)

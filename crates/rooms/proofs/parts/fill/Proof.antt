@@ -3,7 +3,7 @@ use mathlib.Core.Path.{_≡_, refl, sym, ap, _∙_}
 use Prim.Native.Nat.{ℕ, _+_, _-_, _*_, _≤_, _<_}
 use native.Mathlib.Omega.{arith}
 use lib.ListN.{length, take, length-set, replicate, length-replicate, getD-replicate}
-use Rattle.layout.proofs.PrefixLaws.{prefix-step, prefix-done}
+use Rattle.fields.proofs.PrefixLaws.{prefix-step, prefix-done}
 use borrow.Author.Needs.{needs}
 use Rattle.rooms.proofs.parts.fill.Statement.{statement}
 use Rattle.rooms.proofs.parts.fill.Tie as tie

@@ -1,13 +1,16 @@
 -- Sizes in range: the largest medium has 99 blocks.
-use mathlib.Core.Path.{_≡_, refl, sym, ap, _∙_}
+use mathlib.Core.Path.{_≡_, sym, _∙_}
 use native.Mathlib.Omega.{arith}
-use borrow.Author.Tests.{lt-ltb, le-ltb, le-leb, lt-leb, eq-eqb, ne-eqb, not-true, not-false}
-use Rattle.layout.specs.Block.{mediumLength}
+use Rattle.fields.specs.Block.{mediumLength}
 use Rattle.store.proofs.FitLaws.{range-of}
 use Rattle.rooms.specs.Room.{freshLength}
 use borrow.Author.Needs.{needs}
 use Rattle.rooms.proofs.parts.fresh_length.Statement.{statement}
 use Rattle.rooms.proofs.parts.fresh_length.Tie as tie
+use Rattle.rooms.proofs.parts.fresh_length.Reads as reads
+use Rattle.rooms.proofs.parts.fresh_length.Lts as lts
+use Rattle.layout.proofs.place.medium_length.Reads as medium-length-reads
+use Rattle.memory.proofs.fit.in_range.Reads as in-range-reads
 
 in-range-requires : tie.Need-in-range-requires
 in-range-requires c κs = search needs
@@ -17,7 +20,9 @@ medium-length-requires c κs = let r = range-of _ _ (sym (c .before .in-range .e
 
 returns : tie.Need-returns
 unfolding freshLength mediumLength
-returns c = let e = c .medium-length .ensures in let r = range-of _ _ (sym (c .before .before .in-range .ensures) ∙ c .before .if1 .taken) in (simp (← c .before .before .in-range .ensures, c .before .if1 .taken) e, omega arith)
+returns c = let e = c .medium-length .ensures in
+    let r = range-of _ _ (sym (c .before .before .in-range .ensures) ∙ c .before .if1 .taken) in
+    (simp (← c .before .before .in-range .ensures, c .before .if1 .taken) e, omega arith)
 
 returns-2 : tie.Need-returns-2
 unfolding freshLength

@@ -2,7 +2,7 @@
 use mathlib.Core.Path.{_≡_, refl, sym, ap, _∙_}
 use native.Mathlib.Omega.{arith}
 use borrow.Author.Tests.{lt-ltb, le-ltb, le-leb, lt-leb, eq-eqb, ne-eqb, not-true, not-false}
-use Rattle.layout.specs.Block.{cacheLength}
+use Rattle.fields.specs.Block.{cacheLength}
 use Rattle.rooms.specs.Room.{rightLength}
 use borrow.Author.Needs.{needs}
 use Rattle.rooms.proofs.parts.right_length.Statement.{statement}
