@@ -1,0 +1,5 @@
+pub mod AlikeLaws
+pub mod BlockLaws
+pub mod CallLaws
+pub mod LineLaws
+pub mod StepLaws
