@@ -4,10 +4,23 @@ oracle=oracle/target/release/oracle
 # Each may be given with arguments, as in REPLAY='other/program run'.
 read -ra stripbook <<<"${STRIPBOOK:-target/bin/stripbook}"
 read -ra replay <<<"${REPLAY:-target/bin/replay}"
+read -ra striproom <<<"${STRIPROOM:-target/bin/striproom}"
 
 work=$(mktemp -d)
 trap 'rm -rf "$work"' EXIT
 TIMEFORMAT='%U %S %R'
+
+# Builds the oracle for release, and installs what is missing from Debian's packages.
+prepare() {
+    local tool
+    for tool in cargo sqlite3; do
+        if ! command -v "$tool" >/dev/null 2>&1; then
+            apt-get update -qq >&2
+            apt-get install -y -qq "$tool" >&2
+        fi
+    done
+    (cd oracle && cargo build --release --offline --quiet)
+}
 
 # LOG IN OUT COMMAND...: runs the command; its processor time and elapsed time, in seconds, go behind the log.
 timed() {

@@ -104,10 +104,12 @@ impl History {
         let right = pages * BLOCK as u64;
         let bytes = match self.random.below(4) {
             0 => right + 1,
-            1 => right - 1,
+            1 => right.saturating_sub(1),
             2 => 0,
             _ => self.random.below(MAX_BUFFER + 1),
         };
+        // A new process may find damaged sizes, and no line asks for so much.
+        let bytes = bytes.min(MAX_BUFFER);
         Line::OpenSized {
             bytes: if bytes == right { 0 } else { bytes },
         }

@@ -52,6 +52,9 @@ pub fn sizes_in_range(log_blocks: u64, pages: u64) -> bool {
     (2..=MAX_LOG_BLOCKS as u64).contains(&log_blocks) && (1..=MAX_PAGES as u64).contains(&pages)
 }
 
+/// The longest medium's bytes.
+pub const MAX_MEDIUM: usize = BLOCK * (FIRST_LOG_BLOCK + MAX_LOG_BLOCKS + MAX_PAGES);
+
 pub fn medium_bytes(log_blocks: usize, pages: usize) -> usize {
     BLOCK * (FIRST_LOG_BLOCK + log_blocks + pages)
 }
@@ -81,6 +84,8 @@ pub fn end_place(sequence: u64, offset: usize) -> u64 {
 
 // Offsets of the master's contents, each behind its tag and length.
 const MASTER_FIELDS: [(u8, u16); 5] = [(1, 2), (2, 2), (3, 8), (4, 8), (5, 8)];
+pub const MASTER_LOG_BLOCKS: usize = 3;
+pub const MASTER_PAGES: usize = 8;
 pub const MASTER_OLDEST: usize = 13;
 pub const MASTER_NUMBER: usize = 24;
 pub const MASTER_TIME: usize = 35;

@@ -6,6 +6,7 @@ pub mod book;
 pub mod chain;
 pub mod checkpoint;
 pub mod damage;
+pub mod disk;
 pub mod edits;
 pub mod expect;
 pub mod format;

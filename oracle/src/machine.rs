@@ -126,6 +126,20 @@ impl<R: Rules> Default for Machine<R> {
 }
 
 impl<R: Rules> Machine<R> {
+    /// A machine on a medium that is there already, with the sizes that its master names.
+    pub fn loaded(medium: Vec<u8>) -> Self {
+        let named = |at| match medium.len() {
+            0..BLOCK => 0,
+            _ => get16(&medium, at).into(),
+        };
+        Machine {
+            log_blocks: named(MASTER_LOG_BLOCKS),
+            pages: named(MASTER_PAGES),
+            medium,
+            ..Machine::default()
+        }
+    }
+
     pub fn call(&mut self, line: &Line) -> Reply {
         match *line {
             Line::Format { log_blocks, pages } => self.format(log_blocks, pages),

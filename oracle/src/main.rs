@@ -1,7 +1,9 @@
 //! The oracle's commands.
 
-use oracle::bench::{growth, rooms, sql};
+use oracle::bench::commits::{self, Way};
+use oracle::bench::{filler, growth, rooms, sql, turns};
 use oracle::damage::{self, Tally};
+use oracle::disk::{command, program};
 use oracle::fuzz::{self, Reached};
 use oracle::judge::Strictness;
 use oracle::layout::{MAX_LOG_BLOCKS, MAX_PAGES, MAX_SLOTS};
@@ -10,6 +12,7 @@ use oracle::rules::Sound;
 use oracle::scripts::{self, Options};
 use oracle::{script, stripbook};
 use std::io::{Read, Write};
+use std::path::Path;
 use std::process::ExitCode;
 
 const USAGE: &str = "\
@@ -19,10 +22,15 @@ oracle expect [--stripbook]    the output that a script must print
 oracle script --seed S --calls N [--profile NAME] [--no-checkpoint] [--plain]
 oracle script --stripbook --seed S --calls N [--bad-end]
 oracle script --rooms --seed S --calls N
+oracle script --commits N      N rooms filled by commits that are each stored at once
 oracle script --growth LETTER --log L --pages D --chain C --calls N
 oracle sql [--told]            a script's history as SQL for the shell of SQLite
+oracle sql --update|--insert LEVEL    its commits, a transaction each, with this synchronous
+oracle turns FOLDER ROOMS PROGRAM..    commits on a disk, by striproom and SQLite in turns
 oracle fuzz --seeds A-B [--calls N] [--profile NAME]
 oracle damage --seeds A-B
+oracle striproom [--spoilt NAME] FILE [FD]    the stand-in for striproom
+oracle disk same|kill|faults|spoilt PROGRAM LAUNCHER    tests of striproom
 oracle profiles                lists the profiles, by the seeds that take them";
 
 struct Arguments(Vec<String>);
@@ -66,16 +74,20 @@ fn main() -> ExitCode {
     let mut words = std::env::args().skip(1);
     let command = words.next().unwrap_or_default();
     let arguments = Arguments(words.collect());
+    if command == "striproom" {
+        return ExitCode::from(program::run(&arguments.0));
+    }
     let done = match command.as_str() {
         "run" => run(script::run),
         "stripbook" => run(stripbook::run),
         "expect" if arguments.has("--stripbook") => run(stripbook::run),
         "expect" => run(script::run),
-        "sql" if arguments.has("--told") => run(sql::told),
-        "sql" => run(sql::asked),
+        "sql" => run_sql(&arguments),
+        "turns" => run_turns(&arguments.0),
         "script" => write_script(&arguments),
         "fuzz" => run_fuzz(&arguments),
         "damage" => run_damage(&arguments),
+        "disk" => command::run(&arguments.0).and_then(|text| print(format!("{text}\n").as_bytes())),
         "profiles" => list_profiles(),
         _ => Err(USAGE.into()),
     };
@@ -93,7 +105,7 @@ fn print(bytes: &[u8]) -> Result<(), String> {
     written.map_err(|error| error.to_string())
 }
 
-fn run(language: fn(&[u8], &mut Vec<u8>)) -> Result<(), String> {
+fn run(language: impl Fn(&[u8], &mut Vec<u8>)) -> Result<(), String> {
     let (mut text, mut out) = (Vec::new(), Vec::new());
     let read = std::io::stdin().read_to_end(&mut text);
     read.map_err(|error| error.to_string())?;
@@ -101,7 +113,34 @@ fn run(language: fn(&[u8], &mut Vec<u8>)) -> Result<(), String> {
     print(&out)
 }
 
+fn run_sql(arguments: &Arguments) -> Result<(), String> {
+    for (option, way) in [("--update", Way::Update), ("--insert", Way::Insert)] {
+        if let Some(level) = arguments.value(option) {
+            return run(|script, out| commits::sql(way, level, script, out));
+        }
+    }
+    run(match arguments.has("--told") {
+        true => sql::told,
+        false => sql::asked,
+    })
+}
+
+fn run_turns(words: &[String]) -> Result<(), String> {
+    let [folder, rooms, program @ ..] = words else {
+        return Err(USAGE.into());
+    };
+    let rooms = rooms.parse().map_err(|_| format!("{rooms} rooms?"))?;
+    if program.is_empty() {
+        return Err(USAGE.into());
+    }
+    print(turns::run(Path::new(folder), rooms, program)?.as_bytes())
+}
+
 fn write_script(arguments: &Arguments) -> Result<(), String> {
+    if arguments.has("--commits") {
+        let rooms = arguments.number("--commits", None)?;
+        return print(&commits::commits_script(rooms));
+    }
     let calls = arguments.number("--calls", None)?;
     if let Some(letter) = arguments.value("--growth") {
         return write_growth_script(arguments, letter, calls);
@@ -121,6 +160,7 @@ fn write_script(arguments: &Arguments) -> Result<(), String> {
         checkpoints: !arguments.has("--no-checkpoint"),
         shows: !arguments.has("--plain"),
         damage: arguments.value("--profile") == Some("damage"),
+        restarts: 0,
     }))
 }
 
@@ -132,7 +172,7 @@ fn write_growth_script(arguments: &Arguments, letter: &str, calls: u64) -> Resul
             .then_some(number)
             .ok_or(format!("{option}: {number}?"))
     };
-    let size = growth::Size {
+    let size = filler::Size {
         log_blocks: number("--log", 2..=MAX_LOG_BLOCKS)?,
         pages: number("--pages", 1..=MAX_PAGES)?,
         chain: number("--chain", 4..=MAX_SLOTS)?,

@@ -4,7 +4,7 @@ use crate::damage::damage;
 use crate::history::History;
 use crate::layout::*;
 use crate::machine::{Line, Machine, Reply};
-use crate::profiles::Profile;
+use crate::profiles::{by_seed, Profile};
 use crate::random::Random;
 use crate::rules::Sound;
 use crate::script::put_line;
@@ -12,6 +12,8 @@ use crate::stripbook;
 
 /// Damage of more bytes would drown the calls.
 const MOST_POKES: usize = 100;
+/// The line at which a new process takes over the file.
+pub const NEW_PROCESS: &[u8] = b"#";
 
 pub struct Options {
     pub seed: u64,
@@ -22,6 +24,23 @@ pub struct Options {
     pub shows: bool,
     /// Damages the medium now and then and opens it.
     pub damage: bool,
+    /// After so many lines in a hundred a new process goes on with what the medium holds.
+    pub restarts: u64,
+}
+
+impl Options {
+    /// Calls alone, of the profile that the seed stands for.
+    pub fn plain(seed: u64, calls: u64) -> Self {
+        Options {
+            seed,
+            calls,
+            profile: by_seed(seed),
+            checkpoints: true,
+            shows: false,
+            damage: false,
+            restarts: 0,
+        }
+    }
 }
 
 struct Writer {
@@ -61,7 +80,7 @@ impl Writer {
         for block in 0..(self.machine.medium.len() / BLOCK) as u64 {
             put_line(&mut self.out, &Line::ShowBlock { block });
         }
-        for page in 0..self.machine.pages {
+        for page in 0..self.machine.pages.min(MAX_PAGES as u64) {
             put_line(&mut self.out, &Line::ShowPage { page });
         }
     }
@@ -70,6 +89,10 @@ impl Writer {
     fn damage(&mut self) {
         let sound = self.machine.medium.clone();
         let sizes = (self.machine.log_blocks, self.machine.pages);
+        // A damaged master may have named other sizes to a new process.
+        if sound.len() != medium_bytes(sizes.0 as usize, sizes.1 as usize) {
+            return;
+        }
         let turn = self.random.below(1000) as usize;
         let damaged = damage(&sound, &sound, sizes, &mut self.random, turn);
         let differing = sound.iter().zip(&damaged).filter(|(old, new)| old != new);
@@ -85,6 +108,12 @@ impl Writer {
         }
     }
 
+    fn restart(&mut self) {
+        self.out.extend_from_slice(NEW_PROCESS);
+        self.out.push(b'\n');
+        self.machine = Machine::loaded(std::mem::take(&mut self.machine.medium));
+    }
+
     fn poke(&mut self, from: &[u8], to: &[u8]) {
         for (offset, (old, &byte)) in from.iter().zip(to).enumerate() {
             if *old != byte {
@@ -97,11 +126,16 @@ impl Writer {
 
 /// A script of so many calls.
 pub fn script(options: &Options) -> Vec<u8> {
+    script_from(Machine::default(), options)
+}
+
+/// A script that goes on with what a machine holds.
+pub fn script_from(machine: Machine<Sound>, options: &Options) -> Vec<u8> {
     let mut history = History::new(options.seed, options.profile);
     history.checkpoints = options.checkpoints;
     let mut writer = Writer {
         out: Vec::new(),
-        machine: Machine::default(),
+        machine,
         before: Vec::new(),
         random: Random::new(!options.seed),
     };
@@ -116,6 +150,9 @@ pub fn script(options: &Options) -> Vec<u8> {
         }
         if options.damage && writer.random.percent(8) {
             writer.damage();
+        }
+        if options.restarts > 0 && writer.random.percent(options.restarts) {
+            writer.restart();
         }
     }
     if options.shows {

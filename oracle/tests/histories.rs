@@ -1,6 +1,8 @@
 //! A fixed set of seeds: random histories against the book, damaged media, scripts.
 
-use oracle::bench::growth::{growth_script, Size};
+use oracle::bench::commits::{commits, commits_script};
+use oracle::bench::filler::Size;
+use oracle::bench::growth::growth_script;
 use oracle::bench::rooms::rooms_script;
 use oracle::damage::{self, Tally};
 use oracle::fuzz::{report, run_seed, Reached};
@@ -50,6 +52,7 @@ fn options(seed: u64) -> Options {
         checkpoints: true,
         shows: true,
         damage: false,
+        restarts: 0,
     }
 }
 
@@ -126,6 +129,18 @@ fn rooms_are_filled_and_no_call_is_refused() {
     let out = answers(&script);
     let mut lines = out.split(|&byte| byte == b'\n');
     assert!(lines.any(|line| line == b"W 0 957"));
+}
+
+#[test]
+fn each_commit_of_a_filled_room_is_followed_by_its_store() {
+    let script = commits_script(2);
+    assert!(all_accepted(&script));
+    let lines: Vec<&[u8]> = script.split(|&byte| byte == b'\n').collect();
+    let stored = lines.windows(2).filter(|pair| pair[0].starts_with(b"C"));
+    assert!(stored.clone().all(|pair| pair[1] == b"S"));
+    assert_eq!(stored.count(), 2 * 960);
+    let slots = commits(&script).into_iter().map(|commit| commit.slot);
+    assert!(slots.eq((0..960).chain(0..960)));
 }
 
 #[test]

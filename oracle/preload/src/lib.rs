@@ -1,0 +1,112 @@
+//! Preloaded (LD_PRELOAD) into a program under test. By environment variables it
+//!
+//! - notes each call in a file: `DISK_TRACE=PATH`, a line `name fd offset length` before the call;
+//! - ends the process by SIGKILL: `DISK_KILL='before pwrite 3'` or `'after fdatasync 1'`;
+//! - lets a call fail: `DISK_FAIL='pwrite 3 28'` (an errno) or `'pwrite 3 short 100'` (so many bytes).
+//!
+//! Names are open (for update, or making a file), pread, pwrite, ftruncate, fdatasync and write
+//! (to standard output). Each is counted from 1.
+
+mod plan;
+
+use plan::{around, note, real, Name};
+use std::ffi::{c_char, c_int, c_void};
+
+/// Access modes other than reading alone, and making a file.
+const UPDATES: c_int = 0o103;
+
+type Open = extern "C" fn(*const c_char, c_int, c_int) -> c_int;
+type Read = extern "C" fn(c_int, *mut c_void, usize, i64) -> isize;
+type Write = extern "C" fn(c_int, *const c_void, usize, i64) -> isize;
+type Plain = extern "C" fn(c_int, *const c_void, usize) -> isize;
+type Resize = extern "C" fn(c_int, i64) -> c_int;
+type Sync = extern "C" fn(c_int) -> c_int;
+
+fn opened(path: *const c_char, flags: c_int, mode: c_int) -> c_int {
+    // The address is that of the C library's function of this type.
+    let call: Open = unsafe { std::mem::transmute(real(c"open")) };
+    if flags & UPDATES == 0 {
+        return call(path, flags, mode);
+    }
+    around(Name::Open, [-1, 0, 0], |_| call(path, flags, mode) as isize) as c_int
+}
+
+fn read_at(fd: c_int, to: *mut c_void, count: usize, at: i64) -> isize {
+    let call: Read = unsafe { std::mem::transmute(real(c"pread")) };
+    around(Name::Pread, [fd.into(), at, count as i64], |short| {
+        call(fd, to, short.unwrap_or(count).min(count), at)
+    })
+}
+
+fn write_at(fd: c_int, from: *const c_void, count: usize, at: i64) -> isize {
+    let call: Write = unsafe { std::mem::transmute(real(c"pwrite")) };
+    around(Name::Pwrite, [fd.into(), at, count as i64], |short| {
+        call(fd, from, short.unwrap_or(count).min(count), at)
+    })
+}
+
+fn resize(fd: c_int, length: i64) -> c_int {
+    let call: Resize = unsafe { std::mem::transmute(real(c"ftruncate")) };
+    around(Name::Ftruncate, [fd.into(), 0, length], |_| {
+        call(fd, length) as isize
+    }) as c_int
+}
+
+#[no_mangle]
+pub extern "C" fn open(path: *const c_char, flags: c_int, mode: c_int) -> c_int {
+    opened(path, flags, mode)
+}
+
+#[no_mangle]
+pub extern "C" fn open64(path: *const c_char, flags: c_int, mode: c_int) -> c_int {
+    opened(path, flags, mode)
+}
+
+#[no_mangle]
+pub extern "C" fn pread(fd: c_int, to: *mut c_void, count: usize, at: i64) -> isize {
+    read_at(fd, to, count, at)
+}
+
+#[no_mangle]
+pub extern "C" fn pread64(fd: c_int, to: *mut c_void, count: usize, at: i64) -> isize {
+    read_at(fd, to, count, at)
+}
+
+#[no_mangle]
+pub extern "C" fn pwrite(fd: c_int, from: *const c_void, count: usize, at: i64) -> isize {
+    write_at(fd, from, count, at)
+}
+
+#[no_mangle]
+pub extern "C" fn pwrite64(fd: c_int, from: *const c_void, count: usize, at: i64) -> isize {
+    write_at(fd, from, count, at)
+}
+
+#[no_mangle]
+pub extern "C" fn ftruncate(fd: c_int, length: i64) -> c_int {
+    resize(fd, length)
+}
+
+#[no_mangle]
+pub extern "C" fn ftruncate64(fd: c_int, length: i64) -> c_int {
+    resize(fd, length)
+}
+
+#[no_mangle]
+pub extern "C" fn fdatasync(fd: c_int) -> c_int {
+    let call: Sync = unsafe { std::mem::transmute(real(c"fdatasync")) };
+    around(Name::Fdatasync, [fd.into(), 0, 0], |_| call(fd) as isize) as c_int
+}
+
+#[no_mangle]
+pub extern "C" fn write(fd: c_int, from: *const c_void, count: usize) -> isize {
+    let call: Plain = unsafe { std::mem::transmute(real(c"write")) };
+    let noted = [fd.into(), 0, count as i64];
+    if fd != 1 {
+        note(Name::Write, noted);
+        return call(fd, from, count);
+    }
+    around(Name::Write, noted, |short| {
+        call(fd, from, short.unwrap_or(count).min(count))
+    })
+}

@@ -1,0 +1,70 @@
+//! `oracle disk TEST PROGRAM LAUNCHER`: runs a test of `striproom` and prints what it counted.
+
+use crate::disk::process::{Folder, Setup};
+use crate::disk::{faults, kill, same, wrong};
+use std::path::{Path, PathBuf};
+use std::time::Duration;
+
+pub const USAGE: &str = "oracle disk same|kill|faults|spoilt PROGRAM LAUNCHER";
+
+/// Long enough for a busy machine.
+const PATIENCE: Duration = Duration::from_secs(30);
+
+pub fn run(words: &[String]) -> Result<String, String> {
+    let [test, program, launcher, only @ ..] = words else {
+        return Err(USAGE.into());
+    };
+    let setup = setup(Path::new(program), Path::new(launcher), PATIENCE)?;
+    match test.as_str() {
+        "same" => same::run(
+            &setup,
+            &same::Effort {
+                seeds: 42,
+                calls: 400,
+                damaged: 28,
+                odd: 60,
+            },
+        ),
+        "kill" => kill::run(
+            &setup,
+            &kill::Effort {
+                random: 300,
+                exact: 300,
+            },
+        ),
+        "faults" => faults::run(
+            &setup,
+            &faults::Effort {
+                damaged: 12,
+                ways: faults::ways(),
+            },
+        ),
+        "spoilt" => wrong::run(&setup.launcher, only.first().map(String::as_str)),
+        _ => Err(USAGE.into()),
+    }
+}
+
+pub fn setup(program: &Path, launcher: &Path, patience: Duration) -> Result<Setup, String> {
+    let whole = |path: &Path| {
+        let found = path.canonicalize();
+        found.map_err(|error| format!("{}: {error}", path.display()))
+    };
+    let own = std::env::current_exe().map_err(|error| error.to_string())?;
+    let shared = Path::new("/dev/shm");
+    let memory = match shared.is_dir() {
+        true => shared.to_path_buf(),
+        false => std::env::temp_dir(),
+    };
+    Ok(Setup {
+        program: whole(program)?,
+        launcher: whole(launcher)?,
+        preload: whole(&beside(&own, "libpreload.so"))?,
+        disk: Folder::new(&std::env::temp_dir())?,
+        memory: Folder::new(&memory)?,
+        patience,
+    })
+}
+
+fn beside(path: &Path, name: &str) -> PathBuf {
+    path.with_file_name(name)
+}

@@ -1,0 +1,18 @@
+//! `striproom`: a stand-in for the program, and its tests with real files and processes.
+
+pub mod command;
+pub mod faults;
+pub mod kill;
+pub mod launch;
+pub mod locks;
+pub mod process;
+pub mod program;
+pub mod room;
+pub mod same;
+pub mod session;
+pub mod spoilt;
+pub mod stores;
+pub mod trace;
+pub mod unfit;
+pub mod verdict;
+pub mod wrong;
