@@ -13,7 +13,7 @@ use Rattle.script.specs.declared.line.Line.{Line}
 use Rattle.script.specs.Words.{wordsOf, isIn, numberOf, joined, numbersOf}
 use Rattle.script.specs.Form.{wordOf, Form, other, bare, ending, behind, afterLetter, isLetter, byWords as formBy, limited, formOf}
 use Rattle.script.specs.Reader.{noLine, isNumber, grownBy, doneOf, lastWord}
-use Rattle.script.proofs.Cases.{bool-case, no}
+use Rattle.fields.proofs.Choose.{bool-case, no}
 use Rattle.script.proofs.Meaning.{after-case, line-form}
 use Rattle.script.proofs.ReaderLaws.{seen-bad, seen-none, seen-bare, seen-words}
 use Rattle.book.specs.declared.call.Call.the-variants.{Other}

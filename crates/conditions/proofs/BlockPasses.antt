@@ -147,9 +147,6 @@ pub record Same (d low : ℕ) (p : Parsed) (start : ℕ) (q : Parsed) : Type 0 w
 pub same-begin : (b : List ℕ) (d low : ℕ) → Same d low (leftOf b 10) low (parsed b)
 same-begin b d low = rw (left-all b) (record { ok = refl; after = refl })
 
-pub never : {A : Type 0} → false ≡ true → A
-never e = let z : _≡_ {A = ℕ} 0 1 = cc in absurd (omega arith)
-
 -- nothing is left, or no whole record
 pub same-end : {d low start : ℕ} {p q : Parsed} → Same d low p start q → p ≡ record { records = []; whole = true }
     → (true ≡ recordsOk d start (q .records) && q .whole) × (low ≡ lowAfterAll start (q .records))

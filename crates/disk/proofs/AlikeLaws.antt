@@ -5,7 +5,7 @@ use mathlib.Core.Bool.{Bool, true, false, not, cond}
 use mathlib.Core.List.{List, [], _∷_}
 use Prim.Native.Nat.{ℕ, zero, suc, _+_, _-_, _*_, _≤_, _<_, min}
 use native.Mathlib.Omega.{arith}
-use lib.ListN.{length, take, drop, set}
+use lib.ListN.{length, take, drop}
 use lib.Seq.{take-all, drop-length}
 use lib.Dec.{ltb}
 use borrow.Author.Tests.{lt-ltb, le-ltb, ltb-true, ltb-false}
@@ -13,7 +13,7 @@ use Rattle.fields.specs.Part.{part, splice}
 use Rattle.fields.specs.Equal.{eqList}
 use Rattle.fields.proofs.PartLaws.{length-splice, part-before, splice-self}
 use Rattle.fields.proofs.EqualLaws.{eq-true, eq-refl}
-use Rattle.script.proofs.Cases.{bool-case, no}
+use Rattle.fields.proofs.Choose.{bool-case, no}
 use Rattle.disk.specs.Block.{startOf, lengthOf}
 use Rattle.disk.specs.Stored.{stored, Whole}
 
@@ -45,15 +45,6 @@ alike-splice m k at v h j = record {
   before = part-before m at v 0 (512 * k) (omega arith);
   behind = drop-splice m at v (512 * k + 512) j;
 }
-
--- one byte
-pub set-splice : (l : List ℕ) (at b : ℕ) → set l at b ≡ splice l at (b ∷ [])
-unfolding splice
-set-splice [] zero b = refl
-set-splice [] (suc at) b = refl
-set-splice (x ∷ []) zero b = refl
-set-splice (x ∷ (y ∷ l)) zero b = refl
-set-splice (x ∷ l) (suc at) b = ap (λ (z : List ℕ). x ∷ z) (set-splice l at b)
 
 -- the bytes from s on, where no others differ
 laid : (m n : List ℕ) (s len e : ℕ) → e ≡ s + len → length n ≡ length m → take s n ≡ take s m → drop e n ≡ drop e m

@@ -13,7 +13,7 @@ use Rattle.store.specs.declared.Phase.the-variants.{Idle, FirstStored, SecondSt
 use Rattle.store.specs.declared.State.{State}
 use Rattle.store.specs.Answer.{Outcome}
 use Rattle.store.specs.State.{inRange, fits}
-use Rattle.script.proofs.Cases.{bool-case, no}
+use Rattle.fields.proofs.Choose.{bool-case, no}
 use Rattle.runs.specs.Event.{Call, write, erase, commit, store-log, store-page, checkpoint}
 use Rattle.runs.specs.Machine.{called}
 use Rattle.runs.proofs.Asks.{Way, refused, begins, writes, erases, looks, commits, ends, aborts, logs, pages, checks, way}

@@ -8,6 +8,7 @@ use native.Mathlib.Omega.{arith}
 use lib.ListN.{length, take, set, replicate}
 use lib.Dec.{eqb, ltb}
 use Rattle.fields.specs.Block.{zeros}
+use Rattle.fields.proofs.WriteLaws.{set-splice}
 use Rattle.store.specs.declared.State.{State}
 use Rattle.store.specs.Answer.{answerNumber}
 use Rattle.store.specs.Open.{openOf}
@@ -15,7 +16,7 @@ use Rattle.runs.specs.Event.{begin, write, erase, current-read, commit, abort, 
 use Rattle.runs.specs.Machine.{called}
 use Rattle.runs.proofs.OneBlock.{stores}
 use Rattle.runs.proofs.Refusals.{open-medium}
-use Rattle.script.proofs.Cases.{bool-case, no}
+use Rattle.fields.proofs.Choose.{bool-case, no}
 use Rattle.script.specs.declared.call.Asked.{Asked}
 use Rattle.script.specs.declared.call.Call.{Call}
 use Rattle.script.specs.declared.call.Call.the-variants.{Format, Open, OpenSized, Cut, Begin, Write, Erase, Read, Commit, Abort, AsOf, Changes, StoreLog, StorePage, Checkpoint, Block, Page, Poke, Other}
@@ -24,7 +25,7 @@ use Rattle.rooms.specs.Parts.{roomOf}
 use Rattle.rooms.specs.Room.{Room, gone, shut, ready, Turn, mediumIn, blocksIn, pagesIn, rightLength, opened, opening, cut, poked, outcomeOf, called as printed, calling, turnBy, turnOf}
 use Rattle.disk.specs.Block.{blockOf}
 use Rattle.disk.specs.Stored.{isFormat}
-use Rattle.disk.proofs.AlikeLaws.{Alike, alike-same, alike-is, alike-splice, set-splice}
+use Rattle.disk.proofs.AlikeLaws.{Alike, alike-same, alike-is, alike-splice}
 use Rattle.disk.proofs.CallLaws.{alike-put, alike-write, alike-erase, alike-commit, alike-log, alike-page, alike-checkpoint}
 
 -- an opening leaves the medium

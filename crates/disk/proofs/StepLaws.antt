@@ -12,7 +12,7 @@ use Rattle.fields.specs.Part.{part}
 use Rattle.fields.specs.Equal.{eqList}
 use Rattle.fields.proofs.PartLaws.{part-part}
 use Rattle.store.specs.declared.State.{State}
-use Rattle.script.proofs.Cases.{bool-case}
+use Rattle.fields.proofs.Choose.{bool-case}
 use Rattle.script.specs.declared.call.Asked.{Asked}
 use Rattle.rooms.specs.declared.parts.Standing.{Standing}
 use Rattle.rooms.specs.Room.{Room, Turn, mediumIn, turnOf}

@@ -9,7 +9,7 @@ use lib.ListN.{length, take, drop, getD, set, length-drop}
 use lib.Seq.{getD-drop, getD-take, drop-cons, drop-length, take-suc-set, append-snoc, take-all}
 use Rattle.fields.specs.Field.{enc, dec}
 use Rattle.fields.specs.Part.{part, splice}
-use Rattle.fields.proofs.PartLaws.{lent-back, lent-length, part-splice, part-after}
+use Rattle.fields.proofs.PartLaws.{length-part, lent-back, lent-length, part-splice, part-after}
 use mir.Val.{Fits}
 use mir.Syntax.{w8}
 
@@ -65,6 +65,10 @@ dec-lt (suc k) (b ∷ l) h le =
     let hb : Fits w8 b = h 0 in
     let ih : dec l < 256 ^ k = dec-lt k l (bytes-tail b l h) (omega arith) in
     rw pow-suc (omega arith)
+
+-- a field of bytes is below what its width holds
+pub dec-part-lt : (b : List ℕ) (at w : ℕ) → Bytes b → at + w ≤ length b → dec (part b at w) < 256 ^ w
+dec-part-lt b at w k h = dec-lt w (part b at w) (bytes-take w (drop at b) (bytes-drop at b k)) (rw (length-part b at w h) (omega arith))
 
 -- one byte more in front: a loop that reads from the top down
 pub dec-drop : (l : List ℕ) (i : ℕ) → i < length l → dec (drop i l) ≡ dec (drop (i + 1) l) * 256 + getD l i 0

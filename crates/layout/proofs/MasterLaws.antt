@@ -25,13 +25,13 @@ use Rattle.layout.specs.declared.master.Value.the-variants.{Of, Missing}
 use Rattle.layout.specs.declared.master.Found.the-variants.{Whole, Broken}
 use Rattle.fields.proofs.Choose.{cond-elim}
 use Rattle.fields.proofs.EqualLaws.{zero-true, zero-zeros}
-use Rattle.fields.proofs.FieldLaws.{Bytes, length-enc, bytes-enc, bytes-drop}
+use Rattle.fields.proofs.FieldLaws.{Bytes, length-enc, dec-part-lt, bytes-enc, bytes-drop}
 use Rattle.fields.proofs.PartLaws.{lent-rest}
 use Rattle.fields.proofs.CellLaws.{lay, splice-zeros, bytes-cons, bytes-append, bytes-zeros}
 use Rattle.fields.proofs.BlockLaws.{part-blk, blk-same, blk-other}
 use Rattle.fields.proofs.ReadLaws.{enc-part}
 use Rattle.layout.proofs.ItemLaws.{Holds, Told, told, widthOf, number-back, item-again}
-use Rattle.layout.proofs.RecordLaws.{length-itemBytes, dec-part-lt}
+use Rattle.layout.proofs.RecordLaws.{length-itemBytes}
 
 length-field : (tag w n : ℕ) → length (itemBytes tag (enc w n)) ≡ 3 + w
 length-field tag w n = length-itemBytes tag (enc w n) ∙ ap (λ (k : ℕ). 3 + k) (length-enc w n)

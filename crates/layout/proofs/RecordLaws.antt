@@ -19,7 +19,7 @@ use Rattle.layout.specs.declared.item.Pair.{Pair}
 use Rattle.layout.specs.declared.item.Area.the-variants.{Journal}
 use Rattle.layout.specs.declared.item.Item.the-variants.{Version, Commit}
 use Rattle.fields.proofs.PartLaws.{splice-is, length-part}
-use Rattle.fields.proofs.FieldLaws.{Bytes, length-enc, dec-lt, bytes-take, bytes-drop}
+use Rattle.fields.proofs.FieldLaws.{Bytes, length-enc, dec-part-lt, bytes-take, bytes-drop}
 use Rattle.fields.proofs.ReadLaws.{part-mid, dec-mid, part-join, part-cons, enc-part}
 use Rattle.layout.proofs.ItemLaws.{item-bytes}
 use Rattle.fields.proofs.WriteLaws.{set-splice, splice-then, set-then, splice-whole}
@@ -208,9 +208,6 @@ unfolding pairBytes pairOf
 commit-again b k h = rw (enc-part b 0 8 (omega arith) k, enc-part b 8 8 (omega arith) k) (part-join b 0 8 8)
 
 -- and what is read from bytes lies within its bytes
-pub dec-part-lt : (b : List ℕ) (at w : ℕ) → Bytes b → at + w ≤ length b → dec (part b at w) < 256 ^ w
-dec-part-lt b at w k h = dec-lt w (part b at w) (bytes-take w (drop at b) (bytes-drop at b k)) (rw (length-part b at w h) (omega arith))
-
 pub version-sized : (b : List ℕ) → Bytes b → 30 ≤ length b → VersionSized (headOf b) (valueOf b)
 unfolding headOf valueOf
 version-sized b k h = record {

@@ -17,7 +17,7 @@ use Rattle.layout.specs.declared.slot.Slot.{Slot}
 use Rattle.layout.specs.declared.slot.Slot.the-variants.{Empty, Waiting, Stamped}
 use Rattle.fields.proofs.Choose.{cond-elim, and-0, and-1}
 use Rattle.fields.proofs.PartLaws.{length-splice, length-part, part-before, part-after}
-use Rattle.fields.proofs.FieldLaws.{Bytes, length-enc, dec-enc, dec-lt, bytes-take, bytes-drop, bytes-enc, read-back}
+use Rattle.fields.proofs.FieldLaws.{Bytes, length-enc, dec-enc, dec-part-lt, bytes-take, bytes-drop, bytes-enc, read-back}
 use Rattle.fields.proofs.EqualLaws.{zero-true}
 use Rattle.fields.proofs.WriteLaws.{splice-none, set-splice, splice-whole}
 use Rattle.fields.proofs.ReadLaws.{part-join, part-cons, enc-part}
@@ -165,9 +165,6 @@ slot-again s n b f =
     (part-cons s 0 31 (omega arith) ∙ take-all 32 s (omega arith))
 
 -- what bytes say lies within its bytes
-field-lt : (s : List ℕ) (at w : ℕ) → Bytes s → at + w ≤ length s → dec (part s at w) < 256 ^ w
-field-lt s at w b h = dec-lt w (part s at w) (bytes-take w (drop at s) (bytes-drop at s b)) (rw (length-part s at w h) (omega arith))
-
 shared-lt : (n m : ℕ) → m < 2 ^ 64 → sharedField (stateOf n m) < 2 ^ 64
 unfolding sharedField
 shared-lt n m h = cond-elim (λ (st : Slot). sharedField st < 2 ^ 64) (eqb n 1) (λ e. h) (λ e. cond-elim (λ (st : Slot). sharedField st < 2 ^ 64) (eqb n 2) (λ e. h) (λ e. omega arith))
@@ -175,10 +172,10 @@ shared-lt n m h = cond-elim (λ (st : Slot). sharedField st < 2 ^ 64) (eqb n 1) 
 pub cell-sized : (s : List ℕ) → length s ≡ 32 → Bytes s → SlotSized (cellOf s)
 unfolding cellOf slotState
 cell-sized s n b = record {
-  shared = shared-lt (getD s 0 0) (dec (part s 8 8)) (field-lt s 8 8 b (omega arith));
+  shared = shared-lt (getD s 0 0) (dec (part s 8 8)) (dec-part-lt s 8 8 b (omega arith));
   key = b 1 .fits;
   kind = b 2 .fits;
-  earlier = field-lt s 4 2 b (omega arith);
+  earlier = dec-part-lt s 4 2 b (omega arith);
   size = length-part s 16 16 (omega arith);
   bytes = bytes-take 16 (drop 16 s) (bytes-drop 16 s b);
 }

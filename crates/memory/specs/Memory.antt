@@ -83,3 +83,20 @@ withFirst s first = record {
   first = first;
   phase = s .phase;
 }
+
+-- the state with other places
+unfoldable pub withPlaces : State → List Place → State
+withPlaces s ps = record {
+  blocks = s .blocks;
+  pages = s .pages;
+  slots = s .slots;
+  next = s .next;
+  last = s .last;
+  saved = s .saved;
+  end = s .end;
+  tail = s .tail;
+  places = ps;
+  ring = s .ring;
+  first = s .first;
+  phase = s .phase;
+}

@@ -22,7 +22,7 @@ use Rattle.fields.proofs.Choose.{cond-elim}
 use Rattle.store.specs.declared.Place.{Place}
 use Rattle.store.specs.declared.State.{State}
 use Rattle.store.specs.State.{withPlace}
-use Rattle.memory.specs.Memory.{listed, placesOf, stateBy, stateOf}
+use Rattle.memory.specs.Memory.{listed, placesOf, stateBy, stateOf, withPlaces}
 use Rattle.memory.proofs.ColumnLaws.{length-listed, getD-listed, length-places}
 use Rattle.live.proofs.SetLaws.{state-count}
 use Rattle.store.specs.declared.Life.the-variants.{Committed}
@@ -36,7 +36,7 @@ use Rattle.conditions.specs.declared.log.Match.{Match}
 use Rattle.conditions.specs.declared.log.Match.the-variants.{Found, Absent}
 use Rattle.conditions.specs.Lookup.{commitsOf, commitAmong, matchOf, Extent}
 use Rattle.opening.specs.Waits.{Above, Rising, waitingUnder, Gathered}
-use Rattle.opening.specs.Placing.{withPlaces, placeOf, tablePlace, freeUnless, takeOne, takeAll}
+use Rattle.opening.specs.Placing.{placeOf, tablePlace, freeUnless, takeOne, takeAll}
 use Rattle.conditions.proofs.TableLaws.{match-some, match-none}
 use Rattle.store.proofs.SearchLaws.{first-found, first-nothing}
 use Rattle.conditions.proofs.GatherLaws.{among-commits}

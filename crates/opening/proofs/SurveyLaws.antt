@@ -19,10 +19,9 @@ use Rattle.layout.specs.declared.master.Fields.{Fields}
 use Rattle.layout.specs.declared.master.Found.{Found}
 use Rattle.layout.specs.declared.master.Found.the-variants.{Whole, Broken}
 use Rattle.fields.proofs.Choose.{cond-elim, and-0, and-1}
-use Rattle.fields.proofs.FieldLaws.{Bytes, bytes-take, bytes-drop}
+use Rattle.fields.proofs.FieldLaws.{Bytes, dec-part-lt, bytes-take, bytes-drop}
 use Rattle.fields.proofs.PartLaws.{lent-part}
 use Rattle.fields.proofs.BlockLaws.{part-blk, length-blk}
-use Rattle.layout.proofs.RecordLaws.{dec-part-lt}
 use Rattle.layout.proofs.MasterLaws.{MasterParts, master-parts, oldestOn-is}
 use Rattle.layout.proofs.JournalLaws.{sequence-emptyBlock, used-emptyBlock}
 use Rattle.store.specs.OpenLog.{nextOn, blockOf, matching, readCount, readTail, logEnd}

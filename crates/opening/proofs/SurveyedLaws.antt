@@ -10,7 +10,7 @@ use lib.Dec.{leb}
 use Rattle.fields.specs.Field.{dec}
 use Rattle.fields.specs.Part.{part}
 use Rattle.layout.specs.Master.{oldestOn}
-use Rattle.fields.proofs.Choose.{and-0, and-1}
+use Rattle.fields.proofs.Choose.{and-0, and-1, no}
 use Rattle.store.specs.declared.State.{State}
 use Rattle.store.specs.Places.{freePlace}
 use Rattle.store.specs.OpenLog.{nextOn, timeOn, aboveAll, latest, readCount, readLog, readTail, nextNumber, lastTime}
@@ -18,17 +18,16 @@ use Rattle.store.specs.OpenRedo.{Redone, pagesOn, untouched, redo, usedIn}
 use Rattle.store.specs.OpenPairs.{waitingNumbers, isPaired, openPlaces}
 use Rattle.store.specs.Open.{openedState}
 use Rattle.store.specs.OpenConditions.{fullBefore, copied, redone, wellFormed}
-use Rattle.memory.specs.Memory.{lifeBy, placeIn, listed, placesOf, firstOf, phaseBy, stateBy, stateOf, blank, withFirst}
+use Rattle.memory.specs.Memory.{lifeBy, placeIn, listed, placesOf, firstOf, phaseBy, stateBy, stateOf, blank, withFirst, withPlaces}
 use Rattle.conditions.specs.declared.cursor.Cursor.{Cursor}
 use Rattle.conditions.specs.Cursor.{Valid, restOf}
 use Rattle.conditions.specs.Lookup.{commitsOf, Extent, Known, slotsBelow}
 use Rattle.conditions.specs.Passes.{allOf, pageOk, redoOk, logOk, placeOk, masterOk, blocksOk, slotOk, tableAndSlots, cacheOk, mediumOk, passes}
-use Rattle.conditions.proofs.BlockPasses.{never, blocks-slots}
+use Rattle.conditions.proofs.BlockPasses.{blocks-slots}
 use Rattle.conditions.proofs.CursorLaws.{rest-block, matching-low}
 use Rattle.conditions.proofs.FormedLaws.{formed}
 use Rattle.opening.specs.declared.survey.LogFound.{LogFound}
 use Rattle.opening.specs.declared.survey.LogFound.the-variants.{Good, Bad}
-use Rattle.opening.specs.Placing.{withPlaces}
 use Rattle.opening.specs.Surveyed.{withNumbers, ReadGood, Applied, ReadAs}
 use Rattle.opening.proofs.RedoLaws.{Noted}
 use Rattle.opening.proofs.SurveyLaws.{oldest-low}
@@ -62,7 +61,7 @@ module _ (m : List ℕ) (l d : ℕ) (c : List ℕ) (next last : ℕ) (next-is : 
 -- ---- a medium that is not well formed: `ok` is the survey's answer
 
 pub refused : {A : Type 0} (ok w : Bool) → ok ≡ false → w ≡ false → (ok ≡ w) × (ok ≡ true → A)
-refused ok w e f = (e ∙ sym f, λ t. never (sym e ∙ t))
+refused ok w e f = (e ∙ sym f, λ t. no (sym e ∙ t))
 
 pub found-good : (m : List ℕ) (l d : ℕ) (r : LogFound) (log : Cursor) (e : ℕ) → ReadAs m l d r → r ≡ Good log e → ReadGood m l d log e
 found-good m l d r log e h f = rw f at h

@@ -16,23 +16,6 @@ use Rattle.store.specs.Places.{first, isFree, placeAt, freePlace}
 use Rattle.store.specs.OpenLog.{Placed, Commitment, commitUnder}
 use Rattle.store.specs.OpenPairs.{endOfCommitment, tableFind, livePlace, takeAt, timeOrZero}
 
--- the state with other places
-unfoldable pub withPlaces : State → List Place → State
-withPlaces s ps = record {
-  blocks = s .blocks;
-  pages = s .pages;
-  slots = s .slots;
-  next = s .next;
-  last = s .last;
-  saved = s .saved;
-  end = s .end;
-  tail = s .tail;
-  places = ps;
-  ring = s .ring;
-  first = s .first;
-  phase = s .phase;
-}
-
 -- a live committed transaction's place, with its commit in the log, if there is one, and its waiting versions counted
 unfoldable pub placeOf : Option Commitment → TxNumber → CommitTime → ℕ → Place
 placeOf found n t waiting = record {

@@ -17,11 +17,11 @@ ghost use Rattle.store.specs.Places.{freePlace, placeAt};
 ghost use Rattle.store.specs.State.{withPlace};
 ghost use Rattle.store.specs.OpenLog.{readLog};
 ghost use Rattle.store.specs.OpenPairs.{tableFind, endOfCommitment, timeOrZero, takeAt, isPaired, waitingNumbers, openPlaces};
-ghost use Rattle.memory.specs.Memory.{listed, placesOf, stateOf};
+ghost use Rattle.memory.specs.Memory.{listed, placesOf, stateOf, withPlaces};
 ghost use Rattle.conditions.specs.Cursor.{Ready};
 ghost use Rattle.conditions.specs.Lookup.{Extent, Known, commitsOf, commitAmong};
 ghost use Rattle.opening.specs.Waits.{waitingUnder};
-ghost use Rattle.opening.specs.Placing.{withPlaces, placeOf, tablePlace, freeUnless};
+ghost use Rattle.opening.specs.Placing.{placeOf, tablePlace, freeUnless};
 
 // How many versions wait under a number, by the list.
 fn waiting_under(list: &[u64; 128], total: u64, n: u64) -> u64

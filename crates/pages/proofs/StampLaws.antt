@@ -12,17 +12,14 @@ use Rattle.layout.specs.Slot.{stamped}
 use Rattle.layout.specs.Page.{pageSlot, stampCell}
 use Rattle.fields.specs.Block.{slotIn}
 use Rattle.fields.proofs.PartLaws.{part-before}
-use Rattle.layout.proofs.CacheLaws.{length-stampCell, stampCell-same, stampCell-other}
+use Rattle.layout.proofs.CacheLaws.{stampCell-same, stampCell-other}
 use Rattle.store.specs.StorePage.{stampWith}
 use Rattle.store.specs.declared.Timing.{Timing}
 use Rattle.store.specs.declared.Timing.the-variants.{Timed, Untimed}
+use Rattle.store.proofs.LengthLaws.{length-stampWith}
 use Rattle.pages.specs.Stamped.{timeBy, stampedBy, stampBy}
 
 -- ---- one slot
-
-pub length-stampWith : (t : Timing) (page : List ℕ) (i : ℕ) → length (stampWith t page i) ≡ length page
-length-stampWith (Timed t) page i = length-stampCell page i (t .0)
-length-stampWith Untimed page i = refl
 
 stampWith-same : (t : Timing) (page : List ℕ) (i : ℕ) → length page ≡ 512 → i < 15
     → pageSlot (stampWith t page i) i ≡ stampedBy t (pageSlot page i)

@@ -15,8 +15,8 @@ use Rattle.fields.proofs.PartLaws.{lent-part}
 use Rattle.fields.proofs.EqualLaws.{eq-end}
 use Rattle.store.specs.StorePage.{stampWith}
 use Rattle.store.specs.declared.State.{State}
-use Rattle.memory.specs.Memory.{placesOf, stateBy, stateOf}
-use Rattle.pages.specs.Stamped.{withPlaces, timeBy, stampedBy, stampBy, lowerBy, settleBy}
+use Rattle.memory.specs.Memory.{placesOf, stateBy, stateOf, withPlaces}
+use Rattle.pages.specs.Stamped.{timeBy, stampedBy, stampBy, lowerBy, settleBy}
 use Rattle.pages.proofs.StampLaws.{length-stampBy, stampBy-header, stamped-slot}
 
 -- slot i as it is lent

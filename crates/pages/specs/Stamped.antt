@@ -25,23 +25,6 @@ stampedUnder w page = stampFrom (storedUnder (placesOf w) (getD w 6 0)) page 0 1
 unfoldable pub settledUnder : List ℕ → List ℕ → List Place
 settledUnder w page = settleFrom (storedUnder (placesOf w) (getD w 6 0)) (placesOf w) page (placesOf w) 0 15
 
--- the state with other places
-unfoldable pub withPlaces : State → List Place → State
-withPlaces s ps = record {
-  blocks = s .blocks;
-  pages = s .pages;
-  slots = s .slots;
-  next = s .next;
-  last = s .last;
-  saved = s .saved;
-  end = s .end;
-  tail = s .tail;
-  places = ps;
-  ring = s .ring;
-  first = s .first;
-  phase = s .phase;
-}
-
 -- ---- by the places found for the slots
 
 -- the place found, if its commit record is stored; 64 for none

@@ -13,8 +13,8 @@ ghost use lib.ListN.{length};
 ghost use Rattle.fields.specs.Equal.{eqList};
 ghost use Rattle.layout.specs.Slot.{stamped};
 ghost use Rattle.store.specs.StorePage.{stampWith};
-ghost use Rattle.memory.specs.Memory.{placesOf, stateOf};
-ghost use Rattle.pages.specs.Stamped.{stampedUnder, settledUnder, withPlaces, placeFor, placesFor, timeBy, stampedBy, stampBy, lowerBy, settleBy};
+ghost use Rattle.memory.specs.Memory.{placesOf, stateOf, withPlaces};
+ghost use Rattle.pages.specs.Stamped.{stampedUnder, settledUnder, placeFor, placesFor, timeBy, stampedBy, stampBy, lowerBy, settleBy};
 
 // The place by which a slot is stamped; 64 for none.
 fn place_for(words: &[u64], slot: Slot) -> u64

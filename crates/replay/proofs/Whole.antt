@@ -13,7 +13,7 @@ use Rattle.script.specs.Form.{other}
 use Rattle.script.specs.Reader.{noLine, grownBy, seenOf}
 use Rattle.script.specs.Replay.{plain, replayOf, lineOf, meaningOf}
 use Rattle.script.specs.Run.{Step, stops, stand, overReads, joinedReads}
-use Rattle.script.proofs.Cases.{bool-case}
+use Rattle.fields.proofs.Choose.{bool-case}
 use Rattle.script.proofs.Meaning.{line-meaning}
 use Rattle.script.proofs.RunLaws.{whole-reads}
 use Rattle.rooms.specs.Room.{Room, gone, shut, ready, planOf, plays}

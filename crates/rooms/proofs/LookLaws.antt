@@ -25,7 +25,7 @@ use Rattle.store.proofs.Answer.{the-type as answer-type}
 use Rattle.script.specs.declared.call.Call.{Call}
 use Rattle.script.specs.declared.call.Call.the-variants.{Format, Open, OpenSized, Cut, Begin, Write, Erase, Read, Commit, Abort, AsOf, Changes, StoreLog, StorePage, Checkpoint, Block, Page, Poke, Other}
 use Rattle.script.proofs.call.Call.{the-type}
-use Rattle.script.proofs.Cases.{bool-case, no}
+use Rattle.fields.proofs.Choose.{bool-case, no}
 use Rattle.rooms.specs.declared.parts.Standing.{Standing}
 use Rattle.answers.specs.Text.{answerText, changesText, allAre, keptText, listText}
 use Rattle.rooms.specs.Room.{Room, ready, Turn, planOf, outcomeOf, called, calling, mediumIn, cacheIn, stays}

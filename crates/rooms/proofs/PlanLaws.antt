@@ -16,7 +16,7 @@ use Rattle.store.specs.Answer.{leaves}
 use Rattle.script.specs.declared.call.Call.{Call}
 use Rattle.script.specs.declared.call.Call.the-variants.{Format, Open, OpenSized, Cut, Begin, Write, Erase, Read, Commit, Abort, AsOf, Changes, StoreLog, StorePage, Checkpoint, Block, Page, Poke, Other}
 use Rattle.script.proofs.call.Call.{the-type}
-use Rattle.script.proofs.Cases.{bool-case, no}
+use Rattle.fields.proofs.Choose.{bool-case, no}
 use Rattle.rooms.specs.declared.parts.Standing.{Standing}
 use Rattle.rooms.specs.declared.plan.Plan.{Plan}
 use Rattle.rooms.specs.Room.{Room, Turn, withinBuffer, planOf, pagesIn, rightLength, opening, outcomeOf, calling, turnBy}

@@ -16,22 +16,15 @@ use Rattle.script.specs.declared.line.Taken.{Taken}
 use Rattle.script.specs.Reader.{noLine, grown, takeOf}
 use Rattle.script.specs.Replay.{meaningOf}
 use Rattle.script.specs.Run.{Step, stops, goes, Stand, stand, stepped, turned, playOf}
-use Rattle.script.proofs.Cases.{bool-case, no}
+use Rattle.fields.proofs.Choose.{bool-case, no}
 use Rattle.script.proofs.RunLaws.{play-append}
-use Rattle.script.proofs.TakeLaws.{step-on, step-stop}
+use Rattle.script.proofs.TakeLaws.{take-next, step-on, step-stop}
 use Rattle.rooms.specs.declared.parts.Standing.{Standing}
 use Rattle.rooms.specs.declared.plan.Plan.{Plan}
 use Rattle.rooms.specs.Room.{Room, Turn, planOf, plays, turnOf}
 use Rattle.rooms.specs.Parts.{stageOf, roomOf}
 use Rattle.rooms.specs.Steps.{stepOf, does}
 use Rattle.rooms.proofs.RoomLaws.{stage-in}
-
-take-later : (l : Line) (bs : List ℕ) (i : ℕ) → i ≤ takeOf l bs i .next
-unfolding takeOf
-take-later l [] i = omega arith
-take-later l (b ∷ bs) i =
-    bool-case (eqb b 10) (λ e. simp e (omega arith))
-    (λ e. let h = take-later (grown l b) bs (i + 1) in simp e (omega arith))
 
 no-end : (l : Line) (i : ℕ) → takeOf l [] i .ended ≡ false
 unfolding takeOf
@@ -63,7 +56,7 @@ piece l (b ∷ bs) i r o e =
     bool-case (eqb b 10)
     (λ f. rw (take-ends l b bs i f) (ap (λ (j : ℕ). playOf does (stand l r true o) (take j (b ∷ bs))) k ∙ byte-ends l b r o f))
     (λ f.
-    let h = take-later (grown l b) bs (i + 1) in
+    let h = take-next (grown l b) bs (i + 1) in
     let n : takeOf (grown l b) bs (i + 1) .next - i ≡ suc (takeOf (grown l b) bs (i + 1) .next - (i + 1)) = omega arith in
     rw (take-goes l b bs i f)
     (ap (λ (j : ℕ). playOf does (stand l r true o) (take j (b ∷ bs))) n

@@ -10,7 +10,7 @@ use lib.Seq.{length-take-le, take-at}
 use lib.Dec.{eqb, ltb}
 use borrow.Author.Tests.{lt-ltb, le-ltb, ltb-true, ltb-false, eq-eqb, ne-eqb}
 use Rattle.store.specs.declared.State.{State}
-use Rattle.script.proofs.Cases.{bool-case}
+use Rattle.fields.proofs.Choose.{bool-case}
 use Rattle.rooms.specs.declared.parts.Standing.{Standing}
 use Rattle.rooms.specs.Room.{Room, gone, shut, ready, blocksIn, pagesIn, mediumIn, cacheIn, stageIn, freshLength, rightLength}
 use Rattle.rooms.specs.Parts.{stageOf, mediumPart, cachePart, roomOf}

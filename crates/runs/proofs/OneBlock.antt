@@ -15,7 +15,6 @@ use Rattle.layout.specs.Journal.{Record, sequenceOf, recordSize}
 use Rattle.layout.specs.Page.{pageSlot}
 use Rattle.layout.specs.Slot.{slotState}
 use Rattle.fields.proofs.BlockLaws.{length-put, length-blk, blk-other}
-use Rattle.layout.proofs.CacheLaws.{length-stampCell}
 use Rattle.layout.proofs.TableLaws.{length-pairs}
 use Rattle.layout.proofs.MasterLaws.{length-masterBytes}
 use Rattle.store.specs.declared.Phase.{Phase}
@@ -23,7 +22,6 @@ use Rattle.store.specs.declared.Phase.the-variants.{Idle, FirstStored, SecondSt
 use Rattle.store.specs.declared.Place.{Place}
 use Rattle.store.specs.declared.State.{State}
 use Rattle.store.specs.declared.Timing.{Timing}
-use Rattle.store.specs.declared.Timing.the-variants.{Timed, Untimed}
 use Rattle.store.specs.Answer.{Outcome}
 use Rattle.store.specs.State.{fits}
 use Rattle.store.specs.Tail.{tailFits, storedTail, logged, loggedIf}
@@ -37,6 +35,7 @@ use Rattle.runs.specs.Event.{Call, begin, write, erase, current-read, co
 use Rattle.runs.specs.Machine.{called}
 use Rattle.runs.proofs.Asks.{Way, refused, begins, writes, erases, looks, commits, ends, aborts, logs, pages, checks, way}
 use Rattle.store.proofs.FitLaws.{fit-of}
+use Rattle.store.proofs.LengthLaws.{length-stampWith, length-pairsFrom}
 use Rattle.runs.proofs.Refusals.{open-medium}
 
 -- ---- the medium is left alone, or block k of it is replaced
@@ -55,10 +54,6 @@ stores-length {m} {k} (block b e) = length-put m k b
 
 -- ---- the blocks stored have 512 bytes
 
-length-stampWith : (t : Timing) (page : List ℕ) (i : ℕ) → length (stampWith t page i) ≡ length page
-length-stampWith (Timed t) page i = length-stampCell page i (t .0)
-length-stampWith Untimed page i = refl
-
 length-stampFrom : (pair : ℕ → Timing) (page : List ℕ) (i k : ℕ) → length (stampFrom pair page i k) ≡ length page
 unfolding stampFrom
 length-stampFrom pair page i zero = refl
@@ -69,11 +64,6 @@ length-stampFrom pair page i (suc k) =
 pub length-stampedPage : (s : State) (page : List ℕ) → length (stampedPage s page) ≡ length page
 unfolding stampedPage
 length-stampedPage s page = length-stampFrom (storedPair s) page 0 15
-
-pub length-pairsFrom : (ps : List Place) (o i k : ℕ) → length (pairsFrom ps o i k) ≡ k
-unfolding pairsFrom
-length-pairsFrom ps o i zero = refl
-length-pairsFrom ps o i (suc k) = ap suc (length-pairsFrom ps o (i + 1) k)
 
 pub length-tableBlock : (ps : List Place) (o i : ℕ) → length (tableBlock ps o i) ≡ 512
 unfolding tableBlock

@@ -11,12 +11,11 @@ use native.Mathlib.Nat.{pow-suc, pow-le-pow-right}
 use lib.ListN.{length}
 use lib.Dec.{eqb, ltb, leb}
 use borrow.Author.Tests.{ltb-true, ltb-false, leb-true, leb-false, eqb-true, lt-ltb, le-ltb, le-leb, lt-leb, ne-eqb}
-use Rattle.fields.proofs.Choose.{and-0, and-1, cond-when}
+use Rattle.fields.proofs.Choose.{and-0, and-1, cond-when, bool-case, no}
 use Rattle.script.specs.declared.line.Line.{Line}
 use Rattle.script.specs.Words.{isIn, isDigit, allDigits, valueFrom, numberOf, hexDigit, allHex, bytesOf, hexBytes}
 use Rattle.script.specs.Form.{Word, wordOf}
 use Rattle.script.specs.Reader.{isNumber, staysNumber, oneMore, pushed, withDigit, noWord, wide, lastWord}
-use Rattle.script.proofs.Cases.{bool-case, no}
 use Rattle.script.proofs.HexLaws.{fillHigh, fillLow, value-start, byte-start}
 
 -- what holds of the last word of every line that was taken

@@ -1,4 +1,3 @@
-pub mod Cases
 pub mod WordLaws
 pub mod ReaderLaws
 pub mod HexLaws

@@ -14,8 +14,7 @@ use Rattle.script.specs.Words.{ahead, wordsOf, isIn, numberOf, hexDigit}
 use Rattle.script.specs.Form.{Word, wordOf, Form, other, bare, ending, behind, afterLetter, isLetter, byWords, limited, formOf}
 use Rattle.script.specs.Reader.{noLine, spoilt, lettered, withLetter, isNumber, nextWord, withSpace, withDigit, noWord, grown, grownBy, doneOf, seenOf}
 use Rattle.script.specs.Replay.{replayOf, lineOf, meaningOf}
-use Rattle.fields.proofs.Choose.{cond-elim}
-use Rattle.script.proofs.Cases.{bool-case, no}
+use Rattle.fields.proofs.Choose.{cond-elim, bool-case, no}
 use Rattle.script.proofs.ReaderLaws.{done-few}
 use Rattle.script.proofs.LastWord.{Held, numberFrom, wordFrom, number-start, number-end, word-start, word-digit, word-other, word-end, digit-held}
 

@@ -12,7 +12,7 @@ use lib.Dec.{leb}
 use borrow.Author.Tests.{lt-ltb, le-ltb, leb-true, leb-false}
 use Rattle.io.specs.Digits.{digits, glyph, Fewest}
 use Rattle.script.specs.Print.{decimalFrom, decimal, hexOf}
-use Rattle.script.proofs.Cases.{bool-case}
+use Rattle.fields.proofs.Choose.{bool-case}
 
 pub put-byte : (l : List ℕ) (n b : ℕ) → n < length l → take (n + 1) (set l n b) ≡ take n l ++ (b ∷ [])
 put-byte l n b h = rw add-one (take-suc-set l n b h)

@@ -10,7 +10,7 @@ use Rattle.script.specs.declared.line.Line.{Line}
 use Rattle.script.specs.Words.{ahead, linesOf}
 use Rattle.script.specs.Reader.{noLine, grown, grownBy}
 use Rattle.script.specs.Run.{Step, stops, goes, followed, printsFrom, Stand, stand, stepped, turned, playOf, finished, written, overReads, joinedReads}
-use Rattle.script.proofs.Cases.{bool-case}
+use Rattle.fields.proofs.Choose.{bool-case}
 
 -- bytes in front of lines
 abbrev prepend : List ℕ → List (List ℕ) → List (List ℕ)

@@ -14,7 +14,7 @@ use Rattle.script.specs.declared.line.Line.{Line}
 use Rattle.script.specs.declared.line.Taken.{Taken}
 use Rattle.script.specs.Reader.{grown, takeOf}
 use Rattle.script.specs.Run.{Step, Stand, stand, stepped, turned, playOf, finished}
-use Rattle.script.proofs.Cases.{bool-case}
+use Rattle.fields.proofs.Choose.{bool-case}
 
 module _ (bs : List ℕ) (l : Line) (i : ℕ) where
   pub take-newline : i < length bs → getD bs i 0 ≡ 10 → takeOf l (drop i bs) i ≡ record { line = l; next = i + 1; ended = true }
@@ -29,7 +29,8 @@ module _ (bs : List ℕ) (l : Line) (i : ℕ) where
   unfolding takeOf
   take-end h = ap (λ (t : List ℕ). takeOf l t i) (drop-of-length-le bs h)
 
-take-next : (l : Line) (bs : List ℕ) (i : ℕ) → i ≤ takeOf l bs i .next
+-- the place behind what was taken
+pub take-next : (l : Line) (bs : List ℕ) (i : ℕ) → i ≤ takeOf l bs i .next
 unfolding takeOf
 take-next l [] i = omega arith
 take-next l (b ∷ bs) i =

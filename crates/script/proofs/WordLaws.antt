@@ -8,8 +8,7 @@ use borrow.Author.Tests.{ltb-true, leb-true, leb-false, not-false, lt-ltb, le-lt
 use Rattle.script.specs.declared.line.Line.{Line}
 use Rattle.script.specs.Words.{isIn}
 use Rattle.script.specs.Reader.{staysNumber}
-use Rattle.fields.proofs.Choose.{and-0}
-use Rattle.script.proofs.Cases.{bool-case, no}
+use Rattle.fields.proofs.Choose.{and-0, bool-case, no}
 
 same-test : (a b : Bool) → (a ≡ true → b ≡ true) → (a ≡ false → b ≡ false) → a ≡ b
 same-test true b f g = sym (f refl)

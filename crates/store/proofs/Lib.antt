@@ -2,3 +2,4 @@ pub mod AskLaws
 pub mod FitLaws
 pub mod SearchLaws
 pub mod ChainLaws
+pub mod LengthLaws

@@ -23,8 +23,8 @@ use Rattle.store.specs.StoreLog.{logStored, storeLogIf, storeLogOf}
 use Rattle.store.specs.Tail.{storedTail}
 use Rattle.store.specs.StorePage.{storedPair, stampedPage, settled, pageStored, storePageIf, storePageOf}
 use Rattle.store.proofs.FitLaws.{fit-of}
-use Rattle.memory.specs.Memory.{firstOf, stateBy, stateOf, withFirst}
-use Rattle.pages.specs.Stamped.{stampedUnder, settledUnder, withPlaces}
+use Rattle.memory.specs.Memory.{firstOf, stateBy, stateOf, withFirst, withPlaces}
+use Rattle.pages.specs.Stamped.{stampedUnder, settledUnder}
 
 -- ---- where the blocks lie; m and c are the lengths of medium and cache
 

@@ -11,7 +11,7 @@ use lib.Seq.{length-take-le, take-at, take-all, take-set-lt, set-out}
 use lib.Dec.{eqb, ltb, leb}
 use borrow.Author.Tests.{lt-ltb, le-ltb, eq-eqb, ne-eqb, eqb-true, eqb-false, le-leb}
 use Rattle.fields.specs.Block.{zeros, mediumLength, cacheLength}
-use Rattle.fields.proofs.Choose.{and-0}
+use Rattle.fields.proofs.Choose.{and-0, bool-case, no}
 use Rattle.store.specs.declared.Answer.{Answer}
 use Rattle.store.specs.declared.Answer.the-variants.{Done}
 use Rattle.store.specs.declared.State.{State}
@@ -20,7 +20,6 @@ use Rattle.store.specs.State.{inRange}
 use Rattle.store.specs.Format.{Formatted, formatIf, formatOf}
 use Rattle.store.specs.Open.{openIf, openOf}
 use Rattle.store.proofs.FitLaws.{range-of}
-use Rattle.script.proofs.Cases.{bool-case, no}
 use Rattle.script.specs.declared.call.Call.{Call}
 use Rattle.script.specs.declared.call.Call.the-variants.{Format, Open, OpenSized, Cut, Begin, Write, Erase, Read, Commit, Abort, AsOf, Changes, StoreLog, StorePage, Checkpoint, Block, Page, Poke, Other}
 use Rattle.rooms.specs.declared.parts.Standing.{Standing}

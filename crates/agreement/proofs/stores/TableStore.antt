@@ -26,7 +26,7 @@ use Rattle.store.specs.Places.{placeAt}
 use Rattle.store.specs.declared.Phase.{Phase}
 use Rattle.store.specs.declared.State.{State}
 use Rattle.store.specs.Checkpoint.{noPair, pairBelow, pairsFrom, tableBlock}
-use Rattle.runs.proofs.OneBlock.{length-pairsFrom}
+use Rattle.store.proofs.LengthLaws.{length-pairsFrom}
 use Rattle.runs.specs.Book.{Book}
 use Rattle.agreement.proofs.history.Ghost.{commitsOf, Disk, LoggedCommit, find, count}
 use Rattle.agreement.proofs.history.ListLaws.{same?}

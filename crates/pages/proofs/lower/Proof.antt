@@ -2,8 +2,8 @@
 use mathlib.Core.Path.{_∙_}
 use borrow.Author.Tests.{lt-ltb, le-ltb}
 use Rattle.store.specs.State.{withPlace}
-use Rattle.memory.specs.Memory.{stateBy, stateOf}
-use Rattle.pages.specs.Stamped.{withPlaces, lowerBy}
+use Rattle.memory.specs.Memory.{stateBy, stateOf, withPlaces}
+use Rattle.pages.specs.Stamped.{lowerBy}
 use borrow.Author.Needs.{needs}
 use Rattle.pages.proofs.lower.Statement.{statement}
 use Rattle.pages.proofs.lower.Tie as tie

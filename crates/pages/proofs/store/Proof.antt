@@ -5,8 +5,8 @@ use mathlib.Core.Bool.{Bool}
 use mathlib.Core.List.{List}
 use Prim.Native.Nat.{ℕ}
 use Rattle.fields.specs.Equal.{eqList}
-use Rattle.memory.specs.Memory.{placesOf, stateOf}
-use Rattle.pages.specs.Stamped.{stampedUnder, settledUnder, withPlaces, placesFor, stampBy, settleBy}
+use Rattle.memory.specs.Memory.{placesOf, stateOf, withPlaces}
+use Rattle.pages.specs.Stamped.{stampedUnder, settledUnder, placesFor, stampBy, settleBy}
 use Rattle.pages.proofs.FoundLaws.{stamped-found, settled-found}
 use borrow.Author.Needs.{needs}
 use Rattle.pages.proofs.store.Statement.{statement}

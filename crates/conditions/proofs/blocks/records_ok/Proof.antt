@@ -2,9 +2,10 @@
 use Prim.Native.Nat.{_-_, _≤_}
 use native.Mathlib.Omega.{arith}
 use borrow.Author.Tests.{not-true, not-false}
+use Rattle.fields.proofs.Choose.{no}
 use Rattle.layout.specs.Journal.{parsed}
 use Rattle.conditions.specs.Lookup.{lowOf}
-use Rattle.conditions.proofs.BlockPasses.{leftOf, left-end, left-number, left-damaged, version-in, commit-in, Same, same-begin, same-end, same-cut, version-turn, version-stop, commit-turn, commit-stop, never}
+use Rattle.conditions.proofs.BlockPasses.{leftOf, left-end, left-number, left-damaged, version-in, commit-in, Same, same-begin, same-end, same-cut, version-turn, version-stop, commit-turn, commit-stop}
 use borrow.Author.Needs.{needs}
 use Rattle.conditions.proofs.blocks.records_ok.Statement.{statement}
 use Rattle.conditions.proofs.blocks.records_ok.Tie as tie
@@ -78,7 +79,7 @@ returns-2 c =
     let a = k .before .before in (
       version-stop (a .args .block .now) (k .loop .at) (k .loop .inv .0) _ (i .item-at .ensures) (k .loop .inv .2) _ _
           (c .before .before .before .before .item .given .1) (c .before .version-ok .ensures) (not-true (c .before .version-ok .result) (c .if1 .taken)),
-      never,
+      no,
     )
 
 add-at : tie.Need-add-at Inv-loop μ-loop
@@ -120,7 +121,7 @@ returns-3 c =
     let a = k .before .before in (
       commit-stop (a .args .block .now) (k .loop .at) (k .loop .inv .0) _ (i .item-at .ensures) (k .loop .inv .2) _ _
           (c .before .before .before .before .item2 .given .1) (c .before .rises .ensures) (not-true (c .before .rises .result) (c .if2 .taken)),
-      never,
+      no,
     )
 
 add-at-2 : tie.Need-add-at-2 Inv-loop μ-loop
@@ -158,7 +159,7 @@ returns-4 c =
     let a = k .before .before in (
       same-cut (k .loop .inv .2)
           (left-number (a .args .block .now) (k .loop .at) (k .loop .inv .0) _ (c .before .before .item-at .ensures) _ _ (c .enum-told2 .given .1)),
-      never,
+      no,
     )
 
 enum-told-3 : tie.Need-enum-told-3 Inv-loop μ-loop
@@ -170,7 +171,7 @@ returns-5 c =
     let a = k .before .before in (
       same-cut (k .loop .inv .2)
           (left-damaged (a .args .block .now) (k .loop .at) (k .loop .inv .0) _ (c .before .before .item-at .ensures) (c .enum-told3 .given .1)),
-      never,
+      no,
     )
 
 pub records-ok-spec : {M : Type 1} → statement M

@@ -6,10 +6,10 @@ use native.Mathlib.Omega.{arith}
 use lib.Seq.{slice}
 use borrow.Author.Needs.{needs}
 use borrow.Author.Tests.{le-leb, lt-leb}
+use Rattle.fields.proofs.Choose.{no}
 use Rattle.store.specs.OpenLog.{readLog}
 use Rattle.store.specs.OpenPairs.{isPaired, openPlaces}
 use Rattle.memory.specs.Memory.{placesOf}
-use Rattle.conditions.proofs.BlockPasses.{never}
 use Rattle.conditions.proofs.TableLaws.{ready-table}
 use Rattle.opening.specs.Waits.{Gathered}
 use Rattle.opening.specs.Placing.{takeAll}
@@ -46,7 +46,7 @@ enum-told : tie.Need-enum-told Inv-loop μ-loop
 enum-told c = search needs
 
 returns : tie.Need-returns Inv-loop μ-loop
-returns c = (sym (lt-leb _ 64 (collected-full _ _ _ _ _ (c .enum-told .given .1) (c .before .before .collect .ensures))), never)
+returns c = (sym (lt-leb _ 64 (collected-full _ _ _ _ _ (c .enum-told .given .1) (c .before .before .collect .ensures))), no)
 
 table-places-requires : tie.Need-table-places-requires Inv-loop μ-loop
 table-places-requires c κs =

@@ -6,13 +6,13 @@ use native.Mathlib.Omega.{arith}
 use mathlib.Core.List.{[], _∷_}
 use lib.ListN.{length}
 use borrow.Author.Tests.{not-true, not-false}
+use Rattle.fields.proofs.Choose.{no}
 use Rattle.fields.specs.Part.{part}
 use Rattle.layout.specs.Journal.{version}
 use Rattle.fields.proofs.PartLaws.{lent-length, lent-part}
 use Rattle.memory.specs.Memory.{firstOf}
 use Rattle.conditions.specs.Cursor.{restOf}
 use Rattle.conditions.proofs.CursorLaws.{measure, Next, step-done, step-skip, step-written, step-committed}
-use Rattle.conditions.proofs.BlockPasses.{never}
 use Rattle.opening.proofs.RedoLaws.{Noted, noted-none, noted-first, noted-touch, Going, going-begin, going-done, going-skip, going-commit, going-slot, going-page, going-pass, going-stop, going-apply}
 use borrow.Author.Needs.{needs}
 use Rattle.opening.proofs.redo.run.Statement.{statement}
@@ -103,7 +103,7 @@ returns-2 c =
     let i = d .before .before .before .before .loop .inv in (
       (
         going-stop (i .0) _ (written d .0) _ _ refl (u .result) (u .ensures) (c .before .before .before .if1 .taken) (x .result) (x .ensures) (not-true (x .result) (c .if2 .taken)),
-        never,
+        no,
       ),
       i .1,
     )
