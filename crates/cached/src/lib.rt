@@ -1,7 +1,7 @@
 // A slot of the cache, by its number in the store.
 use layout::slot::Slot;
 ghost use mathlib.Core.Path.{_≡_};
-ghost use Prim.Native.Nat.{suc, _+_, _*_, _<_, _≤_};
+ghost use Prim.Native.Nat.{suc, _+_};
 ghost use lib.ListN.{length};
 ghost use Rattle.store.specs.Chain.{cellAt, isVersion};
 ghost use Rattle.cached.specs.Room.{Room};

@@ -4,7 +4,7 @@ use mathlib.Core.Path.{_≡_, refl, sym, ap, _∙_}
 use mathlib.Core.Bool.{Bool, true, false, cond}
 use mathlib.Core.Option.{Option, none, some}
 use mathlib.Core.List.{List, [], _∷_, _++_, append-nil}
-use Prim.Native.Nat.{ℕ, zero, suc, _+_, _-_, _*_, _≤_, _<_}
+use Prim.Native.Nat.{ℕ, suc, _+_, _-_, _*_, _≤_, _<_}
 use native.Mathlib.Omega.{arith}
 use lib.ListN.{length, take, drop, getD, set, length-set}
 use lib.Seq.{drop-cons, take-suc-set, append-snoc}
@@ -15,7 +15,7 @@ use Rattle.layout.specs.declared.item.Pair.{Pair}
 use Rattle.layout.specs.declared.item.VersionHead.{VersionHead}
 use Rattle.store.specs.OpenLog.{Placed, Commitment, commitIn, orElse, commitUnder, readLog}
 use Rattle.conditions.specs.declared.cursor.Cursor.{Cursor}
-use Rattle.conditions.specs.declared.log.Match.the-variants.{Found, Absent}
+use Rattle.conditions.specs.declared.log.Match.the-variants.{Found}
 use Rattle.conditions.specs.Cursor.{restOf, Valid}
 use Rattle.conditions.specs.Lookup.{commitWords, commitsOf, commitAmong, matchOf, Known}
 use Rattle.conditions.proofs.CursorLaws.{measure, Next}

@@ -1,14 +1,14 @@
 -- Two media that differ in one block at most: a write of that block's bytes makes the one the other. Outside the block
 -- they are the same by definition, and inside it the write lays what is to be there.
 use mathlib.Core.Path.{_≡_, refl, sym, ap, _∙_}
-use mathlib.Core.Bool.{Bool, true, false, not, cond}
+use mathlib.Core.Bool.{Bool, not}
 use mathlib.Core.List.{List, [], _∷_}
 use Prim.Native.Nat.{ℕ, zero, suc, _+_, _-_, _*_, _≤_, _<_, min}
 use native.Mathlib.Omega.{arith}
 use lib.ListN.{length, take, drop}
 use lib.Seq.{take-all, drop-length}
 use lib.Dec.{ltb}
-use borrow.Author.Tests.{lt-ltb, le-ltb, ltb-true, ltb-false}
+use borrow.Author.Tests.{ltb-true, ltb-false}
 use Rattle.fields.specs.Part.{part, splice}
 use Rattle.fields.specs.Equal.{eqList}
 use Rattle.fields.proofs.PartLaws.{length-splice, part-before, splice-self}

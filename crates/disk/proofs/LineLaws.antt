@@ -1,18 +1,17 @@
 -- A line changes no block but the one that `blockOf` names: a call by its own law, a byte put into the medium lies in its
 -- block, and the other lines leave the medium as it is.
-use mathlib.Core.Path.{_≡_, refl, sym, ap, _∙_}
-use mathlib.Core.Bool.{Bool, true, false, cond}
+use mathlib.Core.Path.{_≡_, refl, sym}
+use mathlib.Core.Bool.{false}
 use mathlib.Core.List.{List, [], _∷_}
-use Prim.Native.Nat.{ℕ, _+_, _*_, _/_, _≤_}
+use Prim.Native.Nat.{ℕ, _/_}
 use native.Mathlib.Omega.{arith}
-use lib.ListN.{length, take, set, replicate}
+use lib.ListN.{set, replicate}
 use lib.Dec.{eqb, ltb}
-use Rattle.fields.specs.Block.{zeros}
 use Rattle.fields.proofs.WriteLaws.{set-splice}
 use Rattle.store.specs.declared.State.{State}
 use Rattle.store.specs.Answer.{answerNumber}
 use Rattle.store.specs.Open.{openOf}
-use Rattle.runs.specs.Event.{begin, write, erase, current-read, commit, abort, as-of, changes, store-log, store-page, checkpoint}
+use Rattle.runs.specs.Event.{begin, current-read, abort, as-of, changes}
 use Rattle.runs.specs.Machine.{called}
 use Rattle.runs.proofs.OneBlock.{stores}
 use Rattle.runs.proofs.Refusals.{open-medium}
@@ -22,7 +21,7 @@ use Rattle.script.specs.declared.call.Call.{Call}
 use Rattle.script.specs.declared.call.Call.the-variants.{Format, Open, OpenSized, Cut, Begin, Write, Erase, Read, Commit, Abort, AsOf, Changes, StoreLog, StorePage, Checkpoint, Block, Page, Poke, Other}
 use Rattle.rooms.specs.declared.parts.Standing.{Standing}
 use Rattle.rooms.specs.Parts.{roomOf}
-use Rattle.rooms.specs.Room.{Room, gone, shut, ready, Turn, mediumIn, blocksIn, pagesIn, rightLength, opened, opening, cut, poked, outcomeOf, called as printed, calling, turnBy, turnOf}
+use Rattle.rooms.specs.Room.{Room, gone, shut, ready, mediumIn, blocksIn, pagesIn, opened, opening, cut, poked, outcomeOf, called as printed, calling, turnBy, turnOf}
 use Rattle.disk.specs.Block.{blockOf}
 use Rattle.disk.specs.Stored.{isFormat}
 use Rattle.disk.proofs.AlikeLaws.{Alike, alike-same, alike-is, alike-splice}

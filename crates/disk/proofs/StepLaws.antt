@@ -1,11 +1,11 @@
 -- What a line says of the file holds of the media before and behind it: they lie in the buffers' first bytes, and are
 -- alike but for the block.
-use mathlib.Core.Path.{_≡_, refl, sym, ap, _∙_}
-use mathlib.Core.Bool.{Bool, true, false, not}
+use mathlib.Core.Path.{_≡_, sym, ap, _∙_}
+use mathlib.Core.Bool.{Bool, false, not}
 use mathlib.Core.List.{List}
-use Prim.Native.Nat.{ℕ, _+_, _-_, _*_, _≤_, min}
+use Prim.Native.Nat.{ℕ, _+_, _-_, _≤_}
 use native.Mathlib.Omega.{arith}
-use lib.ListN.{length, take, drop, length-take}
+use lib.ListN.{length, take}
 use lib.Seq.{length-take-le}
 use lib.Dec.{ltb}
 use Rattle.fields.specs.Part.{part}
@@ -15,7 +15,7 @@ use Rattle.store.specs.declared.State.{State}
 use Rattle.fields.proofs.Choose.{bool-case}
 use Rattle.script.specs.declared.call.Asked.{Asked}
 use Rattle.rooms.specs.declared.parts.Standing.{Standing}
-use Rattle.rooms.specs.Room.{Room, Turn, mediumIn, turnOf}
+use Rattle.rooms.specs.Room.{mediumIn, turnOf}
 use Rattle.rooms.specs.Parts.{mediumPart, roomOf}
 use Rattle.rooms.proofs.RoomLaws.{medium-in}
 use Rattle.disk.specs.Block.{blockOf, startOf, lengthOf}

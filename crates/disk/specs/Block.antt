@@ -1,5 +1,5 @@
 -- The one block of the medium that a line can change, and its bytes.
-use Prim.Native.Nat.{ℕ, _+_, _-_, _*_, _/_, min}
+use Prim.Native.Nat.{ℕ, _-_, _*_, _/_, min}
 use mathlib.Core.Bool.{cond}
 use lib.Dec.{ltb}
 use Rattle.fields.specs.Block.{logBlockAt, pageBlockAt}

@@ -2,7 +2,7 @@
 use rooms::parts::Standing;
 ghost use mathlib.Core.Path.{_≡_};
 ghost use Prim.Native.Nat.{_≤_};
-ghost use lib.ListN.{length, take};
+ghost use lib.ListN.{length};
 ghost use Rattle.disk.specs.Named.{namedBy};
 
 // A room whose medium is the first so many bytes, shut, with the sizes that they name.

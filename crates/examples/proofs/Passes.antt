@@ -7,7 +7,7 @@ use Rattle.runs.specs.Event.{Event, typed}
 use Rattle.runs.specs.Book.{Book, blank, feed}
 use Rattle.runs.specs.Machine.{World, step, allowed, isRun, trace, formatted}
 use Rattle.runs.specs.Moments.{worldAfter, bookAfter, bookAt, seenAt}
-use Rattle.examples.specs.Compute.{Ran, ranFrom, ran, Computed, computed}
+use Rattle.examples.specs.Compute.{Ran, ranFrom, ran, computed}
 
 abbrev said : ℕ → ℕ → World → Book → List Event → Ran
 said l d w b es =

@@ -3,7 +3,6 @@ use Prim.Native.Nat.{ℕ, zero, suc, _-_, _^_}
 use mathlib.Core.Path.{_≡_}
 use mathlib.Core.List.{List, [], _∷_, _++_, map}
 use Rattle.layout.specs.Journal.{sequenceOf, usedOf}
-use Rattle.store.specs.declared.State.{State}
 use Rattle.runs.specs.Event.{Event, cut, call, begin, write, erase, commit, as-of, Strip, missing, erased, present, Observation}
 use Rattle.runs.specs.Machine.{World, down, up, trace, formatted}
 use Rattle.runs.specs.Moments.{worldAfter}

@@ -6,7 +6,7 @@ use native.Mathlib.Numerals.{add-one}
 use native.Mathlib.Omega.{arith}
 use mathlib.Core.List.{List, [], _∷_, _++_, append-nil}
 use lib.ListN.{length, take, drop, getD, set, length-drop}
-use lib.Seq.{getD-drop, getD-take, drop-cons, drop-length, take-suc-set, append-snoc, take-all}
+use lib.Seq.{getD-drop, drop-cons, drop-length, take-suc-set, append-snoc, take-all}
 use Rattle.fields.specs.Field.{enc, dec}
 use Rattle.fields.specs.Part.{part, splice}
 use Rattle.fields.proofs.PartLaws.{length-part, lent-back, lent-length, part-splice, part-after}

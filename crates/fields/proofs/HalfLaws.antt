@@ -2,7 +2,7 @@
 -- width can be read and written by halves.
 use mathlib.Core.Path.{_≡_, refl, sym, ap, _∙_}
 use Prim.Native.Nat.{ℕ, zero, suc, _+_, _*_, _/_, _%_, _^_, _≤_, _<_}
-use native.Mathlib.Nat.{pow-suc, pow-zero, div-div-eq-div-mul, suc-add, zero-add, mul-comm}
+use native.Mathlib.Nat.{pow-suc, div-div-eq-div-mul, suc-add, zero-add, mul-comm}
 use native.Mathlib.Omega.{arith}
 use mathlib.Core.List.{List, [], _∷_, _++_}
 use lib.ListN.{length, getD, set}

@@ -4,7 +4,7 @@ ghost use mathlib.Core.Bool.{cond};
 ghost use Prim.Native.Nat.{_+_, _≤_, _<_, _*_};
 ghost use lib.ListN.{length};
 ghost use lib.Dec.{eqb};
-ghost use Rattle.fields.specs.Part.{part, splice};
+ghost use Rattle.fields.specs.Part.{splice};
 ghost use Rattle.fields.specs.Equal.{eqList, allZero};
 ghost use Rattle.fields.specs.Block.{blk, put, zeros};
 

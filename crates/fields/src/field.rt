@@ -1,7 +1,7 @@
 // Little-endian fields of a byte slice.
 ghost use mathlib.Core.Path.{_≡_};
-ghost use Prim.Native.Nat.{_+_, _≤_, _<_, _^_};
-ghost use lib.ListN.{length, take, drop};
+ghost use Prim.Native.Nat.{_+_, _≤_, _<_};
+ghost use lib.ListN.{length};
 ghost use Rattle.fields.specs.Field.{enc, dec};
 ghost use Rattle.fields.specs.Part.{part, splice};
 

@@ -1,7 +1,7 @@
 -- The master: five fields, then zeros.
 use Prim.Native.Nat.{ℕ}
-use mathlib.Core.Bool.{Bool, true, false, cond}
-use mathlib.Core.List.{List, [], _∷_, _++_}
+use mathlib.Core.Bool.{cond}
+use mathlib.Core.List.{List, _++_}
 use lib.ListN.{drop}
 use lib.Dec.{eqb}
 use Rattle.fields.specs.Field.{enc, dec}

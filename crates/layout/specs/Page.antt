@@ -1,9 +1,9 @@
 -- A page: 32 header bytes, then 15 slots.
 use Prim.Native.Nat.{ℕ, zero, suc, _+_, _-_, _*_, _%_}
-use mathlib.Core.Bool.{Bool, true, false, cond, _&&_}
+use mathlib.Core.Bool.{Bool, true, cond, _&&_}
 use mathlib.Core.List.{List, [], _∷_, _++_}
 use lib.ListN.{length, getD, set}
-use lib.Dec.{eqb, leb, ltb}
+use lib.Dec.{leb, ltb}
 use Rattle.fields.specs.Field.{enc, dec}
 use Rattle.fields.specs.Part.{part, splice}
 use Rattle.fields.specs.Equal.{allZero}

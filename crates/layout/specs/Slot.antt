@@ -1,7 +1,7 @@
 -- A slot of a page: 32 bytes.
 use Prim.Native.Nat.{ℕ}
-use mathlib.Core.Bool.{Bool, true, false, cond, _&&_, _||_}
-use mathlib.Core.List.{List, [], _∷_, _++_}
+use mathlib.Core.Bool.{Bool, cond, _&&_, _||_}
+use mathlib.Core.List.{List, _∷_, _++_}
 use lib.ListN.{getD, set}
 use lib.Dec.{eqb}
 use Rattle.fields.specs.Field.{enc, dec}

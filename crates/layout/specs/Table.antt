@@ -3,7 +3,7 @@ use Prim.Native.Nat.{ℕ, _+_, _*_}
 use mathlib.Core.Bool.{Bool, _||_, not}
 use mathlib.Core.List.{List, _++_}
 use lib.Dec.{eqb}
-use Rattle.fields.specs.Field.{enc, dec}
+use Rattle.fields.specs.Field.{enc}
 use Rattle.fields.specs.Part.{part, splice}
 use Rattle.layout.specs.Item.{pairOf}
 use Rattle.layout.specs.declared.item.Pair.{Pair}

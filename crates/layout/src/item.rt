@@ -2,7 +2,7 @@
 use crate::CommitTime;
 use crate::TxNumber;
 ghost use mathlib.Core.Path.{_≡_};
-ghost use Prim.Native.Nat.{_+_, _≤_, _<_, _*_};
+ghost use Prim.Native.Nat.{_≤_, _<_};
 ghost use lib.ListN.{length};
 ghost use Rattle.layout.specs.Item.{headOf, pairOf, itemOf, numberItem, versionItem, commitItem};
 

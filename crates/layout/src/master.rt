@@ -4,7 +4,7 @@ use crate::TxNumber;
 use crate::item::Area;
 use crate::item::Item;
 ghost use mathlib.Core.Path.{_≡_};
-ghost use Prim.Native.Nat.{_+_, _≤_, _<_, _*_};
+ghost use Prim.Native.Nat.{_+_, _≤_};
 ghost use lib.ListN.{length};
 ghost use Rattle.fields.specs.Part.{splice};
 ghost use Rattle.fields.specs.Field.{enc};

@@ -4,7 +4,7 @@ use crate::EndPlace;
 use crate::TxNumber;
 ghost use mathlib.Core.Path.{_≡_};
 ghost use Prim.Native.Nat.{_+_, _≤_, _<_, _*_};
-ghost use lib.ListN.{length, getD};
+ghost use lib.ListN.{length};
 ghost use Rattle.fields.specs.Block.{pageOf};
 ghost use Rattle.layout.specs.Page.{pageEnd, pageUsed, putCell, stampCell, pageForm, slotFormAt, putVersion};
 ghost use Rattle.layout.specs.declared.slot.Slot.the-variants.{Waiting};

@@ -2,10 +2,7 @@
 use crate::CommitTime;
 use crate::TxNumber;
 ghost use mathlib.Core.Path.{_≡_};
-ghost use Prim.Native.Nat.{_+_, _≤_, _<_, _*_};
-ghost use lib.ListN.{length, getD};
-ghost use Rattle.fields.specs.Field.{dec};
-ghost use Rattle.fields.specs.Part.{part};
+ghost use lib.ListN.{length};
 ghost use Rattle.layout.specs.Slot.{slotState, slotBytes, stamped, kindForm, slotForm};
 ghost use Rattle.layout.specs.declared.slot.Slot.the-variants.{Waiting};
 

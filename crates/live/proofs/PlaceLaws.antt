@@ -4,16 +4,14 @@ use mathlib.Core.Path.{_≡_, refl, sym, ap, _∙_}
 use mathlib.Core.Bool.{Bool, true, false, cond, false≢true}
 use mathlib.Core.List.{List}
 use Prim.Native.Nat.{ℕ, _+_, _<_}
-use native.Mathlib.Omega.{arith}
 use lib.ListN.{getD}
 use lib.Dec.{eqb}
 use borrow.Author.Tests.{eq-eqb, ne-eqb, eqb-true}
-use Rattle.layout.specs.declared.CommitTime.{CommitTime}
 use Rattle.store.specs.declared.Life.{Life}
 use Rattle.store.specs.declared.Life.the-variants.{Free, Active, Committed}
 use Rattle.store.specs.declared.Place.{Place}
 use Rattle.store.specs.declared.Timing.the-variants.{Timed, Untimed}
-use Rattle.store.specs.Places.{placeAt, isFree, activeAs, committedAs, clockOf, timeOf}
+use Rattle.store.specs.Places.{placeAt, activeAs, committedAs, timeOf}
 use Rattle.memory.specs.Memory.{lifeBy, placeIn, placesOf}
 use Rattle.memory.proofs.ColumnLaws.{place-at}
 

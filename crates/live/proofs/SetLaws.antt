@@ -1,14 +1,11 @@
 -- Words set in one column leave a place that is read from them: each word that was set is read back, the others are as they
 -- were. Assumes nothing.
-use mathlib.Core.Path.{_≡_, refl, sym, ap, _∙_}
+use mathlib.Core.Path.{_≡_, ap, _∙_}
 use mathlib.Core.List.{List}
 use Prim.Native.Nat.{ℕ, _+_, _<_}
 use native.Mathlib.Omega.{arith}
-use lib.ListN.{length, getD, set, length-set}
+use lib.ListN.{length, set, length-set}
 use lib.Seq.{getD-set-same, getD-set-other}
-use Rattle.layout.specs.declared.TxNumber.{TxNumber}
-use Rattle.layout.specs.declared.CommitTime.{CommitTime}
-use Rattle.layout.specs.declared.EndPlace.{EndPlace}
 use Rattle.store.specs.declared.Life.the-variants.{Active, Committed}
 use Rattle.store.specs.Places.{freePlace, placeAt}
 use Rattle.store.specs.State.{withPlace}

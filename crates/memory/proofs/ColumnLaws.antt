@@ -2,14 +2,13 @@
 -- else of the state from these rows. Assumes nothing.
 use mathlib.Core.Path.{_≡_, refl, sym, ap, _∙_}
 use mathlib.Core.Bool.{Bool, true, false}
-use mathlib.Core.List.{List, [], _∷_}
+use mathlib.Core.List.{List}
 use Prim.Native.Nat.{ℕ, zero, suc, _+_, _%_, _≤_, _<_}
 use native.Mathlib.Omega.{arith}
 use lib.ListN.{length, getD, set, length-set}
 use lib.Seq.{getD-set-same, getD-set-other, ext-getD}
 use lib.Dec.{eqb}
 use borrow.Author.Tests.{eqb-true, eqb-false}
-use Rattle.store.specs.declared.Place.{Place}
 use Rattle.store.specs.Places.{freePlace, placeAt}
 use Rattle.store.specs.State.{withPlace}
 use Rattle.memory.specs.Memory.{placeIn, listed, placesOf, firstOf, stateBy, stateOf}

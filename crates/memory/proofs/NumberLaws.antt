@@ -1,18 +1,16 @@
 -- A word that is set changes what is read at its own index alone: so a number of row 0 or a first change is one field of the
 -- state, and a word behind row 1 leaves both alone. Assumes nothing.
-use mathlib.Core.Path.{_≡_, refl, sym, ap, _∙_, fun-ext}
+use mathlib.Core.Path.{_≡_, refl, ap, _∙_, fun-ext}
 use mathlib.Core.Bool.{Bool, true, false, cond}
-use mathlib.Core.Logic.{⊎-elim}
 use mathlib.Core.List.{List}
 use Prim.Native.Nat.{ℕ, _+_, _-_, _≤_, _<_}
 use native.Mathlib.Omega.{arith}
-use lib.ListN.{length, getD, set, take, drop, replicate}
+use lib.ListN.{length, getD, set, take, drop}
 use lib.Seq.{getD-take, getD-drop, getD-set-same, getD-set-other, drop-set-lt, drop-set-add, take-set-le, take-set-lt}
 use lib.Dec.{eqb}
 use borrow.Author.Tests.{eqb-true, eqb-false}
 use Rattle.fields.specs.Part.{part}
 use Rattle.store.specs.declared.Place.{Place}
-use Rattle.store.specs.declared.State.{State}
 use Rattle.memory.specs.With.{withSlots, withNext, withLast, withSaved, withEnd, withRing}
 use Rattle.memory.specs.Memory.{placeIn, listed, placesOf, firstOf, stateBy, stateOf, withFirst}
 

@@ -11,7 +11,6 @@ use Rattle.store.specs.declared.Life.the-variants.{Committed}
 use Rattle.store.specs.declared.Place.{Place}
 use Rattle.store.specs.declared.Found.{Found}
 use Rattle.store.specs.declared.Found.the-variants.{At, Nothing}
-use Rattle.store.specs.declared.State.{State}
 use Rattle.store.specs.Places.{first, isFree, placeAt, freePlace}
 use Rattle.store.specs.OpenLog.{Placed, Commitment, commitUnder}
 use Rattle.store.specs.OpenPairs.{endOfCommitment, tableFind, livePlace, takeAt, timeOrZero}

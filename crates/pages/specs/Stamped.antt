@@ -11,7 +11,6 @@ use Rattle.layout.specs.declared.slot.Slot.the-variants.{Empty, Waiting, Stampe
 use Rattle.store.specs.declared.Found.{Found}
 use Rattle.store.specs.declared.Found.the-variants.{At, Nothing}
 use Rattle.store.specs.declared.Place.{Place}
-use Rattle.store.specs.declared.State.{State}
 use Rattle.store.specs.declared.Timing.{Timing}
 use Rattle.store.specs.declared.Timing.the-variants.{Timed, Untimed}
 use Rattle.store.specs.Places.{placeAt, findCommitted, storedUnder, lowered}

@@ -1,18 +1,17 @@
 -- What the program writes out for an input is what the lines of the input print. `play` leads from one piece of a read to
 -- where its bytes lead, and the law of a run over a script holds however the input is cut into pieces.
-use mathlib.Core.Path.{_≡_, refl, sym, ap, _∙_}
-use mathlib.Core.Bool.{Bool, true, false, cond}
+use mathlib.Core.Path.{_≡_, refl, ap}
+use mathlib.Core.Bool.{true}
 use mathlib.Core.List.{List, []}
 use Prim.Native.Nat.{ℕ}
-use lib.Dec.{eqb}
 use borrow.Author.Tests.{eq-eqb}
 use Rattle.store.specs.declared.State.{State}
 use Rattle.script.specs.declared.call.Asked.{Asked}
 use Rattle.script.specs.declared.line.Line.{Line}
 use Rattle.script.specs.Form.{other}
 use Rattle.script.specs.Reader.{noLine, grownBy, seenOf}
-use Rattle.script.specs.Replay.{plain, replayOf, lineOf, meaningOf}
-use Rattle.script.specs.Run.{Step, stops, stand, overReads, joinedReads}
+use Rattle.script.specs.Replay.{plain, replayOf, meaningOf}
+use Rattle.script.specs.Run.{stops, stand, overReads, joinedReads}
 use Rattle.fields.proofs.Choose.{bool-case}
 use Rattle.script.proofs.Meaning.{line-meaning}
 use Rattle.script.proofs.RunLaws.{whole-reads}

@@ -1,34 +1,32 @@
 -- A line that looks leaves the room as it is, for the outcome of its call is the room's own state, medium and cache; and a
 -- list that is answered lies within its buffer.
-use mathlib.Core.Path.{_≡_, refl, sym, ap, _∙_}
-use mathlib.Core.Bool.{Bool, true, false, cond, _&&_}
+use mathlib.Core.Path.{_≡_, sym, ap, _∙_}
+use mathlib.Core.Bool.{true, false}
 use mathlib.Core.List.{List, [], _∷_, _++_, append-nil, append-assoc}
 use Prim.Native.Nat.{ℕ, _-_, _*_, _≤_}
 use native.Mathlib.Omega.{arith}
-use lib.ListN.{length, take, drop, replicate}
+use lib.ListN.{length, take, replicate}
 use lib.Seq.{length-take-le}
 use lib.Dec.{eqb, leb}
 use borrow.Author.Tests.{leb-true}
 use types.Run.{OneOf, miss}
 use denote.Enum.Declared.{tagOf}
 use Rattle.fields.specs.Block.{zeros}
-use Rattle.fields.proofs.PartLaws.{lent-rest}
 use Rattle.store.specs.declared.Answer.{Answer}
-use Rattle.store.specs.declared.Answer.the-variants.{Refused, Done, Begun, Written, Committed, Opened, Missing, Erased, Present, Listed}
+use Rattle.store.specs.declared.Answer.the-variants.{Refused, Listed}
 use Rattle.store.specs.declared.Refusal.{Refusal}
 use Rattle.store.specs.declared.State.{State}
 use Rattle.store.specs.Answer.{Outcome}
 use Rattle.store.specs.State.{fits}
 use Rattle.store.specs.CurrentRead.{reads}
 use Rattle.store.specs.Changes.{changeLines, changesIf, changesOf}
-use Rattle.store.proofs.Answer.{the-type as answer-type}
 use Rattle.script.specs.declared.call.Call.{Call}
 use Rattle.script.specs.declared.call.Call.the-variants.{Format, Open, OpenSized, Cut, Begin, Write, Erase, Read, Commit, Abort, AsOf, Changes, StoreLog, StorePage, Checkpoint, Block, Page, Poke, Other}
 use Rattle.script.proofs.call.Call.{the-type}
 use Rattle.fields.proofs.Choose.{bool-case, no}
 use Rattle.rooms.specs.declared.parts.Standing.{Standing}
-use Rattle.answers.specs.Text.{answerText, changesText, allAre, keptText, listText}
-use Rattle.rooms.specs.Room.{Room, ready, Turn, planOf, outcomeOf, called, calling, mediumIn, cacheIn, stays}
+use Rattle.answers.specs.Text.{answerText, listText}
+use Rattle.rooms.specs.Room.{ready, planOf, outcomeOf, called, calling}
 use Rattle.rooms.specs.Parts.{stageOf, mediumPart, cachePart, roomOf, Prints}
 use Rattle.rooms.proofs.RoomLaws.{stage-3, room-ready}
 

@@ -1,7 +1,7 @@
 -- What the table says of a line decides where it goes: a line from stage 3 on is a call, and of the lines below, those that
 -- change the room are `F`, `O`, `o`, `X` and `Z`.
 use mathlib.Core.Path.{_≡_, refl, sym, ap, _∙_}
-use mathlib.Core.Bool.{Bool, true, false, cond}
+use mathlib.Core.Bool.{false}
 use mathlib.Core.List.{List, [], _∷_}
 use Prim.Native.Nat.{ℕ, _≤_}
 use native.Mathlib.Omega.{arith}

@@ -1,13 +1,13 @@
 -- A line taken at once is its bytes taken one by one, so each turn of the loop over a read's lines goes on from where the
 -- bytes before it led.
 use mathlib.Core.Path.{_≡_, refl, sym, ap, _∙_}
-use mathlib.Core.Bool.{Bool, true, false, cond}
+use mathlib.Core.Bool.{true, false}
 use mathlib.Core.List.{List, [], _∷_, _++_}
 use Prim.Native.Nat.{ℕ, zero, suc, _+_, _-_, _≤_, _<_}
 use native.Mathlib.Omega.{arith}
 use lib.ListN.{length, take, drop, length-drop}
 use lib.Seq.{take-all}
-use lib.Dec.{eqb, leb}
+use lib.Dec.{eqb}
 use borrow.Author.Tests.{le-leb, lt-leb}
 use Rattle.store.specs.declared.State.{State}
 use Rattle.script.specs.declared.call.Asked.{Asked}
@@ -15,13 +15,13 @@ use Rattle.script.specs.declared.line.Line.{Line}
 use Rattle.script.specs.declared.line.Taken.{Taken}
 use Rattle.script.specs.Reader.{noLine, grown, takeOf}
 use Rattle.script.specs.Replay.{meaningOf}
-use Rattle.script.specs.Run.{Step, stops, goes, Stand, stand, stepped, turned, playOf}
+use Rattle.script.specs.Run.{Stand, stand, stepped, turned, playOf}
 use Rattle.fields.proofs.Choose.{bool-case, no}
 use Rattle.script.proofs.RunLaws.{play-append}
 use Rattle.script.proofs.TakeLaws.{take-next, step-on, step-stop}
 use Rattle.rooms.specs.declared.parts.Standing.{Standing}
 use Rattle.rooms.specs.declared.plan.Plan.{Plan}
-use Rattle.rooms.specs.Room.{Room, Turn, planOf, plays, turnOf}
+use Rattle.rooms.specs.Room.{Room, planOf, plays, turnOf}
 use Rattle.rooms.specs.Parts.{stageOf, roomOf}
 use Rattle.rooms.specs.Steps.{stepOf, does}
 use Rattle.rooms.proofs.RoomLaws.{stage-in}

@@ -1,18 +1,17 @@
 -- The room that the program keeps in its buffers: its stage decides which it is, and its medium and cache are the first
 -- bytes of the buffers.
-use mathlib.Core.Path.{_≡_, refl, sym, ap, _∙_}
-use mathlib.Core.Bool.{Bool, true, false, cond}
-use mathlib.Core.List.{List, [], _∷_, _++_, append-nil}
-use Prim.Native.Nat.{ℕ, zero, suc, _+_, _-_, _*_, _≤_, _<_, min}
+use mathlib.Core.Path.{_≡_, sym, ap, _∙_}
+use mathlib.Core.List.{List, _++_}
+use Prim.Native.Nat.{ℕ, _+_, _-_, _≤_, _<_, min}
 use native.Mathlib.Omega.{arith}
-use lib.ListN.{length, take, drop, set}
+use lib.ListN.{length, take, drop}
 use lib.Seq.{length-take-le, take-at}
-use lib.Dec.{eqb, ltb}
-use borrow.Author.Tests.{lt-ltb, le-ltb, ltb-true, ltb-false, eq-eqb, ne-eqb}
+use lib.Dec.{ltb}
+use borrow.Author.Tests.{lt-ltb, le-ltb, ltb-true, ltb-false}
 use Rattle.store.specs.declared.State.{State}
 use Rattle.fields.proofs.Choose.{bool-case}
 use Rattle.rooms.specs.declared.parts.Standing.{Standing}
-use Rattle.rooms.specs.Room.{Room, gone, shut, ready, blocksIn, pagesIn, mediumIn, cacheIn, stageIn, freshLength, rightLength}
+use Rattle.rooms.specs.Room.{gone, shut, ready, blocksIn, pagesIn, mediumIn, cacheIn, stageIn}
 use Rattle.rooms.specs.Parts.{stageOf, mediumPart, cachePart, roomOf}
 
 -- the stages

@@ -1,15 +1,15 @@
 -- What a line leaves in the buffers is what its definition leaves in the room: a call is lent the first bytes, and its
 -- outcome stands in their place.
 use mathlib.Core.Path.{_≡_, refl, sym, ap, _∙_}
-use mathlib.Core.Bool.{Bool, true, false, cond, _&&_}
-use mathlib.Core.List.{List, [], _∷_, _++_, append-nil}
-use Prim.Native.Nat.{ℕ, zero, suc, _+_, _-_, _*_, _≤_, _<_}
+use mathlib.Core.Bool.{false, cond, _&&_}
+use mathlib.Core.List.{List, _++_, append-nil}
+use Prim.Native.Nat.{ℕ, _+_, _-_, _≤_, _<_}
 use native.Mathlib.Omega.{arith}
 use native.Mathlib.Nat.{min-eq-left}
 use lib.ListN.{length, take, drop, set, replicate, length-take, length-replicate}
-use lib.Seq.{length-take-le, take-at, take-all, take-set-lt, set-out}
-use lib.Dec.{eqb, ltb, leb}
-use borrow.Author.Tests.{lt-ltb, le-ltb, eq-eqb, ne-eqb, eqb-true, eqb-false, le-leb}
+use lib.Seq.{length-take-le, take-at, take-set-lt, set-out}
+use lib.Dec.{eqb}
+use borrow.Author.Tests.{lt-ltb, le-ltb, eq-eqb, ne-eqb, eqb-true, le-leb}
 use Rattle.fields.specs.Block.{zeros, mediumLength, cacheLength}
 use Rattle.fields.proofs.Choose.{and-0, bool-case, no}
 use Rattle.store.specs.declared.Answer.{Answer}
@@ -17,14 +17,14 @@ use Rattle.store.specs.declared.Answer.the-variants.{Done}
 use Rattle.store.specs.declared.State.{State}
 use Rattle.store.specs.Answer.{Outcome, answerNumber, refusalNumber, leaves}
 use Rattle.store.specs.State.{inRange}
-use Rattle.store.specs.Format.{Formatted, formatIf, formatOf}
+use Rattle.store.specs.Format.{formatIf, formatOf}
 use Rattle.store.specs.Open.{openIf, openOf}
 use Rattle.store.proofs.FitLaws.{range-of}
 use Rattle.script.specs.declared.call.Call.{Call}
 use Rattle.script.specs.declared.call.Call.the-variants.{Format, Open, OpenSized, Cut, Begin, Write, Erase, Read, Commit, Abort, AsOf, Changes, StoreLog, StorePage, Checkpoint, Block, Page, Poke, Other}
 use Rattle.rooms.specs.declared.parts.Standing.{Standing}
 use Rattle.answers.specs.Text.{answerText}
-use Rattle.rooms.specs.Room.{Room, gone, shut, ready, Turn, planOf, blocksIn, pagesIn, mediumIn, freshLength, formatted, rightLength, opened, opening, cut, poked, outcomeOf, called, calling, moves}
+use Rattle.rooms.specs.Room.{Room, shut, ready, Turn, planOf, freshLength, formatted, rightLength, opened, opening, cut, poked, outcomeOf, called, calling, moves}
 use Rattle.rooms.specs.Parts.{stageOf, mediumPart, cachePart, roomOf, stageAfter, leftBy}
 use Rattle.rooms.proofs.RoomLaws.{first-back, stage-case, stage-2, stage-3, room-gone, room-shut, room-ready, medium-in, blocks-in, pages-in, medium-part, no-medium}
 

@@ -1,5 +1,4 @@
 -- The answer to the questions put to a write or an erase, with the place of its transaction and the record's earlier slot.
-use Prim.Native.Nat.{ℕ}
 use mathlib.Core.Option.{Option, none, some}
 use Rattle.store.specs.declared.Refusal.{Refusal}
 use Rattle.store.specs.declared.Refusal.the-variants.{NotActive}

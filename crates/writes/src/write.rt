@@ -8,14 +8,13 @@ use store::Found;
 use store::Refusal;
 ghost use mathlib.Core.Path.{_≡_};
 ghost use mathlib.Core.Option.{none};
-ghost use mathlib.Core.List.{List};
-ghost use Prim.Native.Nat.{ℕ, _<_};
+ghost use Prim.Native.Nat.{_<_};
 ghost use lib.ListN.{length, getD};
 ghost use Rattle.store.specs.declared.Found.the-variants.{At};
 ghost use Rattle.store.specs.Answer.{leaves, ask};
 ghost use Rattle.store.specs.Places.{findActive};
 ghost use Rattle.store.specs.Chain.{newest};
-ghost use Rattle.store.specs.Write.{writeAsks, orNone, newHead, written, writeStep, addOf, writeOf};
+ghost use Rattle.store.specs.Write.{writeAsks, orNone, written, writeStep, addOf, writeOf};
 ghost use Rattle.memory.specs.Memory.{placesOf, stateOf};
 ghost use Rattle.writes.specs.Asked.{writeVerdict};
 

@@ -1,6 +1,6 @@
 -- The words before the loop's place are zeros. Assumes nothing.
-use mathlib.Core.Path.{_≡_, refl, sym, ap, _∙_}
-use Prim.Native.Nat.{ℕ, zero, suc, _≤_, _-_}
+use mathlib.Core.Path.{_≡_, refl, sym, _∙_}
+use Prim.Native.Nat.{ℕ, zero, suc, _-_}
 use native.Mathlib.Omega.{arith}
 use lib.ListN.{length, getD, take, length-set, replicate, length-replicate}
 use Rattle.fields.proofs.PrefixLaws.{prefix-step, prefix-done}

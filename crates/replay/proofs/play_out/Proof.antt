@@ -1,5 +1,4 @@
 -- Only the first n bytes are lent, and n is at most the length.
-use mathlib.Core.Path.{_≡_, refl, sym, ap, _∙_}
 use native.Mathlib.Omega.{arith}
 use lib.ListN.{length-take}
 use borrow.Author.Needs.{needs}

@@ -1,8 +1,7 @@
 -- A block in range, or a dash.
-use mathlib.Core.Path.{_≡_, refl, sym, ap, _∙_}
 use native.Mathlib.Omega.{arith}
-use borrow.Author.Tests.{lt-ltb, le-ltb, le-leb, lt-leb, eq-eqb, ne-eqb, not-true, not-false}
-use Prim.Native.Nat.{ℕ, _+_, _-_, _*_, _≤_, _<_}
+use borrow.Author.Tests.{lt-ltb, le-ltb}
+use Prim.Native.Nat.{_-_, _*_}
 use Rattle.fields.specs.Block.{blk}
 use Rattle.fields.proofs.PartLaws.{lent-part, lent-length}
 use Rattle.answers.specs.Text.{blockText}

@@ -1,13 +1,12 @@
 -- Invariant: the lines put and the lines left are the whole list.
-use mathlib.Core.Path.{_≡_, refl, sym, ap, _∙_}
-use Prim.Native.Nat.{ℕ, _+_, _-_, _*_, _≤_, _<_}
+use mathlib.Core.Path.{_≡_, refl, _∙_}
+use Prim.Native.Nat.{_+_, _-_, _*_, _≤_}
 use native.Mathlib.Omega.{arith}
 use mathlib.Core.List.{_++_}
 use lib.ListN.{length, take, drop}
 use Rattle.fields.proofs.PartLaws.{lent-part, lent-length}
 use Rattle.answers.specs.Text.{changesText}
 use Rattle.answers.proofs.TextLaws.{changes-turn, changes-end, changes-start}
-use borrow.Author.Needs.{needs}
 use Rattle.answers.proofs.text.put_changes.Statement.{statement}
 use Rattle.answers.proofs.text.put_changes.Tie as tie
 

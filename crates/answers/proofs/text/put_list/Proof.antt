@@ -1,8 +1,8 @@
 -- The lines, and then the rest of the buffer.
-use mathlib.Core.Path.{_≡_, refl, sym, ap, _∙_}
+use mathlib.Core.Path.{sym}
 use native.Mathlib.Omega.{arith}
-use Prim.Native.Nat.{ℕ, _+_, _-_, _*_, _≤_, _<_}
-use mathlib.Core.List.{_++_, append-nil, append-assoc}
+use Prim.Native.Nat.{_-_}
+use mathlib.Core.List.{append-nil}
 use lib.ListN.{take}
 use Rattle.answers.proofs.TextLaws.{list-put, list-none}
 use borrow.Author.Needs.{needs}

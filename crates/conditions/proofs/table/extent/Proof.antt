@@ -4,7 +4,6 @@ use Prim.Native.Nat.{_-_}
 use native.Mathlib.Omega.{arith}
 use Rattle.conditions.specs.Lookup.{Extent}
 use Rattle.conditions.proofs.TableLaws.{extent-start, extent-turn}
-use borrow.Author.Needs.{needs}
 use Rattle.conditions.proofs.table.extent.Statement.{statement}
 use Rattle.conditions.proofs.table.extent.Tie as tie
 use Rattle.conditions.proofs.table.extent.Reads as reads

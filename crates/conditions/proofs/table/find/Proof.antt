@@ -1,7 +1,6 @@
 -- Number 0 has no place; any other is searched for up to the table's extent, behind which all places are empty.
 use mathlib.Core.Path.{sym, _∙_}
 use Rattle.conditions.proofs.TableLaws.{find-none, find-used}
-use borrow.Author.Needs.{needs}
 use Rattle.conditions.proofs.table.find.Statement.{statement}
 use Rattle.conditions.proofs.table.find.Tie as tie
 use Rattle.conditions.proofs.table.find.Reads as reads

@@ -1,5 +1,5 @@
 -- The kept bytes are compared with those that stand there.
-use mathlib.Core.Path.{_≡_, ap, _∙_}
+use mathlib.Core.Path.{ap, _∙_}
 use mathlib.Core.Bool.{not}
 use lib.ListN.{take}
 use Rattle.fields.specs.Equal.{eqList}

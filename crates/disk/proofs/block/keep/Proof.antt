@@ -1,5 +1,5 @@
 -- The copy fills the first bytes.
-use mathlib.Core.Path.{_≡_, sym, _∙_}
+use mathlib.Core.Path.{sym, _∙_}
 use Rattle.fields.proofs.PartLaws.{lent-part, lent-length}
 use Rattle.rooms.proofs.RoomLaws.{first-length, first-back}
 use borrow.Author.Needs.{needs}

@@ -1,7 +1,6 @@
 -- The line is the room's; what it says of the file holds of any two media that are alike but for the block.
-use mathlib.Core.Path.{_≡_, sym, _∙_}
+use mathlib.Core.Path.{_∙_}
 use native.Mathlib.Omega.{arith}
-use lib.ListN.{take}
 use Rattle.memory.specs.Memory.{stateOf}
 use Rattle.disk.proofs.StepLaws.{line-whole, line-changed, line-stored}
 use borrow.Author.Needs.{needs}

@@ -1,9 +1,8 @@
 -- Invariant: the bytes before i are those of the source.
-use mathlib.Core.Path.{_≡_, refl, sym, ap, _∙_}
-use Prim.Native.Nat.{_≤_, _-_}
+use mathlib.Core.Path.{_≡_, refl, sym, _∙_}
+use Prim.Native.Nat.{_-_}
 use native.Mathlib.Omega.{arith}
-use borrow.Author.Needs.{needs}
-use lib.ListN.{length, take, drop, length-set, replicate, length-replicate, getD-replicate}
+use lib.ListN.{length, take, length-set}
 use Rattle.fields.proofs.PrefixLaws.{prefix-step, prefix-done}
 use Rattle.fields.proofs.block.copy.Statement.{statement}
 use Rattle.fields.proofs.block.copy.Tie as tie

@@ -1,5 +1,4 @@
 -- Equal bytes leave what was noted, others note a difference. Assumes nothing.
-use mathlib.Core.Path.{sym}
 use borrow.Author.Tests.{eq-eqb, ne-eqb}
 use Rattle.fields.proofs.block.difference.Statement.{statement}
 use Rattle.fields.proofs.block.difference.Tie as tie

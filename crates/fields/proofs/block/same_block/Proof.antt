@@ -1,6 +1,4 @@
 -- `block::same_block` meets its contract: the lent part is block k.
-use mathlib.Core.Path.{_∙_, ap}
-use Prim.Native.Nat.{_*_}
 use native.Mathlib.Nat.{add-sub-cancel-left}
 use Rattle.fields.specs.Block.{blk}
 use borrow.Author.Needs.{needs}

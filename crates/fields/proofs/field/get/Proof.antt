@@ -4,8 +4,7 @@ use mathlib.Core.Path.{_≡_}
 use Prim.Native.Nat.{_≤_, _-_}
 use native.Mathlib.Omega.{arith}
 use borrow.Author.Needs.{needs}
-use lib.ListN.{length, drop, length-drop}
-use lib.Seq.{drop-length}
+use lib.ListN.{length, drop}
 use Rattle.fields.specs.Field.{dec}
 use Rattle.fields.proofs.FieldLaws.{dec-end, dec-turn, dec-room, dec-all}
 use Rattle.fields.proofs.field.get.Statement.{statement}

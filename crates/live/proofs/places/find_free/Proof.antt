@@ -4,7 +4,6 @@ use mathlib.Core.Bool.{Bool}
 use mathlib.Core.List.{List}
 use Prim.Native.Nat.{ℕ, _+_, _-_, _%_}
 use native.Mathlib.Omega.{arith}
-use borrow.Author.Needs.{needs}
 use Rattle.store.specs.Places.{first, placeAt, isFree, findFree, ringPlace}
 use Rattle.memory.specs.Memory.{placesOf}
 use Rattle.live.proofs.FirstLaws.{first-hit, first-miss, first-none}

@@ -1,12 +1,10 @@
 -- The count is one more, or stays at the highest. Assumes nothing.
-use mathlib.Core.Path.{_≡_, refl, sym, ap, _∙_}
+use mathlib.Core.Path.{_≡_, sym, ap, _∙_}
 use mathlib.Core.List.{List}
 use Prim.Native.Nat.{ℕ, _+_, _-_, _^_, _<_, min}
 use native.Mathlib.Omega.{arith}
-use lib.ListN.{length, getD, set}
+use lib.ListN.{getD}
 use lib.Seq.{set-getD}
-use Rattle.store.specs.declared.Place.{Place}
-use Rattle.store.specs.declared.State.{State}
 use Rattle.store.specs.Places.{placeAt, raised}
 use Rattle.store.specs.State.{withPlace}
 use Rattle.memory.specs.Memory.{placesOf, stateOf}

@@ -1,11 +1,10 @@
 -- The place found is committed under the number, and its time is a word of it. Assumes nothing.
 use mathlib.Core.Path.{_≡_, sym, ap, _∙_}
 use mathlib.Core.Bool.{true}
-use Prim.Native.Nat.{ℕ, _<_}
+use Prim.Native.Nat.{_<_}
 use native.Mathlib.Omega.{arith}
 use Rattle.store.specs.declared.Found.{Found}
 use Rattle.store.specs.declared.Found.the-variants.{At}
-use Rattle.store.specs.declared.Timing.{Timing}
 use Rattle.store.specs.Places.{placeAt, committedAs, findCommitted, timeOf, atFound, timeUnder}
 use Rattle.store.proofs.SearchLaws.{first-found}
 use Rattle.memory.specs.Memory.{placesOf}

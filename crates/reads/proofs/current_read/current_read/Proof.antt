@@ -1,6 +1,6 @@
 -- The questions are put in their order, and the version is found from the newest one on. Assumes nothing.
 use mathlib.Core.Path.{_≡_, sym, ap, _∙_}
-use mathlib.Core.Bool.{true, false}
+use mathlib.Core.Bool.{true}
 use lib.ListN.{length, getD}
 use borrow.Author.Tests.{not-true, not-false}
 use Rattle.store.specs.declared.Found.{Found}

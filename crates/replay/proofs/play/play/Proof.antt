@@ -1,14 +1,13 @@
 -- Invariant: the bytes taken led to where the run stands.
-use mathlib.Core.Path.{_≡_, refl, sym, ap, _∙_}
-use Prim.Native.Nat.{ℕ, _+_, _-_, _*_, _≤_, _<_}
+use mathlib.Core.Path.{_≡_, refl, sym, _∙_}
+use Prim.Native.Nat.{_-_, _*_, _≤_}
 use native.Mathlib.Omega.{arith}
-use mathlib.Core.Bool.{true, false}
+use mathlib.Core.Bool.{true}
 use mathlib.Core.List.{[]}
 use lib.ListN.{length, take}
 use borrow.Author.Tests.{not-true, not-false}
 use Rattle.script.specs.Run.{stand, playOf}
 use Rattle.script.proofs.TakeLaws.{step-on}
-use Rattle.rooms.specs.declared.plan.Plan.{Plan}
 use Rattle.rooms.specs.Parts.{roomOf}
 use Rattle.rooms.specs.Steps.{does}
 use Rattle.rooms.proofs.PlayLaws.{play-stop, play-over, play-goes, not-played, is-played}

@@ -1,5 +1,5 @@
 -- A read leaves the room as it is.
-use mathlib.Core.Path.{_≡_, refl}
+use mathlib.Core.Path.{refl}
 use lib.ListN.{take}
 use Rattle.rooms.proofs.LookLaws.{read-prints}
 use borrow.Author.Needs.{needs}

@@ -1,7 +1,7 @@
 -- Each look reads the room where it lies in the buffers; no other line comes here.
-use mathlib.Core.Path.{_≡_, refl, sym, ap, _∙_}
+use mathlib.Core.Path.{refl}
 use native.Mathlib.Omega.{arith}
-use lib.ListN.{length, take, length-take}
+use lib.ListN.{take, length-take}
 use Rattle.rooms.specs.Room.{planOf, outcomeOf, turnBy, turnOf}
 use Rattle.rooms.proofs.RoomLaws.{stage-most, medium-in, cache-in}
 use Rattle.rooms.proofs.RoomLaws.{first-length}

@@ -1,6 +1,6 @@
 -- By the stage.
 use native.Mathlib.Omega.{arith}
-use borrow.Author.Tests.{lt-ltb, le-ltb, le-leb, lt-leb, eq-eqb, ne-eqb, not-true, not-false}
+use borrow.Author.Tests.{lt-ltb, le-ltb}
 use Rattle.rooms.specs.Parts.{cachePart}
 use borrow.Author.Needs.{needs}
 use Rattle.rooms.proofs.parts.cache_part.Statement.{statement}

@@ -1,10 +1,9 @@
 -- Invariant: the first i bytes are written.
-use mathlib.Core.Path.{_≡_, refl, sym, ap, _∙_}
-use Prim.Native.Nat.{ℕ, _+_, _-_, _*_, _≤_, _<_}
+use mathlib.Core.Path.{_≡_, refl, sym}
+use Prim.Native.Nat.{_-_}
 use native.Mathlib.Omega.{arith}
 use lib.ListN.{length, take, length-set, replicate, length-replicate, getD-replicate}
 use Rattle.fields.proofs.PrefixLaws.{prefix-step, prefix-done}
-use borrow.Author.Needs.{needs}
 use Rattle.rooms.proofs.parts.fill.Statement.{statement}
 use Rattle.rooms.proofs.parts.fill.Tie as tie
 

@@ -1,5 +1,5 @@
 -- Sizes in range: the largest medium has 99 blocks.
-use mathlib.Core.Path.{_≡_, sym, _∙_}
+use mathlib.Core.Path.{sym, _∙_}
 use native.Mathlib.Omega.{arith}
 use Rattle.fields.specs.Block.{mediumLength}
 use Rattle.store.proofs.FitLaws.{range-of}

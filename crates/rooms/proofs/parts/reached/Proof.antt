@@ -1,7 +1,6 @@
 -- By the stage.
-use borrow.Author.Tests.{lt-ltb, le-ltb, le-leb, lt-leb, eq-eqb, ne-eqb, not-true, not-false}
+use borrow.Author.Tests.{lt-ltb, le-ltb}
 use Rattle.rooms.specs.Parts.{stageOf}
-use borrow.Author.Needs.{needs}
 use Rattle.rooms.proofs.parts.reached.Statement.{statement}
 use Rattle.rooms.proofs.parts.reached.Tie as tie
 

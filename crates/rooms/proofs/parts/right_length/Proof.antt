@@ -1,7 +1,6 @@
 -- A cache of at most 64 pages.
-use mathlib.Core.Path.{_≡_, refl, sym, ap, _∙_}
 use native.Mathlib.Omega.{arith}
-use borrow.Author.Tests.{lt-ltb, le-ltb, le-leb, lt-leb, eq-eqb, ne-eqb, not-true, not-false}
+use borrow.Author.Tests.{le-leb, lt-leb}
 use Rattle.fields.specs.Block.{cacheLength}
 use Rattle.rooms.specs.Room.{rightLength}
 use borrow.Author.Needs.{needs}

@@ -1,7 +1,6 @@
 -- By the test.
-use borrow.Author.Tests.{lt-ltb, le-ltb, le-leb, lt-leb, eq-eqb, ne-eqb, not-true, not-false}
+use borrow.Author.Tests.{le-leb, lt-leb}
 use Rattle.rooms.specs.Room.{withinBuffer}
-use borrow.Author.Needs.{needs}
 use Rattle.rooms.proofs.plan.within.Statement.{statement}
 use Rattle.rooms.proofs.plan.within.Tie as tie
 

@@ -8,7 +8,7 @@ use Rattle.rooms.specs.Parts.{roomOf}
 use Rattle.rooms.specs.Room.{turnOf}
 use Rattle.rooms.proofs.PlayLaws.{play-stop, play-over, play-goes, not-played, is-played}
 use Rattle.striproom.proofs.PlayLaws.{at-first, leads}
-use mathlib.Core.Path.{_≡_, refl}
+use mathlib.Core.Path.{refl}
 use native.Mathlib.Omega.{arith}
 use Rattle.script.proofs.TakeLaws.{step-on}
 use borrow.Author.Needs.{needs}

@@ -1,9 +1,9 @@
 -- The place is taken, then the next number and the ring move on: each changes one field of the state. Assumes nothing.
 use Prim.Native.Nat.{_+_, _%_}
 use lib.ListN.{getD}
-use mathlib.Core.Path.{_≡_, refl, sym, ap, _∙_}
+use mathlib.Core.Path.{ap, _∙_}
 use native.Mathlib.Omega.{arith}
-use lib.ListN.{length, set, length-set}
+use lib.ListN.{set, length-set}
 use Rattle.store.specs.declared.State.{State}
 use Rattle.store.specs.Begin.{begun}
 use Rattle.store.specs.State.{withPlace}

@@ -3,10 +3,9 @@
 use mathlib.Core.Path.{_≡_, sym, _∙_}
 use mathlib.Core.Option.{none}
 use Prim.Native.Nat.{_<_}
-use native.Mathlib.Omega.{arith}
 use Rattle.store.specs.declared.Found.the-variants.{At}
 use Rattle.store.specs.Answer.{ask}
-use Rattle.store.specs.Places.{findActive, placeAt}
+use Rattle.store.specs.Places.{findActive}
 use Rattle.store.specs.Commit.{commitAsks}
 use Rattle.memory.specs.Memory.{placesOf, stateBy, stateOf}
 use Rattle.live.proofs.FirstLaws.{active-below}

@@ -1,7 +1,5 @@
 -- The place is committed, then the last time moves: each changes one field of the state. Assumes nothing.
-use mathlib.Core.Path.{_≡_, sym, ap, _∙_}
-use mathlib.Core.List.{List}
-use Rattle.layout.specs.declared.EndPlace.{EndPlace}
+use mathlib.Core.Path.{ap, _∙_}
 use Rattle.store.specs.declared.State.{State}
 use Rattle.store.specs.Commit.{committed}
 use Rattle.store.specs.State.{withPlace}

@@ -1,8 +1,4 @@
 -- The clock at begin is a word of the place, the last time a number of the state. Assumes nothing.
-use mathlib.Core.Path.{_≡_, sym, ap, _∙_}
-use Prim.Native.Nat.{ℕ, _+_, max}
-use lib.ListN.{getD}
-use Rattle.layout.specs.declared.CommitTime.{CommitTime}
 use Rattle.store.specs.Commit.{commitTime}
 use Rattle.memory.specs.Memory.{stateBy, stateOf}
 use borrow.Author.Needs.{needs}

@@ -1,7 +1,7 @@
 -- A refused opening leaves the room; an accepted one is given its cache.
-use mathlib.Core.Path.{_≡_, refl, sym, ap, _∙_}
+use mathlib.Core.Path.{sym, _∙_}
 use native.Mathlib.Omega.{arith}
-use lib.ListN.{length, take, drop, replicate, length-take, length-append, length-drop, length-replicate}
+use lib.ListN.{length-take, length-append, length-drop}
 use Rattle.rooms.proofs.RoomLaws.{first-length}
 use Rattle.turns.proofs.TurnLaws.{open-refused, open-taken}
 use Rattle.memory.specs.Memory.{stateOf}

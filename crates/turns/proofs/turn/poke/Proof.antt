@@ -1,5 +1,4 @@
 -- A byte within the medium, or none.
-use native.Mathlib.Omega.{arith}
 use Rattle.turns.proofs.TurnLaws.{poke-in, poke-out}
 use borrow.Author.Needs.{needs}
 use Rattle.turns.proofs.turn.poke.Statement.{statement}

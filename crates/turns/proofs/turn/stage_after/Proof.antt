@@ -1,5 +1,5 @@
 -- By the number of the refusal.
-use mathlib.Core.Path.{_≡_, sym, _∙_}
+use mathlib.Core.Path.{sym, _∙_}
 use borrow.Author.Tests.{eq-eqb, ne-eqb}
 use Rattle.rooms.specs.Parts.{stageAfter}
 use borrow.Author.Needs.{needs}

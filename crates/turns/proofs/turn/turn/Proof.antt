@@ -1,5 +1,5 @@
 -- A line from stage 3 on is a call; the others go by their letter, and no other line comes here.
-use mathlib.Core.Path.{_≡_, refl, sym, ap, _∙_}
+use mathlib.Core.Path.{refl, sym, ap, _∙_}
 use native.Mathlib.Omega.{arith}
 use Rattle.rooms.specs.declared.plan.Plan.{Plan}
 use Rattle.rooms.specs.Room.{planOf, turnBy, turnOf}

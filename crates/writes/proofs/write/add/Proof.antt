@@ -1,10 +1,8 @@
 -- The verdict names the refusal, or says that all questions are passed, where the transaction is, and the earlier slot;
 -- the step is then the definition's. Assumes nothing.
-use mathlib.Core.Path.{_≡_, refl, sym, ap, _∙_}
+use mathlib.Core.Path.{_≡_, refl}
 use mathlib.Core.Option.{none}
-use Prim.Native.Nat.{ℕ}
 use lib.ListN.{getD}
-use Rattle.layout.specs.declared.item.VersionHead.{VersionHead}
 use Rattle.store.specs.declared.Found.the-variants.{At}
 use Rattle.store.specs.Answer.{ask}
 use Rattle.store.specs.Chain.{newest}

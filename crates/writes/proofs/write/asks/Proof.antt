@@ -1,13 +1,12 @@
 -- Each answer is the one that the definition gives once the questions before it are answered. Assumes nothing.
 use mathlib.Core.Path.{_≡_, sym, ap, _∙_}
-use mathlib.Core.Bool.{true, not}
-use Prim.Native.Nat.{_*_}
+use mathlib.Core.Bool.{true}
 use native.Mathlib.Omega.{arith}
 use lib.ListN.{length, getD}
 use borrow.Author.Tests.{not-true, not-false, lt-ltb, le-ltb}
 use Rattle.store.specs.declared.Found.{Found}
 use Rattle.store.specs.declared.Found.the-variants.{At}
-use Rattle.store.specs.Chain.{newest, heldAt, held}
+use Rattle.store.specs.Chain.{heldAt, held}
 use Rattle.store.specs.Places.{findActive}
 use Rattle.store.specs.State.{fits}
 use Rattle.store.proofs.FitLaws.{fit-of}

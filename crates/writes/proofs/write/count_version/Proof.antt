@@ -3,7 +3,7 @@ use Rattle.fields.specs.Block.{pageOf}
 use Rattle.writes.proofs.WriteLaws.{counted}
 use lib.ListN.{getD, length-set}
 use Prim.Native.Nat.{_+_}
-use mathlib.Core.Path.{_≡_, refl, _∙_}
+use mathlib.Core.Path.{refl, _∙_}
 use Rattle.memory.specs.Memory.{stateBy, stateOf}
 use Rattle.memory.proofs.NumberLaws.{set-slots}
 use borrow.Author.Needs.{needs}

@@ -3,7 +3,7 @@
 use Prim.Native.Nat.{_+_, _*_, _<_, _≤_}
 use Rattle.fields.specs.Block.{pageOf}
 use native.Mathlib.Omega.{arith}
-use lib.ListN.{length, getD}
+use lib.ListN.{length}
 use Rattle.layout.specs.Journal.{recordSize}
 use Rattle.memory.specs.Memory.{stateBy, stateOf}
 use Rattle.live.proofs.FirstLaws.{active-below}
