@@ -9,3 +9,4 @@ pub mod ByteLaws
 pub mod PickLaws
 pub mod ListLaws
 pub mod AsOf
+pub mod Changes
