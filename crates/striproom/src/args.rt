@@ -1,6 +1,7 @@
 // The arguments: a file, and perhaps the descriptor to which the exit code is written.
 use libc::STDERR_FILENO;
 ghost use mathlib.Core.Path.{_≡_};
+ghost use Prim.Native.Nat.{_<_};
 ghost use Rattle.striproom.specs.Arguments.{oneDigit, twoDigits, descriptorOf, isRight};
 
 // A descriptor of one digit; 1 where it is none from 3 on.
@@ -49,7 +50,9 @@ fn descriptor(word: &[u8]) -> u8
 }
 
 // Where the exit code goes: 0 for nowhere, 1 where the second argument is no descriptor.
-pub fn code_to(count: usize) -> u8 {
+pub fn code_to(count: usize) -> u8
+    ensures { λ r. ⌜ (count < 3 → r ≡ 0) ⌝ }
+{
     if count < 3 {
         return 0;
     }

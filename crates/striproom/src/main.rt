@@ -12,6 +12,7 @@ ghost use mathlib.Core.Path.{_≡_};
 ghost use mathlib.Core.Bool.{false};
 ghost use Prim.Native.Nat.{_≤_};
 ghost use lib.ListN.{length};
+ghost use Rattle.striproom.specs.File.{firstOf};
 
 // Plays all the bytes.
 fn play_all(
@@ -135,6 +136,7 @@ fn read_some(
 // How the room stands before the first line: without a medium where the file is missing.
 fn first(fd: i32, medium: &[u8], bytes: usize) -> Standing
     requires { ⌜ bytes ≤ length (now medium) ⌝ }
+    ensures { λ r. ⌜ r ≡ firstOf fd (now (medium .entry)) bytes ⌝ }
 {
     if fd < 0 {
         return Standing {

@@ -23,6 +23,9 @@ ghost use Rattle.script.specs.Run.{stand, playOf};
 ghost use Rattle.rooms.specs.Room.{planOf, turnOf};
 ghost use Rattle.rooms.specs.Parts.{stageOf, roomOf};
 ghost use Rattle.rooms.specs.Steps.{does};
+ghost use Rattle.files.specs.Codes.{missingCode};
+ghost use Rattle.disk.specs.Stored.{isFormat};
+ghost use Rattle.striproom.specs.File.{Apart};
 ghost use Rattle.striproom.specs.Play.{Answered, Leads};
 
 // Where a run stands: the line begun, the room, the file's descriptor (-1: it is missing), whether the run goes on, the
@@ -43,7 +46,9 @@ pub struct Kept {
 }
 
 // The start of a run.
-pub fn starts(line: Line, standing: Standing, fd: i32) -> Run {
+pub fn starts(line: Line, standing: Standing, fd: i32) -> Run
+    ensures { λ r. ⌜ r ≡ record { line = line; standing = standing; fd = fd; on = true; code = 0; next = 0 } ⌝ }
+{
     Run {
         line: line,
         standing: standing,
@@ -64,10 +69,11 @@ fn stops(run: Run, code: u8) -> Run
     r
 }
 
-// Stores the bytes that a line changed.
+// Stores the bytes that a line changed, if any did.
 fn keep_part(fd: i32, medium: &[u8], changed: bool, at: usize, len: usize) -> u8
     requires { ⌜ length (now medium) ≡ 50688 ⌝ }
     requires { ⌜ at + len ≤ 50688 ⌝ }
+    ensures { λ r. ⌜ (changed ≡ false → r ≡ 0) ⌝ }
 {
     if !changed {
         return 0;
@@ -78,6 +84,8 @@ fn keep_part(fd: i32, medium: &[u8], changed: bool, at: usize, len: usize) -> u8
 // Stores a formatted medium. A refused formatting leaves the file as it is; without a file it is an error.
 fn keep_whole(name: &[u8], to: u8, fd: i32, t: Standing, medium: &[u8]) -> Kept
     requires { ⌜ length (now medium) ≡ 50688 ⌝ }
+    ensures { λ r. ⌜ (t .stage < 2 → r ≡ record { fd = fd; code = missingCode fd }) ⌝ }
+    ensures { λ r. ⌜ (Apart fd to → r .code ≡ 0 → Apart (r .fd) to) ⌝ }
 {
     if t.stage < 2 {
         return Kept {
@@ -104,6 +112,8 @@ fn keep_whole(name: &[u8], to: u8, fd: i32, t: Standing, medium: &[u8]) -> Kept
 fn keep(call: Call, played: Played, name: &[u8], to: u8, fd: i32, medium: &[u8]) -> Kept
     requires { ⌜ length (now medium) ≡ 50688 ⌝ }
     requires { ⌜ played .at + played .len ≤ 50688 ⌝ }
+    ensures { λ r. ⌜ (isFormat call ≡ false → played .changed ≡ false → r ≡ record { fd = fd; code = 0 }) ⌝ }
+    ensures { λ r. ⌜ (Apart fd to → r .code ≡ 0 → Apart (r .fd) to) ⌝ }
 {
     let t = played.standing;
     match call {
@@ -138,6 +148,7 @@ fn turn(
     requires { ⌜ p .stage ≤ stageOf (run .standing) ⌝ }
     ensures { λ r. ⌜ r .next ≡ run .next ⌝ }
     ensures { λ r. ⌜ (r .code ≡ 0 → (r .line ≡ run .line) × (r .on ≡ run .on) × Answered (turnOf asked (roomOf (run .standing) (now (medium .entry)) (now (cache .entry)) (stateOf (now (words .entry)) (now (tail .entry))))) (roomOf (r .standing) (now (medium .exit)) (now (cache .exit)) (stateOf (now (words .exit)) (now (tail .exit)))) (now (out .exit))) ⌝ }
+    ensures { λ r. ⌜ (Apart (run .fd) to → r .code ≡ 0 → Apart (r .fd) to) ⌝ }
 {
     let before = run.standing;
     let played = step::play(asked, p, before, words, tail, medium, cache, buffer, out, 0);
@@ -177,6 +188,7 @@ pub fn play(
     requires { ⌜ 0 < length (now bytes) ⌝ }
     ensures { λ r. ⌜ (0 < r .next) × (r .next ≤ length (now (bytes .entry))) ⌝ }
     ensures { λ r. ⌜ (run .on ≡ true → r .code ≡ 0 → Leads (playOf does (stand (run .line) (roomOf (run .standing) (now (medium .entry)) (now (cache .entry)) (stateOf (now (words .entry)) (now (tail .entry)))) true []) (take (r .next) (now (bytes .entry)))) (r .line) (roomOf (r .standing) (now (medium .exit)) (now (cache .exit)) (stateOf (now (words .exit)) (now (tail .exit)))) (r .on) (now (out .exit))) ⌝ }
+    ensures { λ r. ⌜ (Apart (run .fd) to → r .code ≡ 0 → Apart (r .fd) to) ⌝ }
 {
     let begun = run.line;
     let taken = line::take(begun, bytes, 0);

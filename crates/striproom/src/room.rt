@@ -2,8 +2,12 @@
 use files::Loaded;
 use files::outcome;
 ghost use mathlib.Core.Path.{_≡_};
+ghost use mathlib.Core.Bool.{true};
 ghost use Prim.Native.Nat.{_≤_};
 ghost use lib.ListN.{length};
+ghost use lib.IntN.{negsuc};
+ghost use Rattle.files.specs.Codes.{isFree};
+ghost use Rattle.striproom.specs.File.{Apart};
 
 // A file with its descriptor (-1: it is missing) and its length, or the exit code of what went wrong.
 pub struct Opened {
@@ -14,7 +18,7 @@ pub struct Opened {
 
 // A file that is not used after all.
 fn shut(fd: i32, code: u8) -> Opened
-    ensures { λ r. ⌜ r .bytes ≡ 0 ⌝ }
+    ensures { λ r. ⌜ r ≡ record { fd = negsuc 0; bytes = 0; code = code } ⌝ }
 {
     libc::close(fd);
     Opened {
@@ -27,6 +31,7 @@ fn shut(fd: i32, code: u8) -> Opened
 // Opens the file and reads it into the front of the medium.
 pub fn open(name: &[u8], to: u8, medium: &mut [u8]) -> Opened
     ensures { λ r. ⌜ r .bytes ≤ length (now (medium .entry)) ⌝ }
+    ensures { λ r. ⌜ (r .code ≡ 0 → Apart (r .fd) to) ⌝ }
 {
     let fd = os::open_update(name);
     if fd < 0 {
@@ -55,7 +60,9 @@ pub fn open(name: &[u8], to: u8, medium: &mut [u8]) -> Opened
 }
 
 // Makes a file that is missing.
-fn create(name: &[u8], to: u8) -> Opened {
+fn create(name: &[u8], to: u8) -> Opened
+    ensures { λ r. ⌜ (r .code ≡ 0 → isFree (r .fd) to ≡ true) ⌝ }
+{
     let fd = os::create(name);
     if fd < 0 {
         return Opened {
@@ -76,7 +83,9 @@ fn create(name: &[u8], to: u8) -> Opened {
 }
 
 // The file for a formatting: the one that is open, or a new one.
-pub fn have(name: &[u8], to: u8, fd: i32) -> Opened {
+pub fn have(name: &[u8], to: u8, fd: i32) -> Opened
+    ensures { λ r. ⌜ (Apart fd to → r .code ≡ 0 → isFree (r .fd) to ≡ true) ⌝ }
+{
     if fd < 0 {
         return create(name, to);
     }

@@ -1,8 +1,9 @@
--- What a line needs of the buffers stands in what is required, and no call changes their lengths.
-use Prim.Native.Nat.{ℕ}
-use Rattle.striproom.specs.declared.play.Run.{Run}
+-- What a line needs of the buffers stands in what is required, and no call changes their lengths. Where nothing fails, the
+-- descriptor is the kept one.
+use mir.Syntax.{w32}
+use mir.ValLaws.{toZ-ofZ}
 use Rattle.striproom.proofs.PlayLaws.{answered}
-use mathlib.Core.Path.{_≡_, refl, sym, ap, _∙_}
+use mathlib.Core.Path.{refl, _∙_}
 use native.Mathlib.Omega.{arith}
 use lib.ListN.{length-take}
 use borrow.Author.Needs.{needs}
@@ -31,7 +32,7 @@ same-length-4 : tie.Need-same-length-4
 same-length-4 c = search needs
 
 returns : tie.Need-returns
-returns c = (ap (λ (x : Run). x .next) (c .stops .ensures), λ z. absurd (c .before .if1 .taken (ap (λ (x : Run). x .code) (sym (c .stops .ensures)) ∙ z)))
+returns c = rw (c .stops .ensures) (refl, (λ z. absurd (c .before .if1 .taken z), λ a z. absurd (c .before .if1 .taken z)))
 
 slice-reshare-prefix-write-all : tie.Need-slice-reshare-prefix-write-all
 slice-reshare-prefix-write-all c = omega (arith, c .before .before .before .before .before .before .before .before .before .before .before .before .before .play .ensures .0, c .before .before .before .before .before .before .out .given, c .before .before .before .before .before .before .before .before .before .before .before .before .before .before .before .before .before .before .before .before .before .before .before .before .before .before .pre .1 .1 .1 .0)
@@ -52,13 +53,13 @@ same-length-6 : tie.Need-same-length-6
 same-length-6 c = c .before .before .before .before .before .before .before .before .before .before .before .before .before .before .cache .given
 
 same-length-7 : tie.Need-same-length-7
-same-length-7 c = search needs
+same-length-7 c = c .before .before .before .before .before .before .before .before .before .before .before .before .buffer .given
 
 same-length-8 : tie.Need-same-length-8
-same-length-8 c = search needs
+same-length-8 c = c .before .before .before .before .before .before .before .before .before .before .out .given
 
 returns-2 : tie.Need-returns-2
-returns-2 c = (ap (λ (x : Run). x .next) (c .stops2 .ensures), λ z. let w : _≡_ {A = ℕ} 8 0 = ap (λ (x : Run). x .code) (sym (c .stops2 .ensures)) ∙ z in absurd (omega arith))
+returns-2 c = rw (c .stops2 .ensures) (refl, (λ z. absurd (omega arith), λ a z. absurd (omega arith)))
 
 same-length-9 : tie.Need-same-length-9
 same-length-9 c = search needs
@@ -73,7 +74,7 @@ same-length-12 : tie.Need-same-length-12
 same-length-12 c = search needs
 
 returns-3 : tie.Need-returns-3
-returns-3 c = let e = c .before .before .before .before .before .before .before .before .before .before .before .before .before .before .before .before .before .before .play .ensures in (refl, λ z. (refl, refl, answered _ _ (c .before .before .before .before .before .before .before .before .before .before .before .before .before .before .before .before .before .before .play .result .n) (c .before .before .before .before .before .before .before .before .before .before .before .before .before .before .before .before .before .before .play .last .1 .1 .1 .1 .1 .1 .1 .1 .0) (e .1 .0) (e .1 .1 .0) (omega (arith, e .0, c .before .before .before .before .before .before .before .before .before .before .before .out .given, c .before .before .before .before .before .before .before .before .before .before .before .before .before .before .before .before .before .before .before .before .before .before .before .before .before .before .before .before .before .before .before .pre .1 .1 .1 .0))))
+returns-3 c = let e = c .before .before .before .before .before .before .before .before .before .before .before .before .before .before .before .before .before .before .play .ensures in (refl, (λ z. (refl, refl, answered _ _ (c .before .before .before .before .before .before .before .before .before .before .before .before .before .before .before .before .before .before .play .result .n) (c .before .before .before .before .before .before .before .before .before .before .before .before .before .before .before .before .before .before .play .last .1 .1 .1 .1 .1 .1 .1 .1 .0) (e .1 .0) (e .1 .1 .0) (omega (arith, e .0, c .before .before .before .before .before .before .before .before .before .before .before .out .given, c .before .before .before .before .before .before .before .before .before .before .before .before .before .before .before .before .before .before .before .before .before .before .before .before .before .before .before .before .before .before .before .pre .1 .1 .1 .0))), λ a z. rw (toZ-ofZ w32 (c .before .before .before .before .before .before .before .keep .result .fd) (record { sfits = c .struct-told2 .given .0 .1 })) (c .before .before .before .before .before .before .before .keep .ensures .1 (rw (toZ-ofZ w32 (c .before .before .before .before .before .before .before .before .before .before .before .before .before .before .before .before .before .before .before .before .before .before .before .before .before .before .before .before .before .before .before .args .run .fd) (record { sfits = c .before .before .before .before .before .before .before .before .struct-told .given .1 .1 .0 .1 })) a) (c .before .before .before .before .before .if1 .left))))
 
 pub turn-spec : {M : Type 1} → statement M
 turn-spec =
