@@ -201,28 +201,16 @@ impl Program {
             Some(Spoilt::FirstBlockFirst) => {
                 self.write(first, 0)?;
                 self.resize(length)?;
-                self.sync()?;
-                self.write(rest, BLOCK)?;
-                self.sync()?;
-                self.write(first, 0)?;
-                self.sync()
+                self.store_in_turn(first, rest)
             }
             Some(Spoilt::LengthFirst) => {
                 self.resize(length)?;
                 self.write(&[0; BLOCK], 0)?;
-                self.sync()?;
-                self.write(rest, BLOCK)?;
-                self.sync()?;
-                self.write(first, 0)?;
-                self.sync()
+                self.store_in_turn(first, rest)
             }
             Some(Spoilt::NoZeros) => {
                 self.resize(length)?;
-                self.sync()?;
-                self.write(rest, BLOCK)?;
-                self.sync()?;
-                self.write(first, 0)?;
-                self.sync()
+                self.store_in_turn(first, rest)
             }
             Some(Spoilt::OneSync) => {
                 self.write(&[0; BLOCK], 0)?;
@@ -233,5 +221,14 @@ impl Program {
             }
             _ => self.store(room, Change::Whole { length }),
         }
+    }
+
+    /// What was written so far, then the other blocks, then the first.
+    fn store_in_turn(&self, first: &[u8], rest: &[u8]) -> Result<(), Trouble> {
+        self.sync()?;
+        self.write(rest, BLOCK)?;
+        self.sync()?;
+        self.write(first, 0)?;
+        self.sync()
     }
 }
