@@ -19,9 +19,10 @@ pub fn run(words: &[String]) -> Result<String, String> {
         "same" => same::run(
             &setup,
             &same::Effort {
-                seeds: 42,
+                // Those of `.ci/scripts`, each up to its first 400 calls, or 100 with damage.
+                seeds: 421,
                 calls: 400,
-                damaged: 28,
+                damaged: 211,
                 odd: 60,
             },
         ),
