@@ -52,44 +52,26 @@ fn resize(fd: c_int, length: i64) -> c_int {
     }) as c_int
 }
 
-#[no_mangle]
-pub extern "C" fn open(path: *const c_char, flags: c_int, mode: c_int) -> c_int {
-    opened(path, flags, mode)
+/// A function under both of its names in the C library, the second for files of any length.
+macro_rules! exported {
+    ($($name:ident, $long:ident, $call:ident($($part:ident: $kind:ty),*) -> $result:ty;)*) => {$(
+        #[no_mangle]
+        pub extern "C" fn $name($($part: $kind),*) -> $result {
+            $call($($part),*)
+        }
+
+        #[no_mangle]
+        pub extern "C" fn $long($($part: $kind),*) -> $result {
+            $call($($part),*)
+        }
+    )*};
 }
 
-#[no_mangle]
-pub extern "C" fn open64(path: *const c_char, flags: c_int, mode: c_int) -> c_int {
-    opened(path, flags, mode)
-}
-
-#[no_mangle]
-pub extern "C" fn pread(fd: c_int, to: *mut c_void, count: usize, at: i64) -> isize {
-    read_at(fd, to, count, at)
-}
-
-#[no_mangle]
-pub extern "C" fn pread64(fd: c_int, to: *mut c_void, count: usize, at: i64) -> isize {
-    read_at(fd, to, count, at)
-}
-
-#[no_mangle]
-pub extern "C" fn pwrite(fd: c_int, from: *const c_void, count: usize, at: i64) -> isize {
-    write_at(fd, from, count, at)
-}
-
-#[no_mangle]
-pub extern "C" fn pwrite64(fd: c_int, from: *const c_void, count: usize, at: i64) -> isize {
-    write_at(fd, from, count, at)
-}
-
-#[no_mangle]
-pub extern "C" fn ftruncate(fd: c_int, length: i64) -> c_int {
-    resize(fd, length)
-}
-
-#[no_mangle]
-pub extern "C" fn ftruncate64(fd: c_int, length: i64) -> c_int {
-    resize(fd, length)
+exported! {
+    open, open64, opened(path: *const c_char, flags: c_int, mode: c_int) -> c_int;
+    pread, pread64, read_at(fd: c_int, to: *mut c_void, count: usize, at: i64) -> isize;
+    pwrite, pwrite64, write_at(fd: c_int, from: *const c_void, count: usize, at: i64) -> isize;
+    ftruncate, ftruncate64, resize(fd: c_int, length: i64) -> c_int;
 }
 
 #[no_mangle]
