@@ -83,24 +83,22 @@ module _ (c : List ℕ) (pair : ℕ → Timing) (t : ℕ) where
   unfolding bestFrom
   down s e st time es v et ee h = rw (← es) (unless-some st _ _ v ∙ simp (← et, ← ee, lt-ltb _ _ h))
 
+  -- best is that of the higher slots, next the same with s counted
   pub best-none : (s : ℕ) (st : Slot) (best : Best) → st ≡ cellAt c s .state → isVersion st ≡ false
       → best ≡ orLater best (bestFrom c pair t (suc s) s)
   best-none s st best es v = sym (ap (orLater best) (none s st es v) ∙ or-none best)
 
-  -- next is the best with s counted
   pub best-end : (s e : ℕ) (st : Slot) (time : Timing) (best next : Best) → st ≡ cellAt c s .state → isVersion st ≡ true
       → time ≡ versionTime pair st → next ≡ orLater best (betterOf time s t Neither) → e ≡ cellAt c s .earlier → s ≤ e
       → next ≡ orLater best (bestFrom c pair t (suc s) s)
   best-end s e st time best next es v et en ee h = en ∙ ap (orLater best) (sym (end s e st time es v et ee h))
 
-  -- r is what the search from e gave
-  pub best-down : (s e : ℕ) (st : Slot) (time : Timing) (best next r : Best) → st ≡ cellAt c s .state → isVersion st ≡ true
+  pub best-down : (s e : ℕ) (st : Slot) (time : Timing) (best next : Best) → st ≡ cellAt c s .state → isVersion st ≡ true
       → time ≡ versionTime pair st → next ≡ orLater best (betterOf time s t Neither) → e ≡ cellAt c s .earlier → e < s
-      → r ≡ orLater next (bestFrom c pair t (suc e) e) → r ≡ orLater best (bestFrom c pair t (suc s) s)
-  best-down s e st time best next r es v et en ee h er =
+      → orLater next (bestFrom c pair t (suc e) e) ≡ orLater best (bestFrom c pair t (suc s) s)
+  best-down s e st time best next es v et en ee h =
       let rest = bestFrom c pair t s e in
-      er
-      ∙ ap (λ (b : Best). orLater b (bestFrom c pair t (suc e) e)) en
+      ap (λ (b : Best). orLater b (bestFrom c pair t (suc e) e)) en
       ∙ ap (orLater (orLater best (betterOf time s t Neither))) (fuel (suc e) s e (omega arith) h)
       ∙ or-group best (betterOf time s t Neither) rest
       ∙ ap (orLater best) (sym (down s e st time es v et ee h ∙ better-or time s t rest))

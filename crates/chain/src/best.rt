@@ -55,23 +55,27 @@ fn better(best: Best, time: Timing, s: u64, t: u64) -> Best
     }
 }
 
-// The best of the higher slots against the best version that is found by following earlier slots from s: it calls itself
-// on the earlier slot, which is lower.
-pub fn find_from(cache: &[u8], words: &[u64; 448], t: u64, s: u64, best: Best) -> Best
+// The version with the greatest time not above t, following earlier slots from s; among equal times the highest slot.
+fn find_from(cache: &[u8], words: &[u64; 448], t: u64, s: u64) -> Best
     requires { ⌜ Room (length (now cache)) (suc s) ⌝ }
-    ensures { λ r. ⌜ r ≡ orLater best (bestFrom (now (cache .entry)) (timeUnder (placesOf (now (words .entry)))) t (suc s) s) ⌝ }
+    ensures { λ r. ⌜ r ≡ bestFrom (now (cache .entry)) (timeUnder (placesOf (now (words .entry)))) t (suc s) s ⌝ }
 {
-    let state = cached::state_at(cache, s);
-    if !cached::is_version(state) {
-        return best;
+    let mut best = Best::Neither;
+    let mut at = s;
+    loop {
+        let state = cached::state_at(cache, at);
+        if !cached::is_version(state) {
+            return best;
+        }
+        let time = version_time(words, state);
+        let next = better(best, time, at, t);
+        let earlier = cached::earlier_at(cache, at);
+        if at <= earlier {
+            return next;
+        }
+        best = next;
+        at = earlier;
     }
-    let time = version_time(words, state);
-    let next = better(best, time, s, t);
-    let earlier = cached::earlier_at(cache, s);
-    if earlier < s {
-        return find_from(cache, words, t, earlier, next);
-    }
-    next
 }
 
 pub fn find(head: Found, cache: &[u8], words: &[u64; 448], t: u64) -> Best
@@ -79,7 +83,7 @@ pub fn find(head: Found, cache: &[u8], words: &[u64; 448], t: u64) -> Best
     ensures { λ r. ⌜ r ≡ bestOf head (now (cache .entry)) (timeUnder (placesOf (now (words .entry)))) t ⌝ }
 {
     match head {
-        Found::At(s) => find_from(cache, words, t, s, Best::Neither),
+        Found::At(s) => find_from(cache, words, t, s),
         Found::Nothing => Best::Neither,
     }
 }

@@ -1,5 +1,4 @@
 -- The search begins at the head, if there is one. Assumes nothing.
-use Rattle.chain.specs.Later.{orLater}
 use Rattle.store.specs.Chain.{bestOf}
 use Rattle.cached.proofs.RoomLaws.{head-at}
 use borrow.Author.Needs.{needs}
@@ -19,11 +18,11 @@ enum-told : tie.Need-enum-told
 enum-told c = search needs
 
 returns : tie.Need-returns
-unfolding bestOf orLater
+unfolding bestOf
 returns c = simp (c .before .before .head .given .1, c .find-from .ensures)
 
 returns-2 : tie.Need-returns-2
-unfolding bestOf orLater
+unfolding bestOf
 returns-2 c = simp (c .enum-told .given .1)
 
 pub find-spec : {M : Type 1} → statement M
