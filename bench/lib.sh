@@ -40,3 +40,43 @@ medians() {
 least() {
     awk '{ print $1 + $2 }' "$1" | sort -g | head -n 1
 }
+
+# NAME IN FIRST SECOND: two programs, each one word with its arguments, play a script after another and must give the same
+# answers. Their times go behind NAME-first.log and NAME-second.log.
+race() {
+    local first second
+    read -ra first <<<"$3"
+    read -ra second <<<"$4"
+    timed "$work/$1-first.log" "$2" "$work/want" "${first[@]}"
+    timed "$work/$1-second.log" "$2" "$work/got" "${second[@]}"
+    cmp "$work/want" "$work/got" || { echo "other answers by $4 than by $3" >&2; exit 1; }
+}
+
+# LETTER CHAIN: how often a call is made, so that it takes some tenths of a second.
+count() {
+    case $1 in
+        O) echo 4000 ;;
+        Q) echo $((30000000 / ($2 + 60))) ;;
+        L) echo $((1500000 / ($2 + 10) / (1 + $2 / 240))) ;;
+        *) echo 400000 ;;
+    esac
+}
+
+# LETTER L D CHAIN FIRST SECOND: microseconds a call, by the first program and by the second.
+measure() {
+    local n without=M size=(--log "$2" --pages "$3" --chain "$4") program script
+    n=$(count "$1" "$4")
+    "$oracle" script --growth "$1" "${size[@]}" --calls "$n" >"$work/with"
+    if [ "$1" = P ]; then without=Z; fi
+    "$oracle" script --growth "$without" "${size[@]}" --calls "$([ "$1" = P ] && echo "$n" || echo 0)" >"$work/without"
+    rm -f "$work"/*.log
+    for _ in $(seq "$turns"); do
+        for script in with without; do
+            race "$script" "$work/$script" "$5" "$6"
+        done
+    done
+    for program in first second; do
+        awk -v with="$(least "$work/with-$program.log")" -v without="$(least "$work/without-$program.log")" -v n="$n" \
+            'BEGIN { printf "%.3f ", (with - without) / n * 1000000 }'
+    done
+}
