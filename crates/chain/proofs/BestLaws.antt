@@ -83,25 +83,24 @@ module _ (c : List ℕ) (pair : ℕ → Timing) (t : ℕ) where
   unfolding bestFrom
   down s e st time es v et ee h = rw (← es) (unless-some st _ _ v ∙ simp (← et, ← ee, lt-ltb _ _ h))
 
-  -- best is that of the higher slots, next the same with s counted
+  -- best is that of the higher slots, own what counts of s, next the later of the two
   pub best-none : (s : ℕ) (st : Slot) (best : Best) → st ≡ cellAt c s .state → isVersion st ≡ false
       → best ≡ orLater best (bestFrom c pair t (suc s) s)
   best-none s st best es v = sym (ap (orLater best) (none s st es v) ∙ or-none best)
 
-  pub best-end : (s e : ℕ) (st : Slot) (time : Timing) (best next : Best) → st ≡ cellAt c s .state → isVersion st ≡ true
-      → time ≡ versionTime pair st → next ≡ orLater best (betterOf time s t Neither) → e ≡ cellAt c s .earlier → s ≤ e
+  pub best-end : (s e : ℕ) (st : Slot) (time : Timing) (best own next : Best) → st ≡ cellAt c s .state → isVersion st ≡ true
+      → time ≡ versionTime pair st → own ≡ betterOf time s t Neither → next ≡ orLater best own → e ≡ cellAt c s .earlier → s ≤ e
       → next ≡ orLater best (bestFrom c pair t (suc s) s)
-  best-end s e st time best next es v et en ee h = en ∙ ap (orLater best) (sym (end s e st time es v et ee h))
+  best-end s e st time best own next es v et eo en ee h = en ∙ ap (orLater best) (eo ∙ sym (end s e st time es v et ee h))
 
-  pub best-down : (s e : ℕ) (st : Slot) (time : Timing) (best next : Best) → st ≡ cellAt c s .state → isVersion st ≡ true
-      → time ≡ versionTime pair st → next ≡ orLater best (betterOf time s t Neither) → e ≡ cellAt c s .earlier → e < s
+  pub best-down : (s e : ℕ) (st : Slot) (time : Timing) (best own next : Best) → st ≡ cellAt c s .state → isVersion st ≡ true
+      → time ≡ versionTime pair st → own ≡ betterOf time s t Neither → next ≡ orLater best own → e ≡ cellAt c s .earlier → e < s
       → orLater next (bestFrom c pair t (suc e) e) ≡ orLater best (bestFrom c pair t (suc s) s)
-  best-down s e st time best next es v et en ee h =
+  best-down s e st time best own next es v et eo en ee h =
       let rest = bestFrom c pair t s e in
-      ap (λ (b : Best). orLater b (bestFrom c pair t (suc e) e)) en
-      ∙ ap (orLater (orLater best (betterOf time s t Neither))) (fuel (suc e) s e (omega arith) h)
-      ∙ or-group best (betterOf time s t Neither) rest
-      ∙ ap (orLater best) (sym (down s e st time es v et ee h ∙ better-or time s t rest))
+      rw (en, eo, fuel (suc e) s e (omega arith) h)
+      (or-group best (betterOf time s t Neither) rest
+      ∙ ap (orLater best) (sym (down s e st time es v et ee h ∙ better-or time s t rest)))
 
 -- ---- the best found lies in the cache
 

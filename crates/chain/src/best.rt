@@ -25,32 +25,38 @@ pub fn version_time(words: &[u64; 448], slot: Slot) -> Timing
     }
 }
 
-// The later of the best of the higher slots and the version in slot s, whose time is t.
-fn later(best: Best, s: u64, t: CommitTime) -> Best
-    ensures { λ r. ⌜ r ≡ orLater best (Version s t) ⌝ }
+// The version in slot s, if it has a time not above t.
+fn fitting(time: Timing, s: u64, t: u64) -> Best
+    ensures { λ r. ⌜ r ≡ betterOf time s t Neither ⌝ }
 {
-    match best {
-        Best::Neither => Best::Version(s, t),
-        Best::Version(r, u) => {
-            if t.0 <= u.0 {
-                return Best::Version(r, u);
+    match time {
+        Timing::Untimed => Best::Neither,
+        Timing::Timed(u) => {
+            if u.0 <= t {
+                return Best::Version(s, u);
             }
-            Best::Version(s, t)
+            Best::Neither
         }
     }
 }
 
-// The same, if the version has a time not above t.
-fn better(best: Best, time: Timing, s: u64, t: u64) -> Best
-    ensures { λ r. ⌜ r ≡ orLater best (betterOf time s t Neither) ⌝ }
+// The later of two versions, the first among equals. A version that stays is made anew: copied whole, the bytes between its
+// tag and its slot would pass through memory at each step of a search.
+fn later(first: Best, second: Best) -> Best
+    ensures { λ r. ⌜ r ≡ orLater first second ⌝ }
 {
-    match time {
-        Timing::Untimed => best,
-        Timing::Timed(u) => {
-            if u.0 <= t {
-                return later(best, s, u);
+    match first {
+        Best::Neither => second,
+        Best::Version(r, u) => {
+            match second {
+                Best::Neither => Best::Version(r, u),
+                Best::Version(s, v) => {
+                    if v.0 <= u.0 {
+                        return Best::Version(r, u);
+                    }
+                    Best::Version(s, v)
+                }
             }
-            best
         }
     }
 }
@@ -68,7 +74,7 @@ fn find_from(cache: &[u8], words: &[u64; 448], t: u64, s: u64) -> Best
             return best;
         }
         let time = version_time(words, state);
-        let next = better(best, time, at, t);
+        let next = later(best, fitting(time, at, t));
         let earlier = cached::earlier_at(cache, at);
         if at <= earlier {
             return next;

@@ -18,7 +18,8 @@ use Rattle.chain.proofs.best.find_from.Lts as lts
 use Rattle.cached.proofs.earlier_at.Reads as earlier-at-reads
 use Rattle.cached.proofs.is_version.Reads as is-version-reads
 use Rattle.cached.proofs.state_at.Reads as state-at-reads
-use Rattle.chain.proofs.best.better.Reads as better-reads
+use Rattle.chain.proofs.best.fitting.Reads as fitting-reads
+use Rattle.chain.proofs.best.later.Reads as later-reads
 use Rattle.chain.proofs.best.version_time.Reads as version-time-reads
 
 abbrev Inv-loop : tie.InvT-loop
@@ -50,17 +51,20 @@ is-some c = sym (c .before .is-version .ensures) ∙ not-false (c .before .is-ve
 version-time-requires : tie.Need-version-time-requires Inv-loop μ-loop
 version-time-requires c κs = search needs
 
-better-requires : tie.Need-better-requires Inv-loop μ-loop
-better-requires c κs = search needs
+fitting-requires : tie.Need-fitting-requires Inv-loop μ-loop
+fitting-requires c κs = search needs
+
+later-requires : tie.Need-later-requires Inv-loop μ-loop
+later-requires c κs = search needs
 
 earlier-at-requires : tie.Need-earlier-at-requires Inv-loop μ-loop
-earlier-at-requires c κs = room-lower _ _ _ (c .before .before .before .before .before .before .before .pre) (omega arith)
+earlier-at-requires c κs = room-lower _ _ _ (c .before .before .before .before .before .before .before .before .pre) (omega arith)
 
 returns-2 : tie.Need-returns-2 Inv-loop μ-loop
 returns-2 c =
     let b = c .before .before in
-    let k = b .before .before in
-    best-end _ _ _ _ _ _ _ _ _ (k .before .before .state-at .ensures) (is-some k) (b .before .version-time .ensures) (b .better .ensures) (c .before .earlier-at .ensures) (omega arith)
+    let k = b .before .before .before in
+    best-end _ _ _ _ _ _ _ _ _ _ (k .before .before .state-at .ensures) (is-some k) (b .before .before .version-time .ensures) (b .before .fitting .ensures) (b .later .ensures) (c .before .earlier-at .ensures) (omega arith)
     ∙ k .before .before .before .loop .inv .1
 
 loop-less : tie.Need-loop-less Inv-loop μ-loop
@@ -69,9 +73,9 @@ loop-less c = omega arith
 loop-again : tie.Need-loop-again Inv-loop μ-loop
 loop-again c =
     let b = c .before .before in
-    let k = b .before .before in (
+    let k = b .before .before .before in (
       omega arith,
-      best-down _ _ _ _ _ _ _ _ _ (k .before .before .state-at .ensures) (is-some k) (b .before .version-time .ensures) (b .better .ensures) (c .before .earlier-at .ensures) (omega arith)
+      best-down _ _ _ _ _ _ _ _ _ _ (k .before .before .state-at .ensures) (is-some k) (b .before .before .version-time .ensures) (b .before .fitting .ensures) (b .later .ensures) (c .before .earlier-at .ensures) (omega arith)
           ∙ k .before .before .before .loop .inv .1,
     )
 
@@ -86,7 +90,8 @@ find-from-spec =
     is-version-requires
     returns
     version-time-requires
-    better-requires
+    fitting-requires
+    later-requires
     earlier-at-requires
     returns-2
     loop-less
