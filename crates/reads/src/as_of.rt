@@ -1,5 +1,5 @@
 // Read as of a time.
-use memory::LAST;
+use memory::SAVED;
 use memory::SLOTS;
 use store::Best;
 use store::Reading;
@@ -22,7 +22,7 @@ pub fn as_of(
     if !memory::fit::is_fit(words, tail, medium.len(), cache.len()) {
         return questions::refuse::reading(Refusal::Unfit);
     }
-    if words[LAST] < time {
+    if words[SAVED] < time {
         return questions::refuse::reading(Refusal::NotYet);
     }
     let head = chain::newest::find(cache, key, words[SLOTS]);

@@ -1,5 +1,5 @@
 // List of changes.
-use memory::LAST;
+use memory::SAVED;
 use memory::SLOTS;
 use store::Answer;
 use store::Found;
@@ -24,7 +24,7 @@ pub fn changes(
     if !memory::fit::is_fit(words, tail, medium.len(), cache.len()) {
         return Answer::Refused(Refusal::Unfit);
     }
-    if words[LAST] < t2 {
+    if words[SAVED] < t2 {
         return Answer::Refused(Refusal::NotYet);
     }
     let head = chain::newest::find(cache, key, words[SLOTS]);

@@ -48,7 +48,7 @@ unfolding changesOf changesIf
 list-fits s m c b key t1 t2 k a e f =
     let g = sym f ∙ e in
     bool-case (fits s (length m) (length c))
-    (λ u. bool-case (leb t2 (s .last .0))
+    (λ u. bool-case (leb t2 (s .saved .0))
     (λ v. bool-case (leb (32 * length (changeLines s c key t1 t2)) (length b))
     (λ w.
     let h : Listed k ≡ Listed (length (changeLines s c key t1 t2)) = simp (u, v, w) at g in

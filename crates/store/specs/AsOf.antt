@@ -18,9 +18,10 @@ use Rattle.store.specs.State.{fits}
 use Rattle.store.specs.Chain.{newest, cellAt, bestOf}
 use Rattle.store.specs.CurrentRead.{reads, readCell}
 
--- 01: "state and buffers fit .. ? 16", "t (t2) not above the last commit time? 10"
+-- 01: "state and buffers fit .. ? 16", "t (t2) not above the last commit time? 10"; 02, #102: "compare their time with the
+-- last stored commit time"
 abbrev pub asOfAsks : State → List ℕ → List ℕ → ℕ → List (Bool × Refusal)
-asOfAsks s m c t = (fits s (length m) (length c), Unfit) ∷ (leb t (s .last .0), NotYet) ∷ []
+asOfAsks s m c t = (fits s (length m) (length c), Unfit) ∷ (leb t (s .saved .0), NotYet) ∷ []
 
 -- 01: "As of t: the committed version .. none or erased are results": what the version found says, or missing
 abbrev pub asOfAt : Best → State → List ℕ → List ℕ → Outcome

@@ -70,11 +70,11 @@ unfoldable pub changeLines : State → List ℕ → ℕ → ℕ → ℕ → List
 changeLines s c key t1 t2 = linesBelow c (timeUnder (s .places)) (newest c key (s .slots)) t1 (suc (suc t2)) (suc t2)
 
 -- 01: "state and buffers fit .. ? 16", "t (t2) not above the last commit time? 10", "answer buffer at least 32 bytes
--- per line listed? 14"
+-- per line listed? 14"; 02, #102: "compare their time with the last stored commit time"
 abbrev pub changesAsks : State → List ℕ → List ℕ → ℕ → ℕ → ℕ → ℕ → List (Bool × Refusal)
 changesAsks s m c key t1 t2 room =
     (fits s (length m) (length c), Unfit)
-    ∷ (leb t2 (s .last .0), NotYet)
+    ∷ (leb t2 (s .saved .0), NotYet)
     ∷ (leb (32 * length (changeLines s c key t1 t2)) room, ShortBuffer)
     ∷ []
 
