@@ -43,11 +43,12 @@ lines =
     -- a transaction without versions
     ∷ line (call (begin 3)) (answers 3)
     ∷ line (call (commit 3 3)) (answers 0)
+    -- the times given can be read once they are stored
+    ∷ line (call store-log) (stores 0)
     ∷ line (call (as-of 7 9)) (reads missing)
     ∷ line (call (as-of 7 10)) (reads (present (bytes 65)))
     ∷ line (call (as-of 7 11)) (reads erased)
     ∷ line (call (changes 7 1 11 (replicate 65 255))) (lists 2 changed)
-    ∷ line (call store-log) (stores 0)
     ∷ line (call (store-page 0)) (answers 0)
     ∷ line (call checkpoint) (answers 0)
     ∷ line (call checkpoint) (answers 0)

@@ -1,9 +1,10 @@
--- The starred examples of 01, and beside them the `stripbook` listing at the level of calls.
+-- The starred examples of 01, as the requests of 02 change them, and beside them the `stripbook` listing at the level of
+-- calls.
 use Prim.Native.Nat.{ℕ, zero, suc, _-_, _^_}
 use mathlib.Core.Path.{_≡_}
 use mathlib.Core.List.{List, [], _∷_, _++_, map}
 use Rattle.layout.specs.Journal.{sequenceOf, usedOf}
-use Rattle.runs.specs.Event.{Event, cut, call, begin, write, erase, commit, as-of, Strip, missing, erased, present, Observation}
+use Rattle.runs.specs.Event.{Event, cut, call, begin, write, erase, commit, as-of, store-log, Strip, missing, erased, present, Observation}
 use Rattle.runs.specs.Machine.{World, down, up, trace, formatted}
 use Rattle.runs.specs.Moments.{worldAfter}
 use Rattle.examples.specs.Words.{bytes, opened}
@@ -50,16 +51,16 @@ Right r = outcomeOf (r .blocks) (r .pages) (r .script) ≡ record { answers = r 
 
 -- ---- words for the rows
 
-abbrev done : ℕ → Shown
+abbrev pub done : ℕ → Shown
 done n = record { refusal = 0; result = n; strip = missing }
 
-abbrev refused : ℕ → Shown
+abbrev pub refused : ℕ → Shown
 refused n = record { refusal = n; result = 0; strip = missing }
 
-abbrev reads : Strip → Shown
+abbrev pub reads : Strip → Shown
 reads s = record { refusal = 0; result = 0; strip = s }
 
-abbrev tail : ℕ → ℕ → Tail
+abbrev pub tail : ℕ → ℕ → Tail
 tail s u = record { sequence = s; used = u }
 
 -- n writes of record 7 under number 1, and their slots from k on
@@ -105,14 +106,15 @@ lastTime = record {
   tail = tail 1 128;
 }
 
--- * "Two writes of one record in a transaction: as of its time, the second."
+-- * "Two writes of one record in a transaction: as of its time, the second."; 02, #102: "after a commit, the log is stored
+-- before its time can be read"
 abbrev pub twice : Row
 twice = record {
   blocks = 2;
   pages = 1;
   script = opened 1 ∷ call (begin 4) ∷ call (write 1 7 (bytes 65)) ∷ call (write 1 7 (bytes 66)) ∷ call (commit 1 4)
-      ∷ call (as-of 7 4) ∷ [];
-  answers = done 0 ∷ done 1 ∷ done 0 ∷ done 1 ∷ done 4 ∷ reads (present (bytes 66)) ∷ [];
+      ∷ call store-log ∷ call (as-of 7 4) ∷ [];
+  answers = done 0 ∷ done 1 ∷ done 0 ∷ done 1 ∷ done 4 ∷ done 0 ∷ reads (present (bytes 66)) ∷ [];
   tail = tail 1 95;
 }
 
@@ -146,13 +148,14 @@ logFull = record {
   tail = tail 2 505;
 }
 
--- * "Erase of a never written record: as of its commit, erased."
+-- * "Erase of a never written record: as of its commit, erased."; 02, #102: "after a commit, the log is stored before its
+-- time can be read"
 abbrev pub erasedFirst : Row
 erasedFirst = record {
   blocks = 2;
   pages = 1;
-  script = opened 1 ∷ call (begin 4) ∷ call (erase 1 7) ∷ call (commit 1 4) ∷ call (as-of 7 4) ∷ [];
-  answers = done 0 ∷ done 1 ∷ done 0 ∷ done 4 ∷ reads erased ∷ [];
+  script = opened 1 ∷ call (begin 4) ∷ call (erase 1 7) ∷ call (commit 1 4) ∷ call store-log ∷ call (as-of 7 4) ∷ [];
+  answers = done 0 ∷ done 1 ∷ done 0 ∷ done 4 ∷ done 0 ∷ reads erased ∷ [];
   tail = tail 1 62;
 }
 
@@ -166,14 +169,14 @@ givenAgain = record {
   tail = tail 1 10;
 }
 
--- the listing of `stripbook`: L = 4, D = 2
+-- the listing of `stripbook`: L = 4, D = 2; 02, #102: "the fourth line of the `stripbook` listing becomes `Q 10 -`"
 abbrev pub listing : Row
 listing = record {
   blocks = 4;
   pages = 2;
   script = opened 2 ∷ call (begin 10) ∷ call (write 1 7 (bytes 65)) ∷ call (commit 1 5) ∷ call (as-of 7 10)
       ∷ cut ∷ opened 2 ∷ call (as-of 7 10) ∷ [];
-  answers = done 0 ∷ done 1 ∷ done 0 ∷ done 10 ∷ reads (present (bytes 65)) ∷ done 0 ∷ done 0 ∷ refused 10 ∷ [];
+  answers = done 0 ∷ done 1 ∷ done 0 ∷ done 10 ∷ refused 10 ∷ done 0 ∷ done 0 ∷ refused 10 ∷ [];
   tail = tail 1 10;
 }
 

@@ -1,4 +1,4 @@
--- 01's listing, computed by the definitions.
+-- 01's listing, with the fourth line as request #102 changes it, computed by the definitions.
 use mathlib.Core.Path.{_≡_, refl}
 use mathlib.Core.List.{List, [], _∷_}
 use Prim.Native.Nat.{ℕ}
@@ -52,12 +52,13 @@ input = 66 ∷ 32 ∷ 49 ∷ 48 ∷ 10
     ∷ 88 ∷ 10
     ∷ 81 ∷ 32 ∷ 55 ∷ 32 ∷ 49 ∷ 48 ∷ 10 ∷ []
 
--- 01: "prints, whole": B 0 1, W 0 0, C 0 10, Q 0 65, X 0 0, Q 10 -
+-- 01: "prints, whole": B 0 1, W 0 0, C 0 10, Q 10 -, X 0 0, Q 10 -; 02, #102: "the fourth line of the `stripbook` listing
+-- becomes `Q 10 -`"
 unfoldable pub output : List ℕ
 output = 66 ∷ 32 ∷ 48 ∷ 32 ∷ 49 ∷ 10
     ∷ 87 ∷ 32 ∷ 48 ∷ 32 ∷ 48 ∷ 10
     ∷ 67 ∷ 32 ∷ 48 ∷ 32 ∷ 49 ∷ 48 ∷ 10
-    ∷ 81 ∷ 32 ∷ 48 ∷ 32 ∷ 54 ∷ 53 ∷ 10
+    ∷ 81 ∷ 32 ∷ 49 ∷ 48 ∷ 32 ∷ 45 ∷ 10
     ∷ 88 ∷ 32 ∷ 48 ∷ 32 ∷ 48 ∷ 10
     ∷ 81 ∷ 32 ∷ 49 ∷ 48 ∷ 32 ∷ 45 ∷ 10 ∷ []
 
