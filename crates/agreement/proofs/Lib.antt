@@ -9,3 +9,4 @@ pub mod opening
 pub mod reads
 pub mod Main
 pub mod plain
+pub mod stable

@@ -4,3 +4,4 @@ pub mod Machine
 pub mod Demand
 pub mod Moments
 pub mod Plain
+pub mod Stable

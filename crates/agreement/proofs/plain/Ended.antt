@@ -40,7 +40,7 @@ idle-turn n b b′ hs rs e o q (opens m k z h) p = record {
   shut = rw (ne-eqb m n (λ y. false≢true (sym q ∙ ap (λ (x : ℕ). begins x e o) (sym y) ∙ z))) (p .shut);
   uncommitted = p .uncommitted;
 }
-idle-turn n b b′ hs rs e o q (adds v ch) p = record { shut = p .shut; uncommitted = time-version (b .rows) v n ∙ p .uncommitted }
+idle-turn n b b′ hs rs e o q (adds v ch w) p = record { shut = p .shut; uncommitted = time-version (b .rows) v n ∙ p .uncommitted }
 idle-turn n b b′ hs rs e o q (ends m t ch a h z) p = record {
   shut = shut-less (b .opened) m n (p .shut);
   uncommitted = time-other (b .rows) m t n (λ y. false≢true (sym (p .shut) ∙ ap (isOpen (b .opened)) y ∙ a)) ∙ p .uncommitted;

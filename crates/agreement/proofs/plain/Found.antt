@@ -37,7 +37,7 @@ front-turn R b b′ hs rs e o (falls z) p =
     let (j, q) = take-past R (p .rest) (b .stored) (p .stored) in
     record { rest = take j (p .rest); rows = ap (take (b .stored)) (p .rows) ∙ q; stored = p .stored }
 front-turn R b b′ hs rs e o (opens n k z h) p = record { rest = p .rest; rows = p .rows; stored = p .stored }
-front-turn R b b′ hs rs e o (adds v ch) p = record {
+front-turn R b b′ hs rs e o (adds v ch w) p = record {
   rest = p .rest ++ (version v ∷ []);
   rows = ap (λ (xs : List Row). xs ++ (version v ∷ [])) (p .rows) ∙ append-assoc R (p .rest) (version v ∷ []);
   stored = stored-more R (p .rest) b ch (p .rows) (p .stored);
@@ -51,7 +51,7 @@ front-turn R b b′ hs rs e o (closes n) p = record { rest = p .rest; rows = p .
 front-turn R b b′ hs rs e o stores p = record { rest = p .rest; rows = p .rows; stored = rw (p .rows, length-append) (omega arith) }
 
 -- all that an opening finds then
-front-found : (R : List Row) (b : Book) → Front R b → (more : List Row) × (fall b .rows ≡ R ++ more)
+pub front-found : (R : List Row) (b : Book) → Front R b → (more : List Row) × (fall b .rows ≡ R ++ more)
 unfolding fall
 front-found R b p = let (j, q) = take-past R (p .rest) (b .stored) (p .stored) in (take j (p .rest), ap (take (b .stored)) (p .rows) ∙ q)
 
@@ -128,7 +128,7 @@ shown-turn R b b′ hs rs e o (opens n k z h) p = record {
   foreign = p .foreign;
   strangers = λ x q. opened-cases n k x (b .opened) q (λ y. rowless-left R (p .rest) x (rw (p .rows, y) at h)) (p .strangers x);
 }
-shown-turn R b b′ hs rs e o (adds v ch) p = record {
+shown-turn R b b′ hs rs e o (adds v ch w) p = record {
   rest = p .rest ++ (version v ∷ []);
   rows = ap (λ (xs : List Row). xs ++ (version v ∷ [])) (p .rows) ∙ append-assoc R (p .rest) (version v ∷ []);
   stored = stored-more R (p .rest) b ch (p .rows) (p .stored);

@@ -6,7 +6,7 @@ use mathlib.Core.Bool.{or-true, Bool, true, false, cond, _||_, false≢true}
 use mathlib.Core.List.{List, [], _∷_, _++_}
 use mathlib.Core.Logic.{_⊎_, inl, inr, _≢_}
 use mathlib.Core.Option.{Option, none, some}
-use mathlib.Core.Path.{_≡_, refl, sym, ap}
+use mathlib.Core.Path.{_≡_, refl, sym, ap, _∙_}
 use lib.Dec.{eqb}
 use lib.ListN.{length, take}
 use borrow.Author.Tests.{eqb-true, eq-eqb, ne-eqb}
@@ -143,6 +143,13 @@ time-none (committed k u ∷ rs) ss n e = go (eqb k n) e (time-none rs ss n)
     go : (b : Bool) → cond b (some u) (timeOf rs n) ≡ none → (timeOf rs n ≡ none → timeOf (rs ++ ss) n ≡ timeOf ss n) → cond b (some u) (timeOf (rs ++ ss) n) ≡ timeOf ss n
     go true e ih = absurd (none-some (sym e))
     go false e ih = ih e
+
+pub time-left : (rs ss : List Row) (n : ℕ) → timeOf (rs ++ ss) n ≡ none → timeOf rs n ≡ none
+time-left rs ss n e = go (timeOf rs n) refl
+  where
+    go : (x : Option ℕ) → timeOf rs n ≡ x → x ≡ none
+    go none q = refl
+    go (some t) q = absurd (none-some (sym e ∙ time-front rs ss n t q))
 
 -- no commit among the rows, none among a beginning of them
 pub none-take : (i : ℕ) (rs : List Row) (n : ℕ) → timeOf rs n ≡ none → timeOf (take i rs) n ≡ none

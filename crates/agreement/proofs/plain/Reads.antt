@@ -27,7 +27,7 @@ unfolding fall add
 seen-turn b b′ hs rs e o stays p r a = among-left r hs [] (p r a)
 seen-turn b b′ hs rs e o (falls z) p r a = among-left r hs [] (p r (among-take r (b .stored) (b .rows) a))
 seen-turn b b′ hs rs e o (opens n k z h) p r a = among-left r hs [] (p r a)
-seen-turn b b′ hs rs e o (adds v ch) p r a = go (among-either r (b .rows) (version v ∷ []) a)
+seen-turn b b′ hs rs e o (adds v ch w) p r a = go (among-either r (b .rows) (version v ∷ []) a)
   where
     go : Among r (b .rows) ⊎ Among r (version v ∷ []) → Among r (hs ++ (version v ∷ []))
     go (inl h) = among-left r hs (version v ∷ []) (p r h)
@@ -61,14 +61,14 @@ module _ {l d : ℕ} {es : List Event} (r : Run l d es) where
 -- ---- the book's steps
 
 -- a committed version of the record, with time below the limit
-record From (rs : List Row) (key limit : ℕ) (vs : List Version) (x : Dated) : Type 0 where
+pub record From (rs : List Row) (key limit : ℕ) (vs : List Version) (x : Dated) : Type 0 where
   which : Version
   among : Among which vs
   keyed : which .key ≡ key
   kinded : which .kind ≡ x .kind
   valued : which .value ≡ x .value
   timed : timeOf rs (which .number) ≡ some (x .time)
-  below : x .time < limit
+  pub below : x .time < limit
 
 best-from : (rs : List Row) (key limit : ℕ) (vs : List Version) (best : Option Dated) (x : Dated) → bestBelow rs key limit best vs ≡ some x → (best ≡ some x) ⊎ From rs key limit vs x
 unfolding bestBelow
@@ -111,7 +111,7 @@ best-from rs key limit (v ∷ vs) best x e = go (best-from rs key limit vs _ x e
     go (inl e) = keyed? (eqb (v .key) key) refl e
     go (inr f) = inr (record { which = f .which; among = inr (f .among); keyed = f .keyed; kinded = f .kinded; valued = f .valued; timed = f .timed; below = f .below })
 
-last-from : (rs : List Row) (key limit : ℕ) (x : Dated) → lastBelow rs key limit ≡ some x → From rs key limit (versions rs) x
+pub last-from : (rs : List Row) (key limit : ℕ) (x : Dated) → lastBelow rs key limit ≡ some x → From rs key limit (versions rs) x
 unfolding lastBelow
 last-from rs key limit x e = go (best-from rs key limit (versions rs) none x e)
   where

@@ -85,7 +85,8 @@ pub data Turn (b : Book) (e : Event) (o : Observation) : Book → List Row → T
   falls : isBreak e o ≡ true → Turn b e o (fall b) []
   opens : (n k : ℕ) → begins n e o ≡ true → hasRow (b .rows) n ≡ false
       → Turn b e o (record { opened = record { number = n; clock = k } ∷ b .opened; rows = b .rows; stored = b .stored }) []
-  adds : (v : Version) (changed : Bool) → Turn b e o (add b (version v) changed (b .opened)) (version v ∷ [])
+  adds : (v : Version) (changed : Bool) → isOpen (b .opened) (v .number) ≡ true
+      → Turn b e o (add b (version v) changed (b .opened)) (version v ∷ [])
   ends : (n t : ℕ) (changed : Bool) → isOpen (b .opened) n ≡ true → hasRow (b .rows) n ≡ true → lastTime (b .rows) < t
       → Turn b e o (add b (committed n t) changed (close (b .opened) n)) (committed n t ∷ [])
   closes : (n : ℕ) → Turn b e o (record { opened = close (b .opened) n; rows = b .rows; stored = b .stored }) []
@@ -99,8 +100,8 @@ call-turn : (b : Book) (x : Call) (o : Observation) → o .refusal ≡ 0 → Ans
     → Turn b (call x) o (entered b x (o .result) (o .changed)) (rowSeen x (o .result))
 unfolding entered
 call-turn b (begin k) o z a n = opens (o .result) k (rw (z, eq-eqb (o .result) (o .result) refl)) (a .1)
-call-turn b (write n key v) o z a k = adds (record { number = n; key = key; kind = 0; value = v }) (o .changed)
-call-turn b (erase n key) o z a k = adds (record { number = n; key = key; kind = 1; value = zeros 16 }) (o .changed)
+call-turn b (write n key v) o z a k = adds (record { number = n; key = key; kind = 0; value = v }) (o .changed) (k n refl)
+call-turn b (erase n key) o z a k = adds (record { number = n; key = key; kind = 1; value = zeros 16 }) (o .changed) (k n refl)
 call-turn b (current-read n key) o z a k = stays
 call-turn b (commit n k) o z a f = go (hasRow (b .rows) n) refl a
   where

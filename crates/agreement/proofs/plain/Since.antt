@@ -202,7 +202,7 @@ unfolding fall add
 rooted-turn b b′ hs rs e o stays p = p
 rooted-turn b b′ hs rs e o (falls z) p = rooted-take (b .stored) [] (b .rows) p
 rooted-turn b b′ hs rs e o (opens n k z h) p = p
-rooted-turn b b′ hs rs e o (adds v ch) p = rooted-version [] (b .rows) v p
+rooted-turn b b′ hs rs e o (adds v ch w) p = rooted-version [] (b .rows) v p
 rooted-turn b b′ hs rs e o (ends n t ch a h z) p = rooted-commit [] (b .rows) n t (rooted-has [] (b .rows) n p h) p
 rooted-turn b b′ hs rs e o (closes n) p = p
 rooted-turn b b′ hs rs e o stores p = p

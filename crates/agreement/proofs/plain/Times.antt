@@ -57,7 +57,7 @@ known l d es k n r a e =
 
 -- ---- times rise
 
-rises-take : (low i : ℕ) (rs : List Row) → Rises low (transactions rs) → Rises low (transactions (take i rs))
+pub rises-take : (low i : ℕ) (rs : List Row) → Rises low (transactions rs) → Rises low (transactions (take i rs))
 unfolding transactions
 rises-take low zero rs h = tt
 rises-take low (suc i) [] h = tt
@@ -71,7 +71,7 @@ rises-more m low [] n t h z = (z, tt)
 rises-more m low (version v ∷ rs) n t h z = rises-more m low rs n t h z
 rises-more m low (committed k u ∷ rs) n t h z = (h .0, rises-more k u rs n t (h .1) z)
 
-rises-right : (m low : ℕ) (rs ss : List Row) → Rises low (transactions (rs ++ ss)) → Rises (lastTime (committed m low ∷ rs)) (transactions ss)
+pub rises-right : (m low : ℕ) (rs ss : List Row) → Rises low (transactions (rs ++ ss)) → Rises (lastTime (committed m low ∷ rs)) (transactions ss)
 unfolding transactions lastTime
 rises-right m low [] ss h = h
 rises-right m low (version v ∷ rs) ss h = rises-right m low rs ss h
@@ -82,7 +82,7 @@ unfolding fall add transactions lastTime
 rising-turn b b′ hs rs e o stays p = p
 rising-turn b b′ hs rs e o (falls z) p = rises-take 0 (b .stored) (b .rows) p
 rising-turn b b′ hs rs e o (opens n k z h) p = p
-rising-turn b b′ hs rs e o (adds v ch) p = rw (transactions-append (b .rows) (version v ∷ []), append-nil (transactions (b .rows))) p
+rising-turn b b′ hs rs e o (adds v ch w) p = rw (transactions-append (b .rows) (version v ∷ []), append-nil (transactions (b .rows))) p
 rising-turn b b′ hs rs e o (ends n t ch a h z) p = rises-more 0 0 (b .rows) n t p z
 rising-turn b b′ hs rs e o (closes n) p = p
 rising-turn b b′ hs rs e o stores p = p
@@ -97,7 +97,7 @@ unfolding add
 rows-turn R b b′ hs rs e o q stays p = rw (append-nil hs) p
 rows-turn R b b′ hs rs e o q (falls z) p = absurd (false≢true (sym q ∙ z))
 rows-turn R b b′ hs rs e o q (opens n k z h) p = rw (append-nil hs) p
-rows-turn R b b′ hs rs e o q (adds v ch) p = ap (λ (xs : List Row). xs ++ (version v ∷ [])) p ∙ append-assoc R hs (version v ∷ [])
+rows-turn R b b′ hs rs e o q (adds v ch w) p = ap (λ (xs : List Row). xs ++ (version v ∷ [])) p ∙ append-assoc R hs (version v ∷ [])
 rows-turn R b b′ hs rs e o q (ends n t ch a h z) p = ap (λ (xs : List Row). xs ++ (committed n t ∷ [])) p ∙ append-assoc R hs (committed n t ∷ [])
 rows-turn R b b′ hs rs e o q (closes n) p = rw (append-nil hs) p
 rows-turn R b b′ hs rs e o q stores p = rw (append-nil hs) p
@@ -166,7 +166,7 @@ opened-cases {B} n k x os e f g = go (either-true (eqb n x) (isOpen os x) e)
 pub still-open : (n x : ℕ) (os : List Opened) → isOpen (close os n) x ≡ true → x ≢ n
 still-open n x os e z = false≢true (sym (close-shuts os n) ∙ ap (isOpen (close os n)) (sym z) ∙ e)
 
-orderly-turn : (b b′ : Book) (hs rs : List Row) (e : Event) (o : Observation) → Turn b e o b′ rs → Orderly b → Orderly b′
+pub orderly-turn : (b b′ : Book) (hs rs : List Row) (e : Event) (o : Observation) → Turn b e o b′ rs → Orderly b → Orderly b′
 unfolding fall add isOpen
 orderly-turn b b′ hs rs e o stays p = p
 orderly-turn b b′ hs rs e o (falls z) p = record { once = once-take (b .stored) (b .rows) (p .once); unended = λ n q. absurd (false≢true q) }
@@ -174,7 +174,7 @@ orderly-turn b b′ hs rs e o (opens n k z h) p = record {
   once = p .once;
   unended = λ x q. opened-cases n k x (b .opened) q (λ y. rowless-none (b .rows) x (rw y at h)) (p .unended x);
 }
-orderly-turn b b′ hs rs e o (adds v ch) p = record {
+orderly-turn b b′ hs rs e o (adds v ch w) p = record {
   once = once-version (b .rows) v (p .once);
   unended = λ n q. time-version (b .rows) v n ∙ p .unended n q;
 }

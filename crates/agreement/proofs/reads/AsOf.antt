@@ -37,13 +37,18 @@ use Rattle.agreement.proofs.reads.CurrentRead.{cell-strip}
 
 -- ---- the book's fold
 
+pub best-append : (rs : List Row) (key limit : ℕ) (best : Option Dated) (vs ws : List RowVersion)
+    → bestBelow rs key limit best (vs ++ ws) ≡ bestBelow rs key limit (bestBelow rs key limit best vs) ws
+unfolding bestBelow
+best-append rs key limit best [] ws = refl
+best-append rs key limit best (x ∷ vs) ws =
+    best-append rs key limit (cond (eqb (x .key) key) (datedOf (timeOf rs (x .number)) best limit x) best) vs ws
+
 best-snoc : (rs : List Row) (key limit : ℕ) (best : Option Dated) (vs : List RowVersion) (v : RowVersion)
     → bestBelow rs key limit best (vs ++ (v ∷ []))
     ≡ cond (eqb (v .key) key) (datedOf (timeOf rs (v .number)) (bestBelow rs key limit best vs) limit v) (bestBelow rs key limit best vs)
 unfolding bestBelow
-best-snoc rs key limit best [] v = refl
-best-snoc rs key limit best (x ∷ vs) v =
-    best-snoc rs key limit (cond (eqb (x .key) key) (datedOf (timeOf rs (x .number)) best limit x) best) vs v
+best-snoc rs key limit best vs v = best-append rs key limit best vs (v ∷ [])
 
 -- nothing has a time below 0
 pub none-below : (rs : List Row) (key : ℕ) → lastBelow rs key 0 ≡ none

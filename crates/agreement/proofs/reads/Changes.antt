@@ -50,7 +50,7 @@ unfolding enc number
 number-is zero n = refl
 number-is (suc w) n = ap (λ (l : List ℕ). n % 256 ∷ l) (number-is w (n / 256))
 
-alike-bytes : {ls : List Line} {xs : List Dated} → Alike ls xs → flat lineBytes ls ≡ listing xs
+pub alike-bytes : {ls : List Line} {xs : List Dated} → Alike ls xs → flat lineBytes ls ≡ listing xs
 unfolding flat lineBytes listing
 alike-bytes ended = refl
 alike-bytes (more t kind v h a) = rw (number-is 8 t, alike-bytes a)
@@ -60,7 +60,7 @@ unfolding lineBytes
 line-size t kind v h =
     length-append (enc 8 t) (kind ∷ (zeros 7 ++ v)) ∙ omega (arith, length-enc 8 t, length-append (zeros 7) v, length-replicate {A = ℕ} 7 0)
 
-alike-size : {ls : List Line} {xs : List Dated} → Alike ls xs → length (flat lineBytes ls) ≡ 32 * length ls
+pub alike-size : {ls : List Line} {xs : List Dated} → Alike ls xs → length (flat lineBytes ls) ≡ 32 * length ls
 unfolding flat
 alike-size ended = refl
 alike-size (more t kind v {ls} {xs} h a) =

@@ -1,0 +1,101 @@
+-- A read as of a time and a list of changes in a running store are refused by their time just if it is above that of the last
+-- stored commit: the state's stored time is that of the rows which a cut would leave, and a running store fits its buffers.
+use Prim.Native.Nat.{ℕ, _*_}
+use native.Mathlib.Omega.{arith}
+use mathlib.Core.Bool.{Bool, true, false, cond}
+use mathlib.Core.List.{List, [], _∷_}
+use mathlib.Core.Path.{_≡_, refl, sym, ap, _∙_}
+use lib.Dec.{eqb, leb}
+use lib.ListN.{length}
+use Rattle.fields.specs.Block.{zeros}
+use Rattle.layout.specs.Journal.{Record, sequenceOf, usedOf}
+use Rattle.store.specs.declared.Answer.the-variants.{Erased, Present}
+use Rattle.store.specs.declared.Best.{Best}
+use Rattle.store.specs.declared.Best.the-variants.{Version, Neither}
+use Rattle.store.specs.declared.Refusal.the-variants.{Unfit, NotYet, ShortBuffer}
+use Rattle.store.specs.declared.State.{State}
+use Rattle.store.specs.Answer.{refusalNumber, answerNumber, ask}
+use Rattle.store.specs.Places.{timeUnder}
+use Rattle.store.specs.State.{fits}
+use Rattle.store.specs.Chain.{newest, cellAt, bestOf}
+use Rattle.store.specs.CurrentRead.{reads, readCell}
+use Rattle.store.specs.AsOf.{asOfAt, asOfIf, asOfOf}
+use Rattle.store.specs.Changes.{changeLines, changesIf, changesOf}
+use Rattle.store.proofs.FitLaws.{fit-is}
+use Rattle.runs.specs.Book.{Book, lastTime, fall, linesOf, listing}
+use Rattle.agreement.proofs.history.Ghost.{records, Disk}
+use Rattle.agreement.proofs.history.RowLaws.{last-row}
+use Rattle.agreement.proofs.invariant.Invariant.{Up}
+use Rattle.agreement.proofs.logging.GrowthLaws.{tail-sound, tail-length, tail-low, tail-seq, tail-used}
+use Rattle.agreement.proofs.reads.Changes.{alike-length, alike-bytes, alike-size, lines-are}
+use Rattle.agreement.proofs.Cut.{cut-down}
+
+module _ {l d : ℕ} {m c : List ℕ} {s : State} {b : Book} {disk : Disk} {closed : List (List Record)} {tail : List Record} (u : Up l d m c s b disk closed tail) where
+  saved-is : s .saved .0 ≡ lastTime (fall b .rows)
+  saved-is = u .state .saved ∙ sym (ap lastTime (cut-down u .rows) ∙ last-row (records (disk .stored)) (cut-down u .medium .numbers .rising))
+
+  -- question 16
+  fits-up : fits s (length m) (length c) ≡ true
+  fits-up = fit-is s (length m) (length c) (record {
+    range = rw (u .state .blocks, u .state .pages) (u .medium .sizes .range);
+    medium = rw (u .state .blocks, u .state .pages) (u .medium .sizes .size);
+    cache = rw (u .state .pages) (u .cache .size);
+    slots = omega (arith, u .state .slots, u .state .pages, u .medium .pages .slots .room);
+    tail = record {
+      used-low = omega (arith, ap usedOf (u .state .tail-block), tail-used closed tail (u .medium));
+      used-high = omega (arith, ap usedOf (u .state .tail-block), tail-used closed tail (u .medium), tail-sound closed tail (u .medium) .fits);
+      sequence-low = omega (arith, ap sequenceOf (u .state .tail-block), tail-seq closed tail (u .medium), u .state .ring-low, u .medium .master .fits .oldest-low);
+      sequence-high = omega (arith, ap sequenceOf (u .state .tail-block), tail-seq closed tail (u .medium), tail-low closed tail (u .medium));
+      size = ap length (u .state .tail-block) ∙ tail-length closed tail (u .medium);
+    };
+    places = u .living .size;
+    first = u .firsts .size;
+  })
+
+  -- ---- a read
+
+  -- what is found is no refusal
+  read-answered : (x : Best) → answerNumber (asOfAt x s m c .answer) ≡ 0
+  unfolding readCell answerNumber
+  read-answered Neither = refl
+  read-answered (Version n t) = go (eqb (cellAt c n .kind) 1)
+    where
+      go : (y : Bool) → answerNumber (cond y (reads Erased (zeros 16) s m c) (reads Present (cellAt c n .value) s m c) .answer) ≡ 0
+      go true = refl
+      go false = refl
+
+  pub read-refusal : (key t : ℕ) → answerNumber (asOfOf s m c key t .answer) ≡ cond (leb t (lastTime (fall b .rows))) 0 10
+  unfolding asOfOf asOfIf answerNumber refusalNumber
+  read-refusal key t = by-time ∙ ap (λ (n : ℕ). cond (leb t n) 0 10) saved-is
+    where
+      go : (x : Bool) → answerNumber (asOfIf (ask ((true, Unfit) ∷ (x, NotYet) ∷ [])) s m c key t .answer) ≡ cond x 0 10
+      go true = read-answered (bestOf (newest c key (s .slots)) c (timeUnder (s .places)) t)
+      go false = refl
+
+      by-time : answerNumber (asOfOf s m c key t .answer) ≡ cond (leb t (s .saved .0)) 0 10
+      by-time = rw fits-up (go (leb t (s .saved .0)))
+
+  -- ---- a list
+
+  pub list-refusal : (key t1 t2 : ℕ) (buffer : List ℕ) → answerNumber (changesOf s m c buffer key t1 t2 .answer)
+      ≡ cond (leb t2 (lastTime (fall b .rows))) (cond (leb (32 * length (linesOf (b .rows) key t1 t2)) (length buffer)) 0 14) 10
+  unfolding changesOf changesIf answerNumber refusalNumber
+  list-refusal key t1 t2 buffer =
+      by-time
+      ∙ ap (λ (n : ℕ). cond (leb t2 n) (cond (leb (32 * length (changeLines s c key t1 t2)) (length buffer)) 0 14) 10) saved-is
+      ∙ ap (λ (n : ℕ). cond (leb t2 (lastTime (fall b .rows))) (cond (leb (32 * n) (length buffer)) 0 14) 10) (alike-length (lines-are u key t1 t2))
+    where
+      go : (x y : Bool) → answerNumber (changesIf (ask ((true, Unfit) ∷ (x, NotYet) ∷ (y, ShortBuffer) ∷ [])) s m c buffer (changeLines s c key t1 t2) .answer)
+          ≡ cond x (cond y 0 14) 10
+      go true true = refl
+      go true false = refl
+      go false y = refl
+
+      by-time : answerNumber (changesOf s m c buffer key t1 t2 .answer) ≡ cond (leb t2 (s .saved .0)) (cond (leb (32 * length (changeLines s c key t1 t2)) (length buffer)) 0 14) 10
+      by-time = rw fits-up (go (leb t2 (s .saved .0)) (leb (32 * length (changeLines s c key t1 t2)) (length buffer)))
+
+  -- its lines take 32 bytes each
+  pub list-size : (key t1 t2 : ℕ) → length (listing (linesOf (b .rows) key t1 t2)) ≡ 32 * length (linesOf (b .rows) key t1 t2)
+  list-size key t1 t2 =
+      let a = lines-are u key t1 t2 in
+      ap length (sym (alike-bytes a)) ∙ alike-size a ∙ ap (λ (n : ℕ). 32 * n) (alike-length a)
