@@ -5,3 +5,6 @@ pub mod LastEvents
 pub mod Spoiling
 pub mod Applied
 pub mod EveryCall
+pub mod Reread
+pub mod Repeats
+pub mod LastGiven

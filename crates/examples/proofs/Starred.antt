@@ -8,11 +8,11 @@ use Rattle.examples.specs.Table.{Outcome, shown, tailOf, outcomeOf, Row,
 use Rattle.examples.proofs.Passes.{ran-is}
 
 -- the outcome by one pass
-unfoldable passed : ℕ → ℕ → List Event → Outcome
+unfoldable pub passed : ℕ → ℕ → List Event → Outcome
 unfolding ran tailOf
 passed l d es = let r = ran l d es in record { answers = map shown (r .seen); tail = tailOf (r .world) }
 
-by-pass : (r : Row) → passed (r .blocks) (r .pages) (r .script) ≡ record { answers = r .answers; tail = r .tail } → Right r
+pub by-pass : (r : Row) → passed (r .blocks) (r .pages) (r .script) ≡ record { answers = r .answers; tail = r .tail } → Right r
 unfolding Right passed outcomeOf
 by-pass r e = sym (ap (λ (x : Ran). record { answers = map shown (x .seen); tail = tailOf (x .world) }) (ran-is (r .blocks) (r .pages) (r .script))) ∙ e
 

@@ -3,3 +3,5 @@ pub mod Words
 pub mod Table
 pub mod Spoiling
 pub mod EveryCall
+pub mod LastGiven
+pub mod Repeats
