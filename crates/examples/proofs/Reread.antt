@@ -44,7 +44,7 @@ refuted c u s t =
 
 -- ---- the strips differ
 
-abbrev pub first-byte : Strip → ℕ
+abbrev first-byte : Strip → ℕ
 first-byte missing = 0
 first-byte erased = 0
 first-byte (present v) = getD v 0 0

@@ -11,12 +11,12 @@ use Rattle.store.specs.declared.Refusal.{Refusal}
 use Rattle.store.specs.declared.Refusal.the-variants.{Unfit, NotYet}
 use Rattle.store.specs.declared.State.{State}
 use Rattle.store.specs.Answer.{Outcome, ask}
-use Rattle.store.specs.State.{inRange, fits}
+use Rattle.store.specs.State.{fits}
 use Rattle.store.specs.AsOf.{asOfIf}
-use Rattle.runs.specs.Event.{Call, Event, opening, cut, call, begin, write, erase, current-read, commit, abort, as-of, changes, store-log, store-page, checkpoint, present, Observation, typed}
+use Rattle.runs.specs.Event.{Call, Event, opening, cut, call, begin, write, erase, current-read, commit, abort, as-of, changes, store-log, store-page, checkpoint, present, typed}
 use Rattle.runs.specs.Machine.{World, down, up, Step, after, called, seenOf, step, allowed, formatted}
 use Rattle.examples.specs.Words.{bytes, opened}
-use Rattle.examples.specs.Table.{Shown, shown, Row, done, refused, reads, tail}
+use Rattle.examples.specs.Table.{Shown, shown, Row, done, reads, tail}
 
 -- ---- runs by 01's own question
 
@@ -42,6 +42,11 @@ givenCalled m c s store-log = called m c s store-log
 givenCalled m c s (store-page p) = called m c s (store-page p)
 givenCalled m c s checkpoint = called m c s checkpoint
 
+-- what events answer, and whether they are a run
+pub record Given : Type 0 where
+  pub answers : List Shown
+  pub run : Bool
+
 module _ (l d : ℕ) where
   -- the room, with these calls
   unfoldable pub givenStep : World → Event → Step
@@ -50,21 +55,13 @@ module _ (l d : ℕ) where
   givenStep (up m c s) cut = step l d (up m c s) cut
   givenStep (up m c s) (call k) = record { world = after (givenCalled m c s k); seen = seenOf l m (givenCalled m c s k) [] }
 
-  -- what events leave and answer in it, whether they are a run, and what is seen of one that comes behind them
-  unfoldable pub givenAfter : World → List Event → World
-  givenAfter w [] = w
-  givenAfter w (e ∷ es) = givenAfter (givenStep w e .world) es
-
-  unfoldable pub givenAnswers : World → List Event → List Shown
-  givenAnswers w [] = []
-  givenAnswers w (e ∷ es) = shown (givenStep w e .seen) ∷ givenAnswers (givenStep w e .world) es
-
-  unfoldable pub givenIsRun : World → List Event → Bool
-  givenIsRun w [] = true
-  givenIsRun w (e ∷ es) = typed e && (allowed l d w e && givenIsRun (givenStep w e .world) es)
-
-  unfoldable pub givenSeen : List Event → Event → Observation
-  givenSeen es e = givenStep (givenAfter (formatted l d) es) e .seen
+  -- events in this room
+  unfoldable pub givenRan : World → List Event → Given
+  givenRan w [] = record { answers = []; run = true }
+  givenRan w (e ∷ es) =
+      let x = givenStep w e in
+      let r = givenRan (x .world) es in
+      record { answers = shown (x .seen) ∷ r .answers; run = typed e && (allowed l d w e && r .run) }
 
 -- ---- a run that answers a read twice
 
@@ -80,38 +77,18 @@ lost = cut ∷ opened 1 ∷ call (begin 10) ∷ call (write 1 7 (bytes 66)) ∷ 
 abbrev pub twoReads : List Event
 twoReads = printed ++ (call (as-of 7 10) ∷ (lost ++ (call (as-of 7 10) ∷ [])))
 
--- by 01's question both reads are answered, 65 first and then 66
+-- by 01's question that is a run, and both reads are answered, 65 first and then 66
 unfoldable pub Differ : Type 0
-Differ =
-    givenAnswers 2 1 (formatted 2 1) twoReads
-    ≡ done 0 ∷ done 1 ∷ done 0 ∷ done 10 ∷ reads (present (bytes 65))
-    ∷ done 0 ∷ done 0 ∷ done 1 ∷ done 0 ∷ done 10 ∷ reads (present (bytes 66)) ∷ []
-
--- of two answered reads as of one time, the later gives the strip of the first: less than `StableReads` claims, and false of
--- the room with 01's question
-unfoldable pub GivenStable : Type 0
-GivenStable =
-    (l d : ℕ) → inRange l d ≡ true
-    → (es fs : List Event) (key t : ℕ)
-    → givenIsRun l d (formatted l d) ((es ++ (call (as-of key t) ∷ fs)) ++ (call (as-of key t) ∷ [])) ≡ true
-    → givenSeen l d es (call (as-of key t)) .refusal ≡ 0
-    → givenSeen l d (es ++ (call (as-of key t) ∷ fs)) (call (as-of key t)) .refusal ≡ 0
-    → givenSeen l d (es ++ (call (as-of key t) ∷ fs)) (call (as-of key t)) .strip ≡ givenSeen l d es (call (as-of key t)) .strip
-
--- ---- the same by the question of #102
-
--- neither read is answered
-abbrev pub neither : Row
-neither = record {
-  blocks = 2;
-  pages = 1;
-  script = twoReads;
-  answers = done 0 ∷ done 1 ∷ done 0 ∷ done 10 ∷ refused 10
-      ∷ done 0 ∷ done 0 ∷ done 1 ∷ done 0 ∷ done 10 ∷ refused 10 ∷ [];
-  tail = tail 1 62;
+Differ = givenRan 2 1 (formatted 2 1) twoReads ≡ record {
+  answers = done 0 ∷ done 1 ∷ done 0 ∷ done 10 ∷ reads (present (bytes 65))
+      ∷ done 0 ∷ done 0 ∷ done 1 ∷ done 0 ∷ done 10 ∷ reads (present (bytes 66)) ∷ [];
+  run = true;
 }
 
--- with the log stored before the first read both are, and alike, for the later commit gets a later time
+-- ---- by the question of #102
+
+-- neither of these reads is answered (`readUnstored` in Repeats). With the log stored before the first of them both are, and
+-- alike, for the later commit gets a later time
 abbrev pub survives : Row
 survives = record {
   blocks = 2;

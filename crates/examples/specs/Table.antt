@@ -54,7 +54,7 @@ Right r = outcomeOf (r .blocks) (r .pages) (r .script) ≡ record { answers = r 
 abbrev pub done : ℕ → Shown
 done n = record { refusal = 0; result = n; strip = missing }
 
-abbrev pub refused : ℕ → Shown
+abbrev refused : ℕ → Shown
 refused n = record { refusal = n; result = 0; strip = missing }
 
 abbrev pub reads : Strip → Shown
