@@ -14,7 +14,7 @@ use Rattle.runs.specs.Book.{Row, Book, blank, lastTime, fall, asOf, Dated, line
 use Rattle.runs.specs.Machine.{World, up, down, called, seenOf, step, allowed, formatted}
 use Rattle.runs.specs.Moments.{Run, worldAfter, bookAt, seenAt, traceAt, transactions}
 use Rattle.runs.specs.Plain.{rowsFound, Rises, RisingRows}
-use Rattle.runs.specs.Stable.{storedTime, ReadsStored, ListsStored, Again, SameStrip, SameLines, StableReads, StableLists, StableAnswers}
+use Rattle.runs.specs.Stable.{storedTime, ReadsStored, ListsStored, Again, StableReads, StableLists, StableAnswers}
 use Rattle.agreement.proofs.invariant.Invariant.{Inv, running, fallen}
 use Rattle.agreement.proofs.plain.Runs.{run-append, first-typed, inv-after, never, started}
 use Rattle.agreement.proofs.plain.Times.{since, front-run, rises-take, rising-rows}

@@ -14,7 +14,7 @@ use Rattle.runs.specs.Book.{Version, Row, version, committed, Book, blank, vers
 use Rattle.runs.specs.Moments.{Run, bookAt, transactions}
 use Rattle.runs.specs.Plain.{Rises}
 use Rattle.agreement.proofs.reads.AsOf.{best-append}
-use Rattle.agreement.proofs.plain.Laws.{versions-append, time-among, time-front, time-none, time-left, row-transaction}
+use Rattle.agreement.proofs.plain.Laws.{versions-append, time-front, time-none, time-left}
 use Rattle.agreement.proofs.plain.Runs.{Turn, stays, falls, opens, adds, ends, closes, stores}
 use Rattle.agreement.proofs.plain.Times.{always, rises-right, Orderly, orderly-turn}
 use Rattle.agreement.proofs.plain.Reads.{last-from}
