@@ -1,6 +1,7 @@
 //! A record's versions, found by following earlier slots, and the reads over them.
 
 use crate::layout::*;
+use crate::rules::Rules;
 use crate::state::*;
 
 /// What a read finds.
@@ -95,8 +96,22 @@ pub fn check_not_held(
     }
 }
 
+/// Question 10: is this time stored? What is answered then survives a cut.
+fn check_stored<R: Rules>(state: &State, t: u64) -> Result<(), Refusal> {
+    let last = if R::READ_UNSTORED {
+        state.last_time
+    } else {
+        state.stored_time
+    };
+    if t > last {
+        Err(TIME_AHEAD)
+    } else {
+        Ok(())
+    }
+}
+
 /// The version with the greatest time not above `t`, the later slot among equals.
-pub fn as_of(
+pub fn as_of<R: Rules>(
     state: &State,
     medium: &[u8],
     cache: &[u8],
@@ -104,9 +119,7 @@ pub fn as_of(
     t: u64,
 ) -> Result<Strip, Refusal> {
     state.check_fit(medium, cache)?;
-    if t > state.last_time {
-        return Err(TIME_AHEAD);
-    }
+    check_stored::<R>(state, t)?;
     let mut best: Option<(u64, &[u8])> = None;
     for (_, slot) in Chain::from(cache, newest(cache, state.next_slot, record)) {
         let Some(time) = state.time_of(slot_state(slot)) else {
@@ -121,7 +134,7 @@ pub fn as_of(
 }
 
 /// Lists a record's changes from `t1` to `t2` into `answer`, and answers their number.
-pub fn changes(
+pub fn changes<R: Rules>(
     state: &State,
     medium: &[u8],
     cache: &[u8],
@@ -130,9 +143,7 @@ pub fn changes(
     answer: &mut [u8],
 ) -> Result<usize, Refusal> {
     state.check_fit(medium, cache)?;
-    if t2 > state.last_time {
-        return Err(TIME_AHEAD);
-    }
+    check_stored::<R>(state, t2)?;
     let mut versions = [(0u64, 0u16); MAX_SLOTS];
     let mut count = 0;
     for (n, slot) in Chain::from(cache, newest(cache, state.next_slot, record)) {

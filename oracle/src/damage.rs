@@ -211,14 +211,14 @@ fn go_on(mut state: State, mut medium: Vec<u8>, mut cache: Vec<u8>) -> Verdict<(
             for record in 0..40 {
                 let _ = write(state, medium, cache, (number, record), &[record; 16]);
             }
-            let _ = commit(state, medium, cache, number, 7);
+            let _ = commit::<Sound>(state, medium, cache, number, 7);
         }
         let _ = crate::journal::store_log::<Sound>(state, medium, cache);
         let _ = crate::pages::store_page::<Sound>(state, medium, cache, 0);
         for _ in 0..3 {
             let _ = crate::checkpoint::checkpoint::<Sound>(state, medium, cache);
         }
-        let _ = crate::chain::as_of(state, medium, cache, 3, state.last_time);
+        let _ = crate::chain::as_of::<Sound>(state, medium, cache, 3, state.stored_time);
     }));
     calls.map_err(|_| "a call after opening panics".to_string())
 }

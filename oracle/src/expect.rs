@@ -67,7 +67,7 @@ fn read(book: &Book, line: &Line) -> Expected {
             (book.is_open(number), NOT_ACTIVE),
             (!book.held(number, record), HELD),
         ]),
-        Line::AsOf { time, .. } => first_no(&[(time <= book.last_time(), TIME_AHEAD)]),
+        Line::AsOf { time, .. } => first_no(&[(time <= book.stored_last_time(), TIME_AHEAD)]),
         Line::Changes {
             record,
             from,
@@ -76,7 +76,10 @@ fn read(book: &Book, line: &Line) -> Expected {
         } => {
             let lines = book.changes(record, from, to).len();
             let fits = bytes as usize >= CHANGE_BYTES * lines;
-            first_no(&[(to <= book.last_time(), TIME_AHEAD), (fits, ANSWER_SHORT)])
+            first_no(&[
+                (to <= book.stored_last_time(), TIME_AHEAD),
+                (fits, ANSWER_SHORT),
+            ])
         }
         _ => Expected::Accepted,
     }

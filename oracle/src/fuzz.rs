@@ -7,6 +7,7 @@ use crate::profiles::Profile;
 use crate::rules::Rules;
 use crate::script::put_line;
 use crate::shrink::shrink;
+use crate::state::TIME_AHEAD;
 use std::panic::{catch_unwind, AssertUnwindSafe};
 
 /// What the histories of some seeds reached.
@@ -28,6 +29,10 @@ pub struct Reached {
     pub places_reused: u64,
     /// Begins that took a place under which the table still has a dead pair.
     pub begun_over_dead: u64,
+    /// Reads and lists refused because their time, though given, is not stored.
+    pub unstored: u64,
+    /// Answers that were asked again of an opened run.
+    pub asked_again: u64,
 }
 
 impl Reached {
@@ -43,6 +48,8 @@ impl Reached {
         self.none_matched += other.none_matched;
         self.places_reused += other.places_reused;
         self.begun_over_dead += other.begun_over_dead;
+        self.unstored += other.unstored;
+        self.asked_again += other.asked_again;
     }
 }
 
@@ -131,6 +138,19 @@ fn observe<R: Rules>(reached: &mut Reached, judge: &Judge<R>, line: &Line, reply
         let opened = matches!(line, Line::Open { .. }) && matches!(reply, Reply::Answer(_));
         let empty = state.tail_used == crate::layout::LOG_HEADER && state.tail_sequence > 1;
         reached.none_matched += u64::from(opened && empty);
+        reached.unstored += u64::from(is_unstored(line, reply, state.last_time));
+        if opened {
+            reached.asked_again += judge.answered.lines().count() as u64;
+        }
+    }
+}
+
+fn is_unstored(line: &Line, reply: &Reply, given: u64) -> bool {
+    match *line {
+        Line::AsOf { time, .. } | Line::Changes { to: time, .. } => {
+            *reply == Reply::Refused(TIME_AHEAD) && time <= given
+        }
+        _ => false,
     }
 }
 

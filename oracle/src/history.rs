@@ -274,18 +274,23 @@ impl History {
         }
     }
 
-    /// A time to ask for: near the last, anywhere below it, beside a stamp, or too late.
+    /// A time to ask for: mostly a stored one, near the last, anywhere below it or beside a
+    /// version's; else one that is given and not stored, or too late.
     fn time(&mut self, state: &State, cache: &[u8]) -> u64 {
-        match self.random.below(20) {
-            0 => state.last_time.saturating_add(1),
-            1 => u64::MAX - self.random.below(2),
-            2..=8 => state.last_time.saturating_sub(self.random.below(12)),
-            9..=13 if state.next_slot > 0 => {
+        let (stored, given) = (state.stored_time, state.last_time);
+        match self.random.below(40) {
+            0 => stored.saturating_add(1),
+            1 => given.saturating_add(1),
+            2 => u64::MAX - self.random.below(2),
+            // In a wrong store the stored time may be the greater one.
+            3..=6 => self.random.within((stored.min(given), given)),
+            7..=17 => stored.saturating_sub(self.random.below(12)),
+            18..=27 if state.next_slot > 0 => {
                 let n = self.random.below(state.next_slot as u64) as usize;
                 let time = state.time_of(slot_state(slot(cache, n))).unwrap_or(0);
                 (time.saturating_add(self.random.below(3))).saturating_sub(1)
             }
-            _ => self.random.within((0, state.last_time)),
+            _ => self.random.within((0, stored)),
         }
     }
 
@@ -334,7 +339,7 @@ impl History {
     }
 }
 
-fn active_numbers(state: &State) -> Vec<u64> {
+pub fn active_numbers(state: &State) -> Vec<u64> {
     let active = state.places.iter().filter_map(|place| match place.life {
         Life::Active { number, .. } => Some(number),
         _ => None,

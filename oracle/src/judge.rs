@@ -1,11 +1,11 @@
 //! A run under judgement: each call is compared with the book, and the power is cut after it.
 
+use crate::answered::Answered;
 use crate::book::{Book, Found};
 use crate::chain::Strip;
 use crate::expect;
 use crate::layout::*;
 use crate::machine::{Line, Machine, Reply};
-use crate::open::open;
 use crate::rules::Rules;
 use crate::shadow::Shadow;
 use crate::state::*;
@@ -13,7 +13,7 @@ use crate::state::*;
 /// What the store is compared with.
 #[derive(Clone, Copy, PartialEq, Eq)]
 pub enum Strictness {
-    /// The book alone, as a run's reader sees it.
+    /// The book alone, as a run's reader sees it, and answers that are asked again.
     Book,
     /// Also refusals, page bytes, and what a call may change.
     All,
@@ -23,10 +23,12 @@ pub struct Judge<R: Rules> {
     pub machine: Machine<R>,
     pub book: Book,
     pub shadow: Shadow,
+    pub answered: Answered,
     strictness: Strictness,
     medium_before: Vec<u8>,
     cache_before: Vec<u8>,
-    probe_cache: Vec<u8>,
+    /// Opened after a cut that the run itself does not see.
+    probe: Machine<R>,
 }
 
 pub type Verdict<T> = Result<T, String>;
@@ -45,10 +47,11 @@ impl<R: Rules> Judge<R> {
             machine: Machine::default(),
             book: Book::default(),
             shadow: Shadow::new(2),
+            answered: Answered::default(),
             strictness,
             medium_before: Vec::new(),
             cache_before: Vec::new(),
-            probe_cache: Vec::new(),
+            probe: Machine::default(),
         }
     }
 
@@ -64,6 +67,7 @@ impl<R: Rules> Judge<R> {
         if let Line::Format { log_blocks, .. } = line {
             self.book = Book::default();
             self.shadow = Shadow::new(*log_blocks as usize);
+            self.answered = Answered::default();
             demand(reply == Reply::Answer(0), || format!("{reply:?}"))?;
             return self.cut_here().map(|()| reply);
         }
@@ -72,6 +76,7 @@ impl<R: Rules> Judge<R> {
             self.judge_buffers(line, &reply, &state_before)?;
         }
         self.judge_answer(line, &reply)?;
+        self.answered.note(line, &reply, &self.machine);
         if !matches!(reply, Reply::Refused(_)) {
             self.feed(line, &reply)?;
         }
@@ -222,7 +227,10 @@ impl<R: Rules> Judge<R> {
             });
         }
         match (line, &self.machine.state) {
-            (Line::Open { .. }, Some(state)) => judge_found(&self.book, state, &self.machine.cache),
+            (Line::Open { .. } | Line::OpenSized { .. }, Some(state)) => {
+                judge_found(&self.book, state, &self.machine.cache)?;
+                self.answered.ask_again(&mut self.machine)
+            }
             _ => Ok(()),
         }
     }
@@ -234,21 +242,30 @@ impl<R: Rules> Judge<R> {
 
     /// Opens the medium afresh, as if the power had been cut here.
     fn cut_here(&mut self) -> Verdict<()> {
-        let machine = &self.machine;
-        self.probe_cache.clear();
-        self.probe_cache
-            .resize(BLOCK * machine.pages as usize, 0xee);
-        let cache = &mut self.probe_cache;
-        let opened = open::<R>(&machine.medium, cache, machine.log_blocks, machine.pages);
-        let state = opened.map_err(|fault| format!("after a cut: refused, {fault:?}"))?;
+        self.judge_cut()
+            .map_err(|text| format!("after a cut: {text}"))
+    }
+
+    fn judge_cut(&mut self) -> Verdict<()> {
+        self.machine.cut_into(&mut self.probe);
+        let cache_bytes = BLOCK * self.machine.pages as usize;
+        let opened = self.probe.try_open(cache_bytes, 0xee);
+        let last_time = opened.map_err(|fault| format!("refused, {fault:?}"))?;
         let last = self.book.stored_last_time();
-        demand(state.last_time == last, || {
-            format!("after a cut: last time {}, not {last}", state.last_time)
+        demand(last_time == last, || {
+            format!("last time {last_time}, not {last}")
         })?;
+        let state = self.probe.state.as_ref().ok_or("nothing is open")?;
         demand(!self.book.has_stored_row(state.next_number), || {
-            format!("after a cut: number {} given again", state.next_number)
+            format!("number {} given again", state.next_number)
         })?;
-        judge_found(&self.book, &state, cache).map_err(|text| format!("after a cut: {text}"))
+        judge_found(&self.book, state, &self.probe.cache)?;
+        // Where the call changed no byte, the others were asked of the same medium before.
+        if self.machine.medium == self.medium_before {
+            self.answered.ask_last_again(&mut self.probe)
+        } else {
+            self.answered.ask_again(&mut self.probe)
+        }
     }
 }
 

@@ -1,6 +1,7 @@
 //! The strip history in plain Rust: a byte-exact store, the book that judges it, and random
 //! histories.
 
+pub mod answered;
 pub mod bench;
 pub mod book;
 pub mod chain;

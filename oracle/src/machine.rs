@@ -5,12 +5,11 @@ use crate::checkpoint::checkpoint;
 use crate::format::format;
 use crate::journal::store_log;
 use crate::layout::*;
-use crate::open::open;
+use crate::open::{open, Fault};
 use crate::pages::store_page;
 use crate::rules::Rules;
 use crate::state::*;
 use crate::transactions::{abort, begin, commit, erase, write};
-use std::marker::PhantomData;
 
 /// The longest cache or answer buffer that a line may ask for.
 pub const MAX_BUFFER: u64 = 40000;
@@ -107,7 +106,8 @@ pub struct Machine<R: Rules> {
     /// The cache of an opening under way; a refused one leaves the other alone.
     pub opening: Vec<u8>,
     pub answer: Vec<u8>,
-    rules: PhantomData<R>,
+    /// A wrong store may keep something here that a cut should take.
+    rules: R,
 }
 
 impl<R: Rules> Default for Machine<R> {
@@ -120,7 +120,7 @@ impl<R: Rules> Default for Machine<R> {
             cache: Vec::new(),
             opening: Vec::new(),
             answer: Vec::new(),
-            rules: PhantomData,
+            rules: R::default(),
         }
     }
 }
@@ -147,7 +147,7 @@ impl<R: Rules> Machine<R> {
             Line::Open { fill } => self.open(BLOCK * self.pages as usize, fill),
             Line::OpenSized { bytes } => self.open(bytes as usize, 0),
             Line::Cut => {
-                self.state = None;
+                self.end();
                 Reply::Answer(0)
             }
             Line::ShowBlock { block } => {
@@ -169,7 +169,7 @@ impl<R: Rules> Machine<R> {
     }
 
     fn format(&mut self, log_blocks: u64, pages: u64) -> Reply {
-        self.state = None;
+        (self.state, self.rules) = (None, R::default());
         self.medium.clear();
         if sizes_in_range(log_blocks, pages) {
             let bytes = medium_bytes(log_blocks as usize, pages as usize);
@@ -185,18 +185,40 @@ impl<R: Rules> Machine<R> {
     }
 
     fn open(&mut self, cache_bytes: usize, fill: u8) -> Reply {
+        match self.try_open(cache_bytes, fill) {
+            Ok(last_time) => Reply::Answer(last_time),
+            Err(fault) => Reply::Refused(fault.refusal()),
+        }
+    }
+
+    /// Answers the last time found.
+    pub fn try_open(&mut self, cache_bytes: usize, fill: u8) -> Result<u64, Fault> {
         self.opening.clear();
         self.opening.resize(cache_bytes, fill);
         let (log_blocks, pages) = (self.log_blocks, self.pages);
-        match open::<R>(&self.medium, &mut self.opening, log_blocks, pages) {
-            Ok(state) => {
-                let last_time = state.last_time;
-                self.state = Some(state);
-                std::mem::swap(&mut self.cache, &mut self.opening);
-                Reply::Answer(last_time)
-            }
-            Err(fault) => Reply::Refused(fault.refusal()),
+        let mut state = open::<R>(&self.medium, &mut self.opening, log_blocks, pages)?;
+        self.end();
+        self.rules.put_back(&mut state);
+        let last_time = state.last_time;
+        self.state = Some(state);
+        std::mem::swap(&mut self.cache, &mut self.opening);
+        Ok(last_time)
+    }
+
+    /// A cut or an accepted opening ends what is open.
+    fn end(&mut self) {
+        if let Some(state) = self.state.take() {
+            self.rules.keep(&state);
         }
+    }
+
+    /// Makes another machine what this one would be if the power were cut now.
+    pub fn cut_into(&self, other: &mut Self) {
+        (other.log_blocks, other.pages) = (self.log_blocks, self.pages);
+        other.medium.clone_from(&self.medium);
+        other.state.clone_from(&self.state);
+        other.rules = self.rules.clone();
+        other.end();
     }
 
     /// The calls that need an accepted opening.
@@ -218,9 +240,13 @@ impl<R: Rules> Machine<R> {
             Line::Read { number, record } => {
                 strip(chain::current_read(state, medium, cache, number, record))
             }
-            Line::Commit { number, clock } => answer(commit(state, medium, cache, number, clock)),
+            Line::Commit { number, clock } => {
+                answer(commit::<R>(state, medium, cache, number, clock))
+            }
             Line::Abort { number } => done(abort(state, medium, cache, number)),
-            Line::AsOf { record, time } => strip(chain::as_of(state, medium, cache, record, time)),
+            Line::AsOf { record, time } => {
+                strip(chain::as_of::<R>(state, medium, cache, record, time))
+            }
             Line::StoreLog => done(store_log::<R>(state, medium, cache)),
             Line::StorePage { page } => done(store_page::<R>(state, medium, cache, page)),
             Line::Checkpoint => done(checkpoint::<R>(state, medium, cache)),
@@ -241,7 +267,7 @@ impl<R: Rules> Machine<R> {
         self.answer.clear();
         self.answer.resize(bytes, UNTOUCHED);
         let (medium, cache) = (&self.medium, &self.cache);
-        match chain::changes(state, medium, cache, record, range, &mut self.answer) {
+        match chain::changes::<R>(state, medium, cache, record, range, &mut self.answer) {
             Ok(lines) => {
                 let rest = &self.answer[lines * CHANGE_BYTES..];
                 let kept = rest.iter().all(|&byte| byte == UNTOUCHED);

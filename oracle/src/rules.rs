@@ -1,8 +1,11 @@
-//! The sound store and the four shortcuts that spoil a history.
+//! The sound store and wrong ones: the four shortcuts of document 01 that spoil a history, and three
+//! stores of which request #102 is not true, since an answer as of a time may not survive a cut.
 //!
-//! Each shortcut is a type, so the sound store is compiled without a trace of them.
+//! Each wrong one is a type, so the sound store is compiled without a trace of them.
 
-pub trait Rules {
+use crate::state::State;
+
+pub trait Rules: Clone + Default {
     /// Stamps a page with a time whose commit record is not stored.
     const STAMP_UNSTORED: bool = false;
     /// Closes up the pair table, so that pairs move.
@@ -11,27 +14,70 @@ pub trait Rules {
     const DROP_WHEN_CACHED: bool = false;
     /// Starts transaction numbers from the log alone.
     const NUMBERS_FROM_LOG: bool = false;
+    /// Compares reads as of and lists with the last time given.
+    const READ_UNSTORED: bool = false;
+    /// Moves the stored time when a time is given.
+    const STORED_AT_COMMIT: bool = false;
+
+    /// Looks at the state that a cut or an opening ends.
+    fn keep(&mut self, _ended: &State) {}
+
+    /// Changes the state that an opening found.
+    fn put_back(&self, _found: &mut State) {}
 }
 
+#[derive(Clone, Default)]
 pub struct Sound;
 impl Rules for Sound {}
 
+#[derive(Clone, Default)]
 pub struct StampUnstored;
 impl Rules for StampUnstored {
     const STAMP_UNSTORED: bool = true;
 }
 
+#[derive(Clone, Default)]
 pub struct CloseUpTable;
 impl Rules for CloseUpTable {
     const CLOSE_UP_TABLE: bool = true;
 }
 
+#[derive(Clone, Default)]
 pub struct DropWhenCached;
 impl Rules for DropWhenCached {
     const DROP_WHEN_CACHED: bool = true;
 }
 
+#[derive(Clone, Default)]
 pub struct NumbersFromLog;
 impl Rules for NumbersFromLog {
     const NUMBERS_FROM_LOG: bool = true;
+}
+
+#[derive(Clone, Default)]
+pub struct ReadUnstored;
+impl Rules for ReadUnstored {
+    const READ_UNSTORED: bool = true;
+}
+
+#[derive(Clone, Default)]
+pub struct StoredAtCommit;
+impl Rules for StoredAtCommit {
+    const STORED_AT_COMMIT: bool = true;
+}
+
+/// A cut does not take back the last time given: it counts as stored from the opening on, though its
+/// commit is gone.
+#[derive(Clone, Default)]
+pub struct KeptOverCut {
+    kept: u64,
+}
+impl Rules for KeptOverCut {
+    fn keep(&mut self, ended: &State) {
+        self.kept = ended.stored_time.max(ended.last_time);
+    }
+
+    fn put_back(&self, found: &mut State) {
+        found.stored_time = found.stored_time.max(self.kept);
+    }
 }

@@ -1,13 +1,14 @@
 //! Writes random scripts for other programs to run.
 
 use crate::damage::damage;
-use crate::history::History;
+use crate::history::{active_numbers, History};
 use crate::layout::*;
 use crate::machine::{Line, Machine, Reply};
 use crate::profiles::{by_seed, Profile};
 use crate::random::Random;
 use crate::rules::Sound;
 use crate::script::put_line;
+use crate::state::State;
 use crate::stripbook;
 
 /// Damage of more bytes would drown the calls.
@@ -194,10 +195,7 @@ fn stripbook_line(machine: &Machine<Sound>, random: &mut Random) -> Line {
     let Some(state) = &machine.state else {
         return Line::Cut;
     };
-    let number = match random.below(6) {
-        0 => random.below(state.next_number + 2),
-        _ => state.next_number - 1 - random.below(state.next_number.min(3)),
-    };
+    let number = stripbook_number(state, random);
     let last = state.last_time;
     let clock = match random.below(40) {
         0 => u64::MAX - random.below(9),
@@ -205,6 +203,8 @@ fn stripbook_line(machine: &Machine<Sound>, random: &mut Random) -> Line {
         _ => last.saturating_add(random.below(5)),
     };
     let record = random.below(6) as u8;
+    // Before a first time is stored, which takes a full log block, a cut leaves nothing to ask for.
+    let cuts = if state.stored_time == 0 { 20 } else { 60 };
     match random.below(20) {
         0..=2 => Line::Begin { clock },
         3..=7 => Line::Write {
@@ -213,15 +213,31 @@ fn stripbook_line(machine: &Machine<Sound>, random: &mut Random) -> Line {
             value: [random.below(256) as u8; 16],
         },
         8..=9 => Line::Commit { number, clock },
-        10 if random.percent(60) => Line::Cut,
+        10 if random.percent(cuts) => Line::Cut,
         _ => Line::AsOf {
             record,
-            time: match random.below(5) {
-                0 => last.saturating_add(1),
-                1 => last,
-                _ => random.within((0, last)),
-            },
+            time: stripbook_time(state, random),
         },
+    }
+}
+
+/// Mostly an active number.
+fn stripbook_number(state: &State, random: &mut Random) -> u64 {
+    match random.below(6) {
+        0 => random.below(state.next_number + 2),
+        1 => state.next_number - 1 - random.below(state.next_number.min(3)),
+        _ => random.pick(&active_numbers(state)).copied().unwrap_or(0),
+    }
+}
+
+/// Mostly a time that is stored; else one above it, the last one given or one above that.
+fn stripbook_time(state: &State, random: &mut Random) -> u64 {
+    match random.below(15) {
+        0 => state.stored_time.saturating_add(1),
+        1 => state.last_time.saturating_add(1),
+        2 => state.last_time,
+        3..=5 => state.stored_time,
+        _ => random.within((0, state.stored_time)),
     }
 }
 

@@ -3,6 +3,7 @@
 use crate::chain;
 use crate::journal;
 use crate::layout::*;
+use crate::rules::Rules;
 use crate::state::*;
 
 pub fn begin(state: &mut State, medium: &[u8], cache: &[u8], clock: u64) -> Result<u64, Refusal> {
@@ -81,7 +82,7 @@ fn add_version(
 }
 
 /// Answers the commit time, or 0 for a transaction without versions.
-pub fn commit(
+pub fn commit<R: Rules>(
     state: &mut State,
     medium: &mut [u8],
     cache: &[u8],
@@ -105,6 +106,9 @@ pub fn commit(
     let end = journal::append(state, medium, &Record::Commit { number, time });
     state.places[place].life = Life::Committed { number, time, end };
     state.last_time = time;
+    if R::STORED_AT_COMMIT {
+        state.stored_time = time;
+    }
     Ok(time)
 }
 

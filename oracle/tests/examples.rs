@@ -1,4 +1,4 @@
-//! The examples of document 01.
+//! The examples of document 01, and of request #102.
 
 use oracle::script;
 
@@ -25,12 +25,17 @@ fn exchange(log_blocks: u64, pages: u64, lines: &[(&str, &str)]) -> Vec<(String,
         (format!("F {log_blocks} {pages}"), "F 0 0".to_string()),
         ("O 7".to_string(), "O 0 0".to_string()),
     ];
-    all.extend(lines.iter().map(|(line, answer)| {
-        let line = line.replace("VALUE", VALUE).replace("OTHER", OTHER);
-        let answer = answer.replace("VALUE", VALUE).replace("OTHER", OTHER);
-        (line, answer)
-    }));
+    all.extend(whole(lines));
     all
+}
+
+/// Lines and answers with the values written out.
+fn whole(lines: &[(&str, &str)]) -> Vec<(String, String)> {
+    let whole = |text: &str| text.replace("VALUE", VALUE).replace("OTHER", OTHER);
+    let lines = lines.iter();
+    lines
+        .map(|(line, answer)| (whole(line), whole(answer)))
+        .collect()
 }
 
 fn write(number: u64, record: u64, answer: &str) -> (String, String) {
@@ -91,6 +96,7 @@ fn two_writes_in_a_transaction() {
             ("W 1 7 VALUE", "W 0 0"),
             ("W 1 7 OTHER", "W 0 1"),
             ("C 1 10", "C 0 10"),
+            ("S", "S 0 0"),
             ("Q 7 10", "Q 0 OTHER"),
             ("Q 7 9", "Q 0 none"),
         ],
@@ -136,10 +142,103 @@ fn erase_of_a_never_written_record() {
             ("B 10", "B 0 1"),
             ("E 1 9", "E 0 0"),
             ("C 1 1", "C 0 10"),
+            ("S", "S 0 0"),
             ("Q 9 10", "Q 0 erased"),
             ("Q 9 9", "Q 0 none"),
         ],
     ));
+}
+
+/// Once answered, a time's strip stays, though a cut takes what was not stored.
+#[test]
+fn as_of_answers_survive_a_cut() {
+    let commit = [
+        ("B 10", "B 0 1"),
+        ("W 1 7 VALUE", "W 0 0"),
+        ("C 1 10", "C 0 10"),
+    ];
+    let not_stored = [
+        ("Q 7 10", "Q 10 -"),
+        ("L 7 0 10 32", "L 10 -"),
+        ("X", "X 0 0"),
+        ("O 1", "O 0 0"),
+        ("B 10", "B 0 1"),
+        ("W 1 7 OTHER", "W 0 0"),
+        ("C 1 10", "C 0 10"),
+        ("Q 7 10", "Q 10 -"),
+    ];
+    let listed = "L 0 1\n10 0 VALUE\n= kept";
+    let stored = [
+        ("S", "S 0 0"),
+        ("Q 7 10", "Q 0 VALUE"),
+        ("L 7 0 10 32", listed),
+        ("X", "X 0 0"),
+        ("O 1", "O 0 10"),
+        ("B 10", "B 0 2"),
+        ("W 2 7 OTHER", "W 0 1"),
+        ("C 2 10", "C 0 11"),
+        ("Q 7 10", "Q 0 VALUE"),
+        ("L 7 0 10 32", listed),
+        ("Q 7 11", "Q 10 -"),
+    ];
+    check(&exchange(2, 1, &[&commit[..], &not_stored].concat()));
+    check(&exchange(2, 1, &[&commit[..], &stored].concat()));
+}
+
+#[test]
+fn a_version_that_begins_a_block_stores_the_times_before_it() {
+    let mut lines = exchange(
+        2,
+        2,
+        &[
+            ("B 10", "B 0 1"),
+            ("W 1 7 VALUE", "W 0 0"),
+            ("C 1 10", "C 0 10"),
+            ("B 11", "B 0 2"),
+        ],
+    );
+    // Fourteen versions and a commit leave 21 bytes of the block.
+    lines.extend((1..14).map(|slot| write(2, 20 + slot, &format!("W 0 {slot}"))));
+    lines.extend(whole(&[
+        ("Q 7 10", "Q 10 -"),
+        ("W 2 40 VALUE", "W 0 14"),
+        ("Q 7 10", "Q 0 VALUE"),
+        ("Q 7 11", "Q 10 -"),
+        ("X", "X 0 0"),
+        ("O 0", "O 0 10"),
+        ("Q 7 10", "Q 0 VALUE"),
+    ]));
+    check(&lines);
+}
+
+#[test]
+fn a_commit_that_begins_a_block_stores_the_times_before_its_own() {
+    let mut lines = exchange(
+        2,
+        2,
+        &[
+            ("B 10", "B 0 1"),
+            ("B 11", "B 0 2"),
+            ("B 12", "B 0 3"),
+            ("W 2 7 VALUE", "W 0 0"),
+            ("W 3 8 VALUE", "W 0 1"),
+        ],
+    );
+    lines.extend((2..14).map(|slot| write(1, 20 + slot, &format!("W 0 {slot}"))));
+    lines.extend(whole(&[
+        ("C 1 10", "C 0 10"),
+        // Fourteen versions and two commits leave 2 bytes of the block.
+        ("C 2 11", "C 0 11"),
+        ("Q 7 11", "Q 10 -"),
+        ("C 3 12", "C 0 12"),
+        ("Q 7 11", "Q 0 VALUE"),
+        ("Q 8 11", "Q 0 none"),
+        ("Q 8 12", "Q 10 -"),
+        ("X", "X 0 0"),
+        ("O 0", "O 0 11"),
+        ("Q 7 11", "Q 0 VALUE"),
+    ]));
+    check(&lines);
 }
 
 #[test]
@@ -179,7 +278,7 @@ fn sixty_four_live() {
 fn stripbook_listing() {
     let mut out = Vec::new();
     oracle::stripbook::run(b"B 10\nW 1 7 65\nC 1 5\nQ 7 10\nX\nQ 7 10\n", &mut out);
-    assert_eq!(out, b"B 0 1\nW 0 0\nC 0 10\nQ 0 65\nX 0 0\nQ 10 -\n");
+    assert_eq!(out, b"B 0 1\nW 0 0\nC 0 10\nQ 10 -\nX 0 0\nQ 10 -\n");
 }
 
 #[test]
@@ -203,7 +302,7 @@ fn stripbook_forms() {
 #[test]
 fn list_of_changes() {
     let lines = "F 4 2\nO 0\nB 5\nW 1 7 VALUE\nC 1 5\nB 6\nW 2 7 VALUE\nC 2 6\nB 7\nE 3 7\nC 3 7\n\
-                 L 7 0 7 64\nL 7 6 7 33\nL 7 0 7 63\nL 7 0 8 64\nL 7 7 0 0\n";
+                 S\nL 7 0 7 64\nL 7 6 7 33\nL 7 0 7 63\nL 7 0 8 64\nL 7 7 0 0\n";
     let mut out = Vec::new();
     script::run(lines.replace("VALUE", VALUE).as_bytes(), &mut out);
     let out = String::from_utf8(out).unwrap();

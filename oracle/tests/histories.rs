@@ -32,6 +32,7 @@ fn histories_agree_with_the_book() {
     assert!(all.table_pairs > 32);
     assert!(all.torn > 0 && all.none_matched > 0);
     assert!(all.places_reused > 0 && all.begun_over_dead > 0);
+    assert!(all.unstored > 0 && all.asked_again > 0);
 }
 
 #[test]
@@ -105,6 +106,18 @@ fn stripbook_scripts_end_at_a_line_of_another_form() {
         oracle::stripbook::run(&ended, &mut same);
         assert_eq!(out, same);
         assert_eq!(out.iter().filter(|&&byte| byte == b'\n').count(), 100);
+    }
+}
+
+/// Their log is stored by full blocks alone, so cuts may leave no time to ask for.
+#[test]
+fn stripbook_scripts_find_strips_of_stored_times() {
+    for seed in 0..40 {
+        let mut out = Vec::new();
+        oracle::stripbook::run(&stripbook_script(seed, 2000, false), &mut out);
+        let mut lines = out.split(|&byte| byte == b'\n');
+        let found = lines.any(|line| line.starts_with(b"Q 0 ") && !line.ends_with(b"-"));
+        assert!(found, "seed {seed}");
     }
 }
 

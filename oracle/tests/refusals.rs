@@ -4,7 +4,7 @@ use oracle::layout::*;
 use oracle::machine::{Line, Machine};
 use oracle::rules::Sound;
 use oracle::state::*;
-use oracle::transactions::{abort, begin};
+use oracle::transactions::{abort, begin, commit};
 use oracle::{chain, checkpoint, journal, pages};
 
 fn opened() -> (State, Vec<u8>, Vec<u8>) {
@@ -36,11 +36,11 @@ fn refused_as_misfit(state: &State, medium: &[u8], cache: &[u8]) {
     let written = oracle::transactions::write(s, m, c, (1, 1), &value);
     assert_eq!(written, Err(MISFIT));
     assert_eq!(oracle::transactions::erase(s, m, c, (1, 1)), Err(MISFIT));
-    assert_eq!(oracle::transactions::commit(s, m, c, 1, 1), Err(MISFIT));
+    assert_eq!(commit::<Sound>(s, m, c, 1, 1), Err(MISFIT));
     assert_eq!(abort(s, m, c, 1), Err(MISFIT));
     assert_eq!(chain::current_read(s, m, c, 1, 1), Err(MISFIT));
-    assert_eq!(chain::as_of(s, m, c, 1, 1), Err(MISFIT));
-    let listed = chain::changes(s, m, c, 1, (0, 1), &mut []);
+    assert_eq!(chain::as_of::<Sound>(s, m, c, 1, 1), Err(MISFIT));
+    let listed = chain::changes::<Sound>(s, m, c, 1, (0, 1), &mut []);
     assert_eq!(listed, Err(MISFIT));
     assert_eq!(journal::store_log::<Sound>(s, m, c), Err(MISFIT));
     assert_eq!(pages::store_page::<Sound>(s, m, c, 99), Err(MISFIT));

@@ -57,7 +57,7 @@ impl Filler {
 
     /// What is repeated. A page store finds a byte to change because the medium was damaged.
     fn lines(&self, letter: u8) -> Option<Vec<Line>> {
-        let last = self.state().last_time;
+        let last = self.state().stored_time;
         let page = self.size.pages - 1;
         let end = BLOCK * (1 + page_block(page, self.size.log_blocks));
         let poke = Line::Poke {

@@ -100,15 +100,15 @@ impl Rooms {
         Line::Cut
     }
 
-    /// Half of the questions are about the last minutes.
+    /// Half of the questions are about the last minutes that are stored.
     fn time(&mut self, state: &State) -> u64 {
+        let last = state.stored_time;
         let first = if self.random.percent(50) {
-            state.last_time.saturating_sub(50)
+            last.saturating_sub(50)
         } else {
             self.opened
         };
-        self.random
-            .within((first.min(state.last_time), state.last_time))
+        self.random.within((first.min(last), last))
     }
 
     fn changes(&mut self, state: &State) -> Line {

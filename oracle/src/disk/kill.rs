@@ -31,6 +31,7 @@ struct Tally {
     done: u64,
     not_done: u64,
     versions: u64,
+    answers: u64,
 }
 
 /// When the process is ended.
@@ -58,7 +59,8 @@ pub fn run(setup: &Setup, effort: &Effort) -> Result<String, String> {
     Ok(format!(
         "kill: {} runs ended at a random moment (the call under way {} times done, {} times not, else without \
          a store), {} between the pwrite and the answer, {} before a pwrite, {} at a call of a format; \
-         {} of all inside a checkpoint; never half, {} stored versions found again, nothing lost",
+         {} of all inside a checkpoint; never half, {} stored versions found again and {} answers given \
+         again, nothing lost",
         tally.random,
         tally.done,
         tally.not_done,
@@ -66,7 +68,8 @@ pub fn run(setup: &Setup, effort: &Effort) -> Result<String, String> {
         tally.before,
         tally.formats,
         tally.inside_checkpoint,
-        tally.versions
+        tally.versions,
+        tally.answers
     ))
 }
 
@@ -101,6 +104,7 @@ fn chain(setup: &Setup, seed: u64, exact: bool, tally: &mut Tally) -> Result<(),
             break;
         }
     }
+    tally.answers += chain.asked_again;
     Ok(())
 }
 

@@ -36,6 +36,8 @@ pub enum Allowed {
 pub struct Chain {
     judge: Judge<Sound>,
     pub file: Option<Vec<u8>>,
+    /// Answers of earlier processes that new ones were asked for.
+    pub asked_again: u64,
 }
 
 impl Default for Chain {
@@ -43,6 +45,7 @@ impl Default for Chain {
         Chain {
             judge: Judge::new(Strictness::Book),
             file: None,
+            asked_again: 0,
         }
     }
 }
@@ -95,7 +98,8 @@ impl Chain {
         self.judge.book.stored_slots().count() as u64
     }
 
-    /// Lines for a new process that look at all that it finds, and what the book says to them.
+    /// Lines for a new process that look at all that it finds and ask again what earlier ones
+    /// answered, and what the book says to them.
     pub fn questions(&mut self, random: &mut Random) -> Result<(Vec<u8>, Vec<u8>), String> {
         self.judge.step(&Line::Cut)?;
         let last = self.judge.book.last_time();
@@ -104,6 +108,8 @@ impl Chain {
         let mut lines = vec![Line::Open {
             fill: random.below(256) as u8,
         }];
+        lines.extend(self.judge.answered.lines());
+        self.asked_again += lines.len() as u64 - 1;
         for record in records.into_iter().chain([255]) {
             let time = random.within((0, last));
             lines.push(Line::AsOf { record, time });
