@@ -22,6 +22,7 @@ pub fn as_of(
     if !memory::fit::is_fit(words, tail, medium.len(), cache.len()) {
         return questions::refuse::reading(Refusal::Unfit);
     }
+    // A cut could take what is not stored, and with it the answer.
     if words[SAVED] < time {
         return questions::refuse::reading(Refusal::NotYet);
     }

@@ -24,6 +24,7 @@ pub fn changes(
     if !memory::fit::is_fit(words, tail, medium.len(), cache.len()) {
         return Answer::Refused(Refusal::Unfit);
     }
+    // A cut could take what is not stored, and with it the answer.
     if words[SAVED] < t2 {
         return Answer::Refused(Refusal::NotYet);
     }
