@@ -16,7 +16,7 @@ use Rattle.runs.specs.Machine.{formatted}
 use Rattle.runs.specs.Moments.{Run, worldAfter, bookAt, seenAt, traceAt, Among, rowsSeen}
 use Rattle.runs.specs.Plain.{Written, Committed, CleanAsOf, CleanLists, CleanCurrent}
 use Rattle.agreement.proofs.plain.Laws.{either-true, among-left, among-right, among-either, among-take, version-among, time-among}
-use Rattle.agreement.proofs.plain.Runs.{Turn, stays, falls, opens, adds, ends, closes, stores, run-append, after-one, inv-after, started}
+use Rattle.agreement.proofs.plain.Runs.{Turn, stays, falls, opens, adds, ends, closes, stores, after-one, held, comes}
 use Rattle.agreement.proofs.plain.Times.{always, front-run}
 
 -- ---- each row of the book was brought by an accepted call
@@ -203,9 +203,7 @@ current-from rs n key (v ∷ vs) before = go (eqb (v .key) key && (eqb (v .numbe
 
 -- the event that comes next agrees with the book
 pub next-fits : {l d : ℕ} (es : List Event) (e : Event) → Run l d (es ++ (e ∷ [])) → Fits d (bookAt l d es) e (seenAt l d es e)
-next-fits {l} {d} es e r =
-    let t = run-append l d es (e ∷ []) (formatted l d) (r .run) in
-    after-one l d e [] (worldAfter l d (formatted l d) es) (bookAt l d es) (inv-after l d es (formatted l d) blank (started r) (t .0)) (t .1) .0
+next-fits {l} {d} es e r = after-one l d e [] (worldAfter l d (formatted l d) es) (bookAt l d es) (held es e r) (comes es e r) .0
 
 pub clean-as-of : CleanAsOf
 unfolding CleanAsOf asOf

@@ -16,7 +16,7 @@ use Rattle.store.specs.declared.State.{State}
 use Rattle.store.specs.Answer.{Outcome, answerNumber}
 use Rattle.store.specs.Places.{findActive}
 use Rattle.store.proofs.AskLaws.{Passed}
-use Rattle.runs.specs.Moments.{begins, Run, worldAfter, bookAfter, ifAccepted, commitSeen, rowSeen, eventRow, rowsSeen, anySeen, isBreak, named}
+use Rattle.runs.specs.Moments.{begins, Run, worldAfter, bookAfter, bookAt, ifAccepted, commitSeen, rowSeen, eventRow, rowsSeen, anySeen, isBreak, named}
 use Rattle.runs.specs.Event.{Call, Event, opening, cut, call, begin, write, erase, current-read, commit, abort, as-of, changes, store-log, store-page, checkpoint, Observation, typed}
 use Rattle.runs.specs.Book.{Version, Row, version, committed, Book, blank, lastTime, hasRow, isOpen, close, add, commitTime, commits, zeros, fall, entered, unlessRefused, feed, Answers, Fits}
 use Rattle.runs.specs.Machine.{World, up, down, seenOf, step, allowed, isRun, trace, formatted}
@@ -202,3 +202,14 @@ module _ {l d : ℕ} {es : List Event} (r : Run l d es) where
   pub started : Inv l d (formatted l d) blank
   unfolding formatted
   started = fallen (start l d (r .range))
+
+-- the moment before its last event
+module _ {l d : ℕ} (es : List Event) (e : Event) (r : Run l d (es ++ (e ∷ []))) where
+  pub held : Inv l d (worldAfter l d (formatted l d) es) (bookAt l d es)
+  held = inv-after l d es (formatted l d) blank (started r) (run-append l d es (e ∷ []) (formatted l d) (r .run) .0)
+
+  pub comes : isRun l d (worldAfter l d (formatted l d) es) (e ∷ []) ≡ true
+  comes = run-append l d es (e ∷ []) (formatted l d) (r .run) .1
+
+  pub may : allowed l d (worldAfter l d (formatted l d) es) e ≡ true
+  may = first-typed l d e [] (worldAfter l d (formatted l d) es) comes .0

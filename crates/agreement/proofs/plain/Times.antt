@@ -16,7 +16,7 @@ use Rattle.runs.specs.Machine.{trace, formatted}
 use Rattle.runs.specs.Moments.{Run, worldAfter, bookAfter, bookAt, seenAt, traceAt, Among, rowsSeen, anySeen, isBreak, transactions}
 use Rattle.runs.specs.Plain.{Rises, Known, RisingRows, RisingAnswers, OneTime}
 use Rattle.agreement.proofs.plain.Laws.{none-some, either-true, transactions-append, time-other, time-version, none-take, rowless-none, close-shuts, close-less}
-use Rattle.agreement.proofs.plain.Runs.{knows, Turn, stays, falls, opens, adds, ends, closes, stores, book-append, run-append, first-typed, inv-after, along, never, started}
+use Rattle.agreement.proofs.plain.Runs.{knows, Turn, stays, falls, opens, adds, ends, closes, stores, book-append, run-append, inv-after, along, never, started, held, may}
 
 -- ---- at every moment of a run
 
@@ -51,9 +51,7 @@ book-next l d es e = book-append l d es (e ∷ []) (formatted l d) blank
 pub known : Known
 unfolding Known
 known l d es k n r a e =
-    let t = run-append l d es (call k ∷ []) (formatted l d) (r .run) in
-    let i = inv-after l d es (formatted l d) blank (started r) (t .0) in
-    knows l d (worldAfter l d (formatted l d) es) (bookAt l d es) (call k) i (first-typed l d (call k) [] (worldAfter l d (formatted l d) es) (t .1) .0) n e a
+    knows l d (worldAfter l d (formatted l d) es) (bookAt l d es) (call k) (held es (call k) r) (may es (call k) r) n e a
 
 -- ---- times rise
 

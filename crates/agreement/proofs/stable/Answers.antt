@@ -10,13 +10,13 @@ use lib.ListN.{length, take, drop, length-take, take-append-drop}
 use lib.Seq.{take-all, take-append-le}
 use borrow.Author.Tests.{leb-true, le-leb}
 use Rattle.runs.specs.Event.{Event, call, as-of, changes, Observation}
-use Rattle.runs.specs.Book.{Row, Book, blank, lastTime, fall, asOf, Dated, linesOf, listing, laid, ListsAs}
+use Rattle.runs.specs.Book.{Row, Book, lastTime, fall, asOf, Dated, linesOf, listing, laid, ListsAs}
 use Rattle.runs.specs.Machine.{World, up, down, called, seenOf, step, allowed, formatted}
 use Rattle.runs.specs.Moments.{Run, worldAfter, bookAt, seenAt, traceAt, transactions}
 use Rattle.runs.specs.Plain.{rowsFound, Rises, RisingRows}
 use Rattle.runs.specs.Stable.{storedTime, ReadsStored, ListsStored, Again, StableReads, StableLists, StableAnswers}
 use Rattle.agreement.proofs.invariant.Invariant.{Inv, running, fallen}
-use Rattle.agreement.proofs.plain.Runs.{run-append, first-typed, inv-after, never, started}
+use Rattle.agreement.proofs.plain.Runs.{never, held, may}
 use Rattle.agreement.proofs.plain.Times.{since, front-run, rises-take, rising-rows}
 use Rattle.agreement.proofs.plain.Reads.{next-fits}
 use Rattle.agreement.proofs.plain.Found.{Front, front-turn, front-found}
@@ -24,13 +24,6 @@ use Rattle.agreement.proofs.stable.Rows.{Fresh, fresh-rows, last-more, 
 use Rattle.agreement.proofs.stable.Stored.{read-refusal, list-refusal, list-size}
 
 -- ---- which times can be read
-
-module _ {l d : ℕ} (es : List Event) (e : Event) (r : Run l d (es ++ (e ∷ []))) where
-  held : Inv l d (worldAfter l d (formatted l d) es) (bookAt l d es)
-  held = inv-after l d es (formatted l d) blank (started r) (run-append l d es (e ∷ []) (formatted l d) (r .run) .0)
-
-  may : allowed l d (worldAfter l d (formatted l d) es) e ≡ true
-  may = first-typed l d e [] (worldAfter l d (formatted l d) es) (run-append l d es (e ∷ []) (formatted l d) (r .run) .1) .0
 
 module _ (l d : ℕ) where
   read-at : (key t : ℕ) (w : World) (b : Book) → Inv l d w b → allowed l d w (call (as-of key t)) ≡ true
