@@ -10,3 +10,5 @@ pub mod reads
 pub mod Main
 pub mod plain
 pub mod stable
+pub mod relief
+pub mod unstuck

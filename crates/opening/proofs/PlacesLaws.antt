@@ -38,7 +38,7 @@ use Rattle.conditions.specs.Lookup.{commitsOf, commitAmong, matchOf, Extent}
 use Rattle.opening.specs.Waits.{Above, Rising, waitingUnder, Gathered}
 use Rattle.opening.specs.Placing.{placeOf, tablePlace, freeUnless, takeOne, takeAll}
 use Rattle.conditions.proofs.TableLaws.{match-some, match-none}
-use Rattle.store.proofs.SearchLaws.{first-found, first-nothing}
+use Rattle.store.proofs.SearchLaws.{first-found, first-nothing, first-same}
 use Rattle.conditions.proofs.GatherLaws.{among-commits}
 use Rattle.opening.proofs.WaitLaws.{under-count}
 use Rattle.opening.proofs.InsertLaws.{above-lower, insert-front, rising-waiting}
@@ -201,11 +201,6 @@ module _ (m : List ℕ) (log : List Placed) (c : List ℕ) (slots : ℕ) (f : �
       go false e = rw (counted (tablePair m i .number .0) (tabled-paired m log i (tablePair m i .number .0) (omega arith) refl (eqb-false (tablePair m i .number .0) 0 e)))
 
 -- ---- the first free place
-
-first-same : (p q : ℕ → Bool) (n i : ℕ) → ((k : ℕ) → k < i + n → p k ≡ q k) → first p n i ≡ first q n i
-unfolding first
-first-same p q zero i h = refl
-first-same p q (suc n) i h = rw (h i (omega arith), first-same p q n (i + 1) (λ k l. h k (omega arith)))
 
 pub free-first : (ps : List Place) → findFree ps 0 ≡ first (λ i. isFree (placeAt ps i .life)) 64 0
 unfolding findFree ringPlace

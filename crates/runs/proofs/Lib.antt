@@ -3,4 +3,5 @@ pub mod OpenFits
 pub mod Asks
 pub mod Refusals
 pub mod OneBlock
+pub mod Counted
 pub mod Lengths

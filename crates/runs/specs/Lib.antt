@@ -5,3 +5,5 @@ pub mod Demand
 pub mod Moments
 pub mod Plain
 pub mod Stable
+pub mod Relief
+pub mod Unstuck

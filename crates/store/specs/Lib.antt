@@ -15,6 +15,7 @@ pub mod Changes
 pub mod StoreLog
 pub mod StorePage
 pub mod Checkpoint
+pub mod Relief
 pub mod OpenLog
 pub mod OpenRedo
 pub mod OpenPairs

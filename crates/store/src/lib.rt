@@ -105,3 +105,11 @@ pub enum Best {
     Version(u64, CommitTime),
     Neither,
 }
+
+// The next call out of a full log, if one is left.
+pub enum Relief {
+    StoreLog,
+    StorePage(u64),
+    Checkpoint,
+    NothingLeft,
+}

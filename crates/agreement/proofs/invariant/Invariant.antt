@@ -145,6 +145,7 @@ pub record Firsts (d : ℕ) (vs : List LoggedVersion) (on : ℕ → ℕ) (a o q 
   pub noted : (n : ℕ) → n < a → on (n / 15) ≤ n % 15 → (0 < getD first (n / 15) 0) × (getD first (n / 15) 0 ≤ at vs n .seq)
   pub low : (p : ℕ) → p < d → 0 < getD first p 0 → o ≤ getD first p 0
   pub high : (p : ℕ) → p < d → getD first p 0 ≤ q
+  pub lacks : (p : ℕ) → p < d → 0 < getD first p 0 → on p < full a p  -- the medium lacks a version of a page with a first change
 
 -- ---- places: a number of 0 says that the place is free, a time of 0 that it is not committed
 

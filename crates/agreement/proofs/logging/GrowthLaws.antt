@@ -2,7 +2,7 @@
 -- histories with one record more. Each is a law of lists; the tail's bytes are canonical as its records are sound.
 use Prim.Native.Nat.{ℕ, zero, suc, _+_, _*_, _^_, _≤_, _<_}
 use native.Mathlib.Omega.{arith}
-use mathlib.Core.Bool.{cond}
+use mathlib.Core.Bool.{true, cond}
 use mathlib.Core.List.{List, [], _∷_, _++_, append-nil}
 use mathlib.Core.Logic.{_⊎_, inl, inr, _≢_}
 use mathlib.Core.Path.{_≡_, refl, sym, ap, _∙_, subst}
@@ -20,7 +20,9 @@ use Rattle.layout.proofs.JournalLaws.{length-logBytes, sequence-logBytes, used-
 use Rattle.layout.proofs.PlaceLaws.{log-in-medium}
 use Rattle.store.specs.declared.State.{State}
 use Rattle.store.specs.OpenLog.{Placed}
+use Rattle.store.specs.State.{fits}
 use Rattle.store.specs.Tail.{tailEnd}
+use Rattle.store.proofs.FitLaws.{fit-is}
 use Rattle.runs.specs.Book.{Book}
 use Rattle.agreement.proofs.history.Ghost.{Disk, versionsOf, commitsOf, sizeOf, Sound, BlockSound, records, LoggedVersion, versionsIn, LoggedCommit, commitsIn, find, Match, still, marked}
 use Rattle.agreement.proofs.invariant.Invariant.{Up, OnMedium, Stored, nothing, upTo}
@@ -168,3 +170,22 @@ snoc-each d Q xs y f q n h = go (same? n (length xs))
 pub tail-sequence : {l d : ℕ} {m c : List ℕ} {s : State} {b : Book} {disk : Disk} {closed : List (List Record)} {tail : List Record} → Up l d m c s b disk closed tail
     → sequenceOf (s .tail) ≡ length closed
 tail-sequence {closed = closed} {tail} u = ap sequenceOf (u .state .tail-block) ∙ tail-seq closed tail (u .medium)
+
+module _ {l d : ℕ} {m c : List ℕ} {s : State} {b : Book} {disk : Disk} {closed : List (List Record)} {tail : List Record} (u : Up l d m c s b disk closed tail) where
+  -- question 16: a running store fits its buffers
+  pub fits-up : fits s (length m) (length c) ≡ true
+  fits-up = fit-is s (length m) (length c) (record {
+    range = rw (u .state .blocks, u .state .pages) (u .medium .sizes .range);
+    medium = rw (u .state .blocks, u .state .pages) (u .medium .sizes .size);
+    cache = rw (u .state .pages) (u .cache .size);
+    slots = omega (arith, u .state .slots, u .state .pages, u .medium .pages .slots .room);
+    tail = record {
+      used-low = omega (arith, ap usedOf (u .state .tail-block), tail-used closed tail (u .medium));
+      used-high = omega (arith, ap usedOf (u .state .tail-block), tail-used closed tail (u .medium), tail-sound closed tail (u .medium) .fits);
+      sequence-low = omega (arith, ap sequenceOf (u .state .tail-block), tail-seq closed tail (u .medium), u .state .ring-low, u .medium .master .fits .oldest-low);
+      sequence-high = omega (arith, ap sequenceOf (u .state .tail-block), tail-seq closed tail (u .medium), tail-low closed tail (u .medium));
+      size = ap length (u .state .tail-block) ∙ tail-length closed tail (u .medium);
+    };
+    places = u .living .size;
+    first = u .firsts .size;
+  })

@@ -133,7 +133,7 @@ module _ {l d : ℕ} {m : List ℕ} {disk : Disk} (medium : OnMedium l d m disk 
                 size = length-putVersion (r .cache) a _ _ ∙ f .size;
                 pages = cached-put d (r .cache) vs (disk .cells) a (f .size) room (medium .pages .slots .count) (cells-sized medium) h _ (f .pages) now
                     (λ p. max (disk .on p) (full (suc a) p)) (rw full-suc (omega arith)) (λ p e. rw (full-other a p e));
-                firsts = firsts-touched d vs (disk .on) a (disk .oldest) q (r .first) (f .firsts) (at vs a .seq) refl hq ho (omega (arith, medium .master .fits .oldest-low)) room (medium .sizes .range .pages-high);
+                firsts = firsts-touched d vs (disk .on) a (disk .oldest) q (r .first) (f .firsts) (at vs a .seq) refl hq ho (omega (arith, medium .master .fits .oldest-low)) room (medium .sizes .range .pages-high) z;
               }),
               eq-eqb (a % 15) _ (sym (used-is ∙ now)),
             )
@@ -156,7 +156,7 @@ module _ {l d : ℕ} {m : List ℕ} {disk : Disk} (medium : OnMedium l d m disk 
         rw all (record {
           size = g .size;
           pages = g .pages;
-          firsts = record { size = g .firsts .size; noted = g .firsts .noted; low = g .firsts .low; high = λ p i. omega (arith, g .firsts .high p i) };
+          firsts = record { size = g .firsts .size; noted = g .firsts .noted; low = g .firsts .low; high = λ p i. omega (arith, g .firsts .high p i); lacks = g .firsts .lacks };
         }),
         refl,
       )
@@ -269,6 +269,7 @@ module _ {l d : ℕ} {m : List ℕ} {disk : Disk} (medium : OnMedium l d m disk 
       noted = λ n h z. absurd (omega (arith, before n h, medium .pages .kept n (omega (arith, front-length)) z));
       low = λ p i h. absurd (omega (arith, untouched-at p));
       high = λ p i. rw (untouched-at p) (omega arith);
+      lacks = λ p i h. absurd (omega (arith, untouched-at p));
     };
   }
     where

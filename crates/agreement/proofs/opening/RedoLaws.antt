@@ -47,13 +47,14 @@ length-touched first p q = length-set first p _
 
 module _ (d : ℕ) (vs : List LoggedVersion) (on : ℕ → ℕ) (a o q : ℕ) (first : List ℕ) (f : Firsts d vs on a o q first) where
   -- version a, of block q′, is put in its page
-  pub firsts-touched : (q′ : ℕ) → at vs a .seq ≡ q′ → q ≤ q′ → o ≤ q′ → 0 < q′ → a < 15 * d → d ≤ 64
+  pub firsts-touched : (q′ : ℕ) → at vs a .seq ≡ q′ → q ≤ q′ → o ≤ q′ → 0 < q′ → a < 15 * d → d ≤ 64 → on (a / 15) ≤ a % 15
       → Firsts d vs on (suc a) o q′ (touched first (a / 15) q′)
-  firsts-touched q′ e h k z room few = record {
+  firsts-touched q′ e h k z room few new = record {
     size = length-touched first (a / 15) q′ ∙ f .size;
     noted = λ n b c. noted′ n (same? n a) b c (case (n / 15));
     low = λ p i w. low′ p i (case p) w;
     high = λ p i. high′ p i (case p);
+    lacks = λ p i w. lacks′ p i (case p) w;
   }
     where
       t : ℕ → ℕ
@@ -72,6 +73,11 @@ module _ (d : ℕ) (vs : List LoggedVersion) (on : ℕ → ℕ) (a o q : ℕ) (f
       high′ p y (newly i g j) = omega arith
       high′ p y (stays i g j) = omega (arith, f .high p y)
 
+      lacks′ : (p : ℕ) → p < d → Touch p (a / 15) (getD first p 0) (t p) q′ → 0 < t p → on p < full (suc a) p
+      lacks′ p y (other i j) w = omega (arith, f .lacks p y (omega arith))
+      lacks′ p y (newly i g j) w = omega (arith, ap on i)
+      lacks′ p y (stays i g j) w = omega (arith, f .lacks p y g)
+
       noted′ : (n : ℕ) → (n ≡ a) ⊎ (n ≢ a) → n < suc a → on (n / 15) ≤ n % 15 → Touch (n / 15) (a / 15) (getD first (n / 15) 0) (t (n / 15)) q′
           → (0 < t (n / 15)) × (t (n / 15) ≤ at vs n .seq)
       noted′ n (inr i) b c (other j g) = omega (arith, f .noted n (omega arith) c)
@@ -88,6 +94,7 @@ module _ (d : ℕ) (vs : List LoggedVersion) (on : ℕ → ℕ) (a o q : ℕ) (f
     noted = λ n b c. go n (same? n a) b c;
     low = f .low;
     high = λ p i. omega (arith, f .high p i);
+    lacks = λ p i w. omega (arith, f .lacks p i w);
   }
     where
       go : (n : ℕ) → (n ≡ a) ⊎ (n ≢ a) → n < suc a → on (n / 15) ≤ n % 15 → (0 < getD first (n / 15) 0) × (getD first (n / 15) 0 ≤ at vs n .seq)

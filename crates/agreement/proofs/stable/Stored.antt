@@ -1,14 +1,13 @@
 -- A read as of a time and a list of changes in a running store are refused by their time just if it is above that of the last
 -- stored commit: the state's stored time is that of the rows which a cut would leave, and a running store fits its buffers.
 use Prim.Native.Nat.{ℕ, _*_}
-use native.Mathlib.Omega.{arith}
 use mathlib.Core.Bool.{Bool, true, false, cond}
 use mathlib.Core.List.{List, [], _∷_}
 use mathlib.Core.Path.{_≡_, refl, sym, ap, _∙_}
 use lib.Dec.{eqb, leb}
 use lib.ListN.{length}
 use Rattle.fields.specs.Block.{zeros}
-use Rattle.layout.specs.Journal.{Record, sequenceOf, usedOf}
+use Rattle.layout.specs.Journal.{Record}
 use Rattle.store.specs.declared.Answer.the-variants.{Erased, Present}
 use Rattle.store.specs.declared.Best.{Best}
 use Rattle.store.specs.declared.Best.the-variants.{Version, Neither}
@@ -16,41 +15,21 @@ use Rattle.store.specs.declared.Refusal.the-variants.{Unfit, NotYet, ShortBuffe
 use Rattle.store.specs.declared.State.{State}
 use Rattle.store.specs.Answer.{refusalNumber, answerNumber, ask}
 use Rattle.store.specs.Places.{timeUnder}
-use Rattle.store.specs.State.{fits}
 use Rattle.store.specs.Chain.{newest, cellAt, bestOf}
 use Rattle.store.specs.CurrentRead.{reads, readCell}
 use Rattle.store.specs.AsOf.{asOfAt, asOfIf, asOfOf}
 use Rattle.store.specs.Changes.{changeLines, changesIf, changesOf}
-use Rattle.store.proofs.FitLaws.{fit-is}
 use Rattle.runs.specs.Book.{Book, lastTime, fall, linesOf, listing}
 use Rattle.agreement.proofs.history.Ghost.{records, Disk}
 use Rattle.agreement.proofs.history.RowLaws.{last-row}
 use Rattle.agreement.proofs.invariant.Invariant.{Up}
-use Rattle.agreement.proofs.logging.GrowthLaws.{tail-sound, tail-length, tail-low, tail-seq, tail-used}
+use Rattle.agreement.proofs.logging.GrowthLaws.{fits-up}
 use Rattle.agreement.proofs.reads.Changes.{alike-length, alike-bytes, alike-size, lines-are}
 use Rattle.agreement.proofs.Cut.{cut-down}
 
 module _ {l d : ℕ} {m c : List ℕ} {s : State} {b : Book} {disk : Disk} {closed : List (List Record)} {tail : List Record} (u : Up l d m c s b disk closed tail) where
   saved-is : s .saved .0 ≡ lastTime (fall b .rows)
   saved-is = u .state .saved ∙ sym (ap lastTime (cut-down u .rows) ∙ last-row (records (disk .stored)) (cut-down u .medium .numbers .rising))
-
-  -- question 16
-  fits-up : fits s (length m) (length c) ≡ true
-  fits-up = fit-is s (length m) (length c) (record {
-    range = rw (u .state .blocks, u .state .pages) (u .medium .sizes .range);
-    medium = rw (u .state .blocks, u .state .pages) (u .medium .sizes .size);
-    cache = rw (u .state .pages) (u .cache .size);
-    slots = omega (arith, u .state .slots, u .state .pages, u .medium .pages .slots .room);
-    tail = record {
-      used-low = omega (arith, ap usedOf (u .state .tail-block), tail-used closed tail (u .medium));
-      used-high = omega (arith, ap usedOf (u .state .tail-block), tail-used closed tail (u .medium), tail-sound closed tail (u .medium) .fits);
-      sequence-low = omega (arith, ap sequenceOf (u .state .tail-block), tail-seq closed tail (u .medium), u .state .ring-low, u .medium .master .fits .oldest-low);
-      sequence-high = omega (arith, ap sequenceOf (u .state .tail-block), tail-seq closed tail (u .medium), tail-low closed tail (u .medium));
-      size = ap length (u .state .tail-block) ∙ tail-length closed tail (u .medium);
-    };
-    places = u .living .size;
-    first = u .firsts .size;
-  })
 
   -- ---- a read
 
@@ -73,7 +52,7 @@ module _ {l d : ℕ} {m c : List ℕ} {s : State} {b : Book} {disk : Disk} {clos
       go false = refl
 
       by-time : answerNumber (asOfOf s m c key t .answer) ≡ cond (leb t (s .saved .0)) 0 10
-      by-time = rw fits-up (go (leb t (s .saved .0)))
+      by-time = rw (fits-up u) (go (leb t (s .saved .0)))
 
   -- ---- a list
 
@@ -92,7 +71,7 @@ module _ {l d : ℕ} {m c : List ℕ} {s : State} {b : Book} {disk : Disk} {clos
       go false y = refl
 
       by-time : answerNumber (changesOf s m c buffer key t1 t2 .answer) ≡ cond (leb t2 (s .saved .0)) (cond (leb (32 * length (changeLines s c key t1 t2)) (length buffer)) 0 14) 10
-      by-time = rw fits-up (go (leb t2 (s .saved .0)) (leb (32 * length (changeLines s c key t1 t2)) (length buffer)))
+      by-time = rw (fits-up u) (go (leb t2 (s .saved .0)) (leb (32 * length (changeLines s c key t1 t2)) (length buffer)))
 
   -- its lines take 32 bytes each
   pub list-size : (key t1 t2 : ℕ) → length (listing (linesOf (b .rows) key t1 t2)) ≡ 32 * length (linesOf (b .rows) key t1 t2)

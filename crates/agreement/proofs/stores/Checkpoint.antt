@@ -94,9 +94,8 @@ module _ {l d : ℕ} {m c : List ℕ} {s : State} {b : Book} {disk : Disk} {clos
 
   -- table block 1: its pairs lie below the tail, so their commits are stored; the places below 32 are covered for the new
   -- oldest block, those above it for the master's as before
-  pub first-stored : s .phase ≡ Idle → Inv l d (after (checkpointStep Idle s m c)) b
-  unfolding checkpointStep
-  first-stored e = running (tabled-up u 0 (omega arith) (newOldest s) oldest-low oldest-high (FirstStored (newOldest s) (s .saved)) (record {
+  pub first-up : Up l d (put m 1 (tableBlock (s .places) (newOldest s) 0)) c (withPhase s (FirstStored (newOldest s) (s .saved))) b disk closed tail
+  first-up = tabled-up u 0 (omega arith) (newOldest s) oldest-low oldest-high (FirstStored (newOldest s) (s .saved)) (record {
     above = oldest-low;
     below = oldest-high;
     pages = oldest-pages;
@@ -107,32 +106,42 @@ module _ {l d : ℕ} {m c : List ℕ} {s : State} {b : Book} {disk : Disk} {clos
         (place-commits (λ a q. (s .end .0 < a) × (length closed ≤ q)) (u .medium .log .shape .rest) (rest-above (u .medium) (u .state .mark)))));
     late = omega (arith, u .state .saved);
     covered = λ i h. covered-now u 0 (omega arith) (newOldest s) oldest-low oldest-high i (omega arith) (omega arith);
-  }))
+  })
 
-  pub second-stored : (o : ℕ) (t : CommitTime) → s .phase ≡ FirstStored o t → Inv l d (after (checkpointStep (FirstStored o t) s m c)) b
+  pub first-stored : s .phase ≡ Idle → Inv l d (after (checkpointStep Idle s m c)) b
   unfolding checkpointStep
-  second-stored o t e =
+  first-stored e = running first-up
+
+  pub second-up : (o : ℕ) (t : CommitTime) → s .phase ≡ FirstStored o t
+      → Up l d (put m 2 (tableBlock (s .places) o 32)) c (withPhase s (SecondStored o t)) b disk closed tail
+  second-up o t e =
       let p : Pending d m disk (commitsOf (closed ++ (tail ∷ []))) (s .places) (s .first) (length closed) o (t .0) 32 = subst (λ (ph : Phase). PhaseIs ph d m disk (commitsOf (closed ++ (tail ∷ []))) (s .places) (s .first) (length closed)) e (u .phase) in
-      running (tabled-up u 1 (omega arith) o (p .above) (p .below) (SecondStored o t) (record {
+      tabled-up u 1 (omega arith) o (p .above) (p .below) (SecondStored o t) (record {
         above = p .above;
         below = p .below;
         pages = p .pages;
         early = p .early;
         late = p .late;
         covered = λ i h. both p i h (split i 32);
-      }))
+      })
     where
       both : (p : Pending d m disk (commitsOf (closed ++ (tail ∷ []))) (s .places) (s .first) (length closed) o (t .0) 32) → (i : ℕ) → i < 64 → (i < 32) ⊎ (32 ≤ i) → 0 < timeAt (s .places) i → find (commitsOf (closed ++ (tail ∷ []))) (numAt (s .places) i) .seq < o
           → (tableNum (put m 2 (tableBlock (s .places) o 32)) i ≡ numAt (s .places) i) × (tableTime (put m 2 (tableBlock (s .places) o 32)) i ≡ timeAt (s .places) i)
       both p i h (inl a) = covered-still u 1 (omega arith) o (p .above) (p .below) o 32 (omega arith) (omega arith) (p .covered) i a
       both p i h (inr a) = covered-now u 1 (omega arith) o (p .above) (p .below) i h (omega arith)
 
+  pub second-stored : (o : ℕ) (t : CommitTime) → s .phase ≡ FirstStored o t → Inv l d (after (checkpointStep (FirstStored o t) s m c)) b
+  unfolding checkpointStep
+  second-stored o t e = running (second-up o t e)
+
   -- the master: old = o, next = the state's, time = t; `kept` by Pending.pages with Firsts.noted, `below` by
   -- StateIs.numbers
-  pub third-stored : (o : ℕ) (t : CommitTime) → s .phase ≡ SecondStored o t → Inv l d (after (checkpointStep (SecondStored o t) s m c)) b
-  unfolding checkpointStep withPhase
-  third-stored o t e =
-      running {disk = record { oldest = o; next = s .next .0; time = t .0; stored = disk .stored; cells = disk .cells; on = disk .on }} {closed = closed} {tail = tail} (record {
+  pub third-up : (o : ℕ) (t : CommitTime) → s .phase ≡ SecondStored o t
+      → Up l d (put m 0 (masterBytes (record { blocks = s .blocks; pages = s .pages; oldest = o; next = s .next; last = t }))) c (withPhase s Idle) b
+      (record { oldest = o; next = s .next .0; time = t .0; stored = disk .stored; cells = disk .cells; on = disk .on }) closed tail
+  unfolding withPhase
+  third-up o t e =
+      record {
         medium = record {
           sizes = record { range = u .medium .sizes .range; size = length-put m 0 master ∙ u .medium .sizes .size };
           master = record {
@@ -192,7 +201,7 @@ module _ {l d : ℕ} {m c : List ℕ} {s : State} {b : Book} {disk : Disk} {clos
           numbers = u .state .numbers;
         };
         cache = u .cache;
-        firsts = record { size = u .firsts .size; noted = u .firsts .noted; low = p .pages; high = u .firsts .high };
+        firsts = record { size = u .firsts .size; noted = u .firsts .noted; low = p .pages; high = u .firsts .high; lacks = u .firsts .lacks };
         living = record {
           size = u .living .size;
           each = λ i h. older i h (u .living .each i h);
@@ -205,7 +214,7 @@ module _ {l d : ℕ} {m c : List ℕ} {s : State} {b : Book} {disk : Disk} {clos
         phase = tt;
         rows = u .rows;
         stored = u .stored;
-      })
+      }
     where
       p : Pending d m disk (commitsOf (closed ++ (tail ∷ []))) (s .places) (s .first) (length closed) o (t .0) 64
       p = subst (λ (ph : Phase). PhaseIs ph d m disk (commitsOf (closed ++ (tail ∷ []))) (s .places) (s .first) (length closed)) e (u .phase)
@@ -234,3 +243,7 @@ module _ {l d : ℕ} {m c : List ℕ} {s : State} {b : Book} {disk : Disk} {clos
               → (lifeEnd (placeAt (s .places) i .life) ≡ find (commitsOf (closed ++ (tail ∷ []))) (numAt (s .places) i) .end) ⊎ ((lifeEnd (placeAt (s .places) i .life) ≡ 0) × (find (commitsOf (closed ++ (tail ∷ []))) (numAt (s .places) i) .seq < o))
           by (inl a) = inl a
           by (inr a) = inr (a .0, omega (arith, a .1, p .above))
+
+  pub third-stored : (o : ℕ) (t : CommitTime) → s .phase ≡ SecondStored o t → Inv l d (after (checkpointStep (SecondStored o t) s m c)) b
+  unfolding checkpointStep
+  third-stored o t e = running (third-up o t e)

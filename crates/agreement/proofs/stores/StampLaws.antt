@@ -141,13 +141,14 @@ unfolding settleFrom
 settle-next pair old page ps i j = refl
 
 -- after the turns of the first i slots of page p: the slots so far, the page and the places
-pub record Turned (m : List ℕ) (disk : Disk) (vs : List LoggedVersion) (cs : List LoggedCommit) (next : ℕ) (old : List Place) (p i : ℕ) (page : List ℕ) (ps : List Place) : Type 0 where
+pub record Turned (m : List ℕ) (disk : Disk) (vs : List LoggedVersion) (cs : List LoggedCommit) (next : ℕ) (old : List Place) (pair : ℕ → Timing) (p i : ℕ) (page : List ℕ) (ps : List Place) : Type 0 where
   pub cells : List Cell
   pub size : length cells ≡ length vs
   pub bytes : page ≡ pageWith vs cells p (full (length vs) p)
   pub off : (n : ℕ) → n / 15 ≢ p → cell cells n ≡ cell (disk .cells) n
   pub ahead : (n : ℕ) → 15 * p + i ≤ n → cell cells n ≡ cell (disk .cells) n
   pub match : (n : ℕ) → n < length vs → Match (commitsOf (disk .stored)) (at vs n) (cell cells n)
+  pub done : (j : ℕ) → j < i → (n : TxNumber) → cell cells (15 * p + j) .state ≡ Waiting n → pair (n .0) ≡ Untimed  -- what still waits has no stored commit
   pub living : Living m cs cells (disk .oldest) next ps
   pub kept : AllKept old ps
 
@@ -190,20 +191,26 @@ module _ {l d : ℕ} {m c : List ℕ} {s : State} {b : Book} {disk : Disk} {clos
 
   module _ (p : ℕ) (inside : p < d) where
     abbrev Here : ℕ → List ℕ → List Place → Type 0
-    Here i page ps = Turned m disk (versionsOf history) (commitsOf history) (s .next .0) (s .places) p i page ps
+    Here i page ps = Turned m disk (versionsOf history) (commitsOf history) (s .next .0) (s .places) (storedPair s) p i page ps
 
     -- nothing is stamped
-    unstamped : (i : ℕ) (page : List ℕ) (ps : List Place) → Here i page ps → Here (i + 1) page ps
-    unstamped i page ps t = record {
+    unstamped : (i : ℕ) (page : List ℕ) (ps : List Place) → ((n : TxNumber) → cell (disk .cells) (15 * p + i) .state ≡ Waiting n → storedPair s (n .0) ≡ Untimed)
+        → Here i page ps → Here (i + 1) page ps
+    unstamped i page ps f t = record {
       cells = t .cells;
       size = t .size;
       bytes = t .bytes;
       off = t .off;
       ahead = λ n h. t .ahead n (omega arith);
       match = t .match;
+      done = λ j h. done′ j h (same? j i);
       living = t .living;
       kept = t .kept;
     }
+      where
+        done′ : (j : ℕ) → j < i + 1 → (j ≡ i) ⊎ (j ≢ i) → (n : TxNumber) → cell (t .cells) (15 * p + j) .state ≡ Waiting n → storedPair s (n .0) ≡ Untimed
+        done′ j h (inl e) n w = f n (ap (λ (x : Cell). x .state) (sym (t .ahead (15 * p + i) (omega arith))) ∙ ap (λ (x : ℕ). cell (t .cells) (15 * p + x) .state) (sym e) ∙ w)
+        done′ j h (inr e) n w = t .done j (omega arith) n w
 
     -- a slot is stamped
     stamped : (i : ℕ) (page : List ℕ) (ps : List Place) → i < 15 → Here i page ps → (n : TxNumber) (w : CommitTime) → cell (disk .cells) (15 * p + i) .state ≡ Waiting n
@@ -217,6 +224,7 @@ module _ {l d : ℕ} {m c : List ℕ} {s : State} {b : Book} {disk : Disk} {clos
           off = λ a g. getD-set-other (t .cells) x a new noCell (omega arith) ∙ t .off a g;
           ahead = λ a g. getD-set-other (t .cells) x a new noCell (omega arith) ∙ t .ahead a (omega arith);
           match = λ a g. match′ a g (same? a x);
+          done = λ a g. done′ a g (same? a i);
           living = living-lowered (t .living) x lt n waits new w refl (st .place) (st .inside) num time;
           kept = λ a g. kept-twice _ _ _ (t .kept a g) (lowered-kept ps (st .place) (t .living .size) (st .inside) (counted-down (t .living) x lt n waits new w refl (st .place) (st .inside) num time) a g);
         })
@@ -251,6 +259,12 @@ module _ {l d : ℕ} {m c : List ℕ} {s : State} {b : Book} {disk : Disk} {clos
         match′ a g (inl q) = subst (λ (y : ℕ). Match (commitsOf (disk .stored)) (at (versionsOf history) y) (cell (set (t .cells) x new) y)) (sym q) match-here
         match′ a g (inr q) = rw (getD-set-other (t .cells) x a new noCell q) (t .match a g)
 
+        done′ : (a : ℕ) → a < i + 1 → (a ≡ i) ⊎ (a ≢ i) → (y : TxNumber) → cell (set (t .cells) x new) (15 * p + a) .state ≡ Waiting y → storedPair s (y .0) ≡ Untimed
+        done′ a g (inl q) y z =
+            let v : new .state ≡ Waiting y = ap (λ (o : Cell). o .state) (sym (getD-set-same (t .cells) x new noCell lt)) ∙ ap (λ (o : ℕ). cell (set (t .cells) x new) (15 * p + o) .state) (sym q) ∙ z in
+            let o : _≡_ {A = ℕ} 0 1 = cc in absurd (omega arith)
+        done′ a g (inr q) y z = t .done a (omega arith) y (ap (λ (o : Cell). o .state) (sym (getD-set-other (t .cells) x (15 * p + a) new noCell (omega arith))) ∙ z)
+
         -- the number is still waited for, so its place keeps its life
         home : (j : ℕ) × (j < 64) × (numAt ps j ≡ n .0)
         home = t .living .all (n .0)
@@ -273,15 +287,15 @@ module _ {l d : ℕ} {m c : List ℕ} {s : State} {b : Book} {disk : Disk} {clos
     turn : (i : ℕ) (page : List ℕ) (ps : List Place) → i < 15 → Here i page ps → (x : Slot) → cell (disk .cells) (15 * p + i) .state ≡ x
         → Here (i + 1) (stampWith (stampTime (storedPair s) x) page i) (settleWith (stampTime (storedPair s) x) x (s .places) ps)
     unfolding stampTime
-    turn i page ps h t Empty e = unstamped i page ps t
-    turn i page ps h t (Stamped w) e = unstamped i page ps t
+    turn i page ps h t Empty e = unstamped i page ps (λ n w. let o : _≡_ {A = ℕ} 0 1 = cc in absurd (omega arith)) t
+    turn i page ps h t (Stamped w) e = unstamped i page ps (λ n w. let o : _≡_ {A = ℕ} 0 1 = cc in absurd (omega arith)) t
     turn i page ps h t (Waiting n) e = go (storedPair s (n .0)) refl
       where
         go : (x : Timing) → storedPair s (n .0) ≡ x → Here (i + 1) (stampWith x page i) (settleWith x (Waiting n) (s .places) ps)
-        go Untimed f = unstamped i page ps t
+        go Untimed f = unstamped i page ps (λ y w. let o : n .0 ≡ y .0 = cc in rw o at f) t
         go (Timed w) f = stamped i page ps h t n w e f
 
-    old-state : (i : ℕ) → i < 15 → slotState (pageSlot (blk c p) i) ≡ cell (disk .cells) (15 * p + i) .state
+    pub old-state : (i : ℕ) → i < 15 → slotState (pageSlot (blk c p) i) ≡ cell (disk .cells) (15 * p + i) .state
     old-state i h =
         ap (λ (x : List ℕ). slotState (pageSlot x i)) (u .cache .pages p inside)
         ∙ state-page (versionsOf history) (disk .cells) p i (match-sized (u .medium) (disk .cells) (u .medium .pages .slots .count) (u .medium .pages .slots .match)) (u .medium .pages .slots .count) h
@@ -326,6 +340,7 @@ module _ {l d : ℕ} {m c : List ℕ} {s : State} {b : Book} {disk : Disk} {clos
       off = λ n h. refl;
       ahead = λ n h. refl;
       match = u .medium .pages .slots .match;
+      done = λ j h. absurd (omega arith);
       living = u .living;
       kept = λ i h. same;
     })

@@ -28,13 +28,13 @@ use Rattle.agreement.proofs.invariant.PlaceSet.{phase-map, covered-same
 use Rattle.agreement.proofs.logging.Growth.{withLog, storing, pairs-stay}
 
 module _ {l d : ℕ} {m c : List ℕ} {s : State} {b : Book} {disk : Disk} {closed : List (List Record)} {tail : List Record} (u : Up l d m c s b disk closed tail) where
-  abbrev history : List (List Record)
+  abbrev pub history : List (List Record)
   history = closed ++ (tail ∷ [])
 
-  abbrev medium : List ℕ
+  abbrev pub medium : List ℕ
   medium = put m (logBlockAt l (length closed)) (logBytes (length closed) tail)
 
-  abbrev newDisk : Disk
+  abbrev pub newDisk : Disk
   newDisk = withLog disk history
 
   tail-size : length (flat recordBytes tail) ≡ sizeOf tail
@@ -43,11 +43,11 @@ module _ {l d : ℕ} {m c : List ℕ} {s : State} {b : Book} {disk : Disk} {clos
   tail-fits : length (flat recordBytes tail) ≤ 502
   tail-fits = omega (arith, tail-size, each-right (BlockSound d) closed (tail ∷ []) (u .medium .log .shape .sound) .0 .fits)
 
-  medium-is : storedTail (s .blocks) m (s .tail) ≡ medium
+  pub medium-is : storedTail (s .blocks) m (s .tail) ≡ medium
   unfolding storedTail
   medium-is = rw (u .state .blocks, tail-sequence u, u .state .tail-block)
 
-  end-is : tailEnd (s .tail) .0 ≡ endPlace (length closed) (10 + sizeOf tail)
+  pub end-is : tailEnd (s .tail) .0 ≡ endPlace (length closed) (10 + sizeOf tail)
   unfolding tailEnd
   end-is =
       rw (tail-sequence u)
@@ -65,7 +65,7 @@ module _ {l d : ℕ} {m c : List ℕ} {s : State} {b : Book} {disk : Disk} {clos
   later : lastOf (commitsOf (disk .stored)) ≤ lastOf (commitsOf history)
   later = omega (arith, ap lastOf (commits-split (u .medium)), last-append (commitsOf (disk .stored)) (commitsIn (u .medium .log .shape .rest)))
 
-  log-up : Up l d medium c (logStored s) (record { opened = b .opened; rows = b .rows; stored = length (b .rows) }) newDisk closed tail
+  pub log-up : Up l d medium c (logStored s) (record { opened = b .opened; rows = b .rows; stored = length (b .rows) }) newDisk closed tail
   unfolding logStored
   log-up = record {
     medium = storing (u .medium) (u .state .ring-low) (u .state .ring-high) (u .state .mark);

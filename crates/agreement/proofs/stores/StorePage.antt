@@ -21,7 +21,7 @@ use Rattle.layout.proofs.PlaceLaws.{log-page-apart, page-blocks-apart, page-blo
 use Rattle.layout.proofs.SlotLaws.{SlotSized}
 use Rattle.layout.proofs.TableLaws.{tablePair-other}
 use Rattle.store.specs.declared.State.{State}
-use Rattle.store.specs.StorePage.{storePageAsks, storePageIf, stampedPage, settled, pageStored}
+use Rattle.store.specs.StorePage.{storePageAsks, storePageIf, storedPair, stampedPage, settled, pageStored}
 use Rattle.store.proofs.AskLaws.{Passed}
 use Rattle.runs.specs.Book.{Book}
 use Rattle.runs.specs.Machine.{after, up}
@@ -56,6 +56,7 @@ firsts-cleared {d} {vs} {on} {o} {q} {first} f p h = record {
   noted = λ n a. noted′ n a (same? (n / 15) p);
   low = λ i a. low′ i a (same? i p);
   high = λ i a. high′ i a (same? i p);
+  lacks = λ i a. lacks′ i a (same? i p);
 }
   where
     noted′ : (n : ℕ) → n < length vs → (n / 15 ≡ p) ⊎ (n / 15 ≢ p) → onWith on p (full (length vs) p) (n / 15) ≤ n % 15
@@ -71,8 +72,12 @@ firsts-cleared {d} {vs} {on} {o} {q} {first} f p h = record {
     high′ i a (inl e) = rw (e, getD-set-same first p 0 0 (omega (arith, f .size))) (omega arith)
     high′ i a (inr e) = rw (getD-set-other first p i 0 0 e) (f .high i a)
 
+    lacks′ : (i : ℕ) → i < d → (i ≡ p) ⊎ (i ≢ p) → 0 < getD (set first p 0) i 0 → onWith on p (full (length vs) p) i < full (length vs) i
+    lacks′ i a (inl e) z = absurd (omega (arith, rw e at z, getD-set-same first p 0 0 (omega (arith, f .size))))
+    lacks′ i a (inr e) z = rw (on-other on p (full (length vs) p) i e) (f .lacks i a (rw (getD-set-other first p i 0 0 e) at z))
+
 module _ {l d : ℕ} {m c : List ℕ} {s : State} {b : Book} {disk : Disk} {closed : List (List Record)} {tail : List Record} (u : Up l d m c s b disk closed tail) where
-  abbrev history : List (List Record)
+  abbrev pub history : List (List Record)
   history = closed ++ (tail ∷ [])
 
   module _ (p : ℕ) (inside : p < d) (ended : pageEnd (blk c p) ≤ s .end .0) where
@@ -89,31 +94,31 @@ module _ {l d : ℕ} {m c : List ℕ} {s : State} {b : Book} {disk : Disk} {clos
             ∙ end-page (versionsOf history) (disk .cells) p (suc x) (omega (arith, near d history (u .medium .log .shape .sound) (15 * p + x) lt, u .medium .log .shape .top)) in
             omega (arith, version-marked (u .medium) (u .state .mark) (15 * p + x) lt (omega (arith, z, ended)))
 
-    abbrev page : List ℕ
+    abbrev pub page : List ℕ
     page = stampedPage s (blk c p)
 
-    abbrev place : ℕ
+    abbrev pub place : ℕ
     place = pageBlockAt l p
 
-    abbrev newMedium : List ℕ
+    abbrev pub newMedium : List ℕ
     newMedium = put m place page
 
-    turned : Turned m disk (versionsOf history) (commitsOf history) (s .next .0) (s .places) p 15 (stampedPage s (blk c p)) (settled s (blk c p))
+    abbrev pub turned : Turned m disk (versionsOf history) (commitsOf history) (s .next .0) (s .places) (storedPair s) p 15 (stampedPage s (blk c p)) (settled s (blk c p))
     turned = page-turned u p inside
 
-    abbrev N : ℕ
+    abbrev pub N : ℕ
     N = length (versionsOf history)
 
-    abbrev on : ℕ → ℕ
+    abbrev pub on : ℕ → ℕ
     on = onWith (disk .on) p (full N p)
 
-    abbrev newDisk : Disk
+    abbrev pub newDisk : Disk
     newDisk = record { oldest = disk .oldest; next = disk .next; time = disk .time; stored = disk .stored; cells = turned .cells; on = on }
 
     sized : Each SlotSized (turned .cells)
     sized = match-sized (u .medium) (turned .cells) (turned .size) (turned .match)
 
-    page-length : length page ≡ 512
+    pub page-length : length page ≡ 512
     page-length = rw (turned .bytes) (length-page (versionsOf history) (turned .cells) p (full N p) sized (omega arith))
 
     within : 512 * place + 512 ≤ length m
@@ -160,7 +165,7 @@ module _ {l d : ℕ} {m c : List ℕ} {s : State} {b : Book} {disk : Disk} {clos
         go (inl e) z = absurd (omega (arith, rw e at z, getD-set-same (s .first) p 0 0 (omega (arith, u .firsts .size, u .medium .sizes .range .pages-high))))
         go (inr e) z = getD-set-other (s .first) p q 0 0 e
 
-    page-up : Up l d newMedium (put c p page) (pageStored s p (blk c p)) b newDisk closed tail
+    pub page-up : Up l d newMedium (put c p page) (pageStored s p (blk c p)) b newDisk closed tail
     unfolding pageStored
     page-up = record {
       medium = record {

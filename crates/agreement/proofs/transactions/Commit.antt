@@ -216,7 +216,7 @@ module _ {l d : ℕ} {m c : List ℕ} {s : State} {b : Book} {disk : Disk} {clos
       numbers = rw (g .grown) (each-append (λ (y : Placed). numberIn (y .rec) < s .next .0) (records (closed ++ (tail ∷ []))) _ (u .state .numbers) (active-next u n i f, tt));
     };
     cache = rw old-vs (u .cache);
-    firsts = rw old-vs (record { size = u .firsts .size; noted = u .firsts .noted; low = u .firsts .low; high = λ p h. omega (arith, u .firsts .high p h, g .below) });
+    firsts = rw old-vs (record { size = u .firsts .size; noted = u .firsts .noted; low = u .firsts .low; high = λ p h. omega (arith, u .firsts .high p h, g .below); lacks = u .firsts .lacks });
     living = rw new-cs living′;
     opens = rw old-vs opens′;
     phase = rw new-cs (phase-map (s .phase) d m (lg .medium) disk (withLog disk (g .stored′)) (commitsOf (closed ++ (tail ∷ []))) (commitsOf (closed ++ (tail ∷ [])) ++ (me ∷ []))

@@ -1,6 +1,6 @@
 -- Write and erase: a running store goes on to the book with one version row more. The log grows by the version, which
 -- waits in the next slot of its page; its number's place waits for one more, and no other active number wrote the record.
-use Prim.Native.Nat.{ℕ, _+_, _*_, _/_, _≤_, _<_}
+use Prim.Native.Nat.{ℕ, _+_, _*_, _/_, _%_, _≤_, _<_}
 use native.Mathlib.Omega.{arith}
 use mathlib.Core.Bool.{Bool, true, false, not, false≢true}
 use mathlib.Core.List.{List, [], _∷_, _++_}
@@ -36,7 +36,7 @@ use Rattle.agreement.proofs.history.VersionLaws.{commits-append, newest
 use Rattle.agreement.proofs.history.CommitLaws.{last-append}
 use Rattle.agreement.proofs.history.SlotLaws.{count-small}
 use Rattle.agreement.proofs.history.RowLaws.{versions-are, length-rowsFor, rows-append, length-rows}
-use Rattle.agreement.proofs.invariant.MediumFacts.{cells-sized}
+use Rattle.agreement.proofs.invariant.MediumFacts.{cells-sized, fewer-stored}
 use Rattle.agreement.proofs.transactions.ActiveLaws.{active-place, active-low, active-num, active-next, active-high, active-waits, uncommitted, elsewhere, unpaired}
 use Rattle.agreement.proofs.transactions.WriteLaws.{count-other, count-same, touch-low, firsts-more, cache-more, newest-is, not-held}
 use Rattle.agreement.proofs.invariant.PlaceSet.{placeAt-same, placeAt-other, living-set, phase-map}
@@ -165,6 +165,10 @@ module _ {l d : ℕ} {m c : List ℕ} {s : State} {b : Book} {disk : Disk} {clos
     covered = covered′ o x le (p .covered);
   }
 
+  -- the medium lacks the new version
+  next-missing : disk .on (length (versionsOf (closed ++ (tail ∷ []))) / 15) ≤ length (versionsOf (closed ++ (tail ∷ []))) % 15
+  next-missing = omega (arith, u .medium .pages .few (length (versionsOf (closed ++ (tail ∷ []))) / 15) .1, fewer-stored (u .medium))
+
   medium′ : OnMedium l d (lg .medium) (withCell (withLog disk (g .stored′)) (waitingCell me)) (g .closed′ ++ (g .tail′ ∷ []))
   unfolding head me
   medium′ =
@@ -197,7 +201,7 @@ module _ {l d : ℕ} {m c : List ℕ} {s : State} {b : Book} {disk : Disk} {clos
         (cache-more d c (versionsOf (closed ++ (tail ∷ []))) (disk .cells) me (waitingCell me) (u .cache) (u .medium .pages .slots .count) (omega (arith, u .state .slots)) (cells-sized medium′)));
     firsts = rw new-vs (subst (λ (x : ℕ). Firsts d (versionsOf (closed ++ (tail ∷ [])) ++ (me ∷ [])) (disk .on) (length (versionsOf (closed ++ (tail ∷ [])) ++ (me ∷ []))) (disk .oldest) (length (g .closed′)) (touched (s .first) (pageOf x) (sequenceOf (lg .tail))))
         (sym (u .state .slots)) (rw tail-is (firsts-more d (versionsOf (closed ++ (tail ∷ []))) me (disk .on) (disk .oldest) (length closed) (length (g .closed′)) (s .first) (u .firsts) refl (g .below) (recent u g)
-        (omega (arith, (recent u g), u .medium .master .fits .oldest-low)) (omega (arith, u .state .slots)) (u .medium .sizes .range .pages-high))));
+        (omega (arith, (recent u g), u .medium .master .fits .oldest-low)) (omega (arith, u .state .slots)) (u .medium .sizes .range .pages-high) next-missing)));
     living = rw old-cs living′;
     opens = rw new-vs opens′;
     phase = rw old-cs (phase-map (s .phase) d m (lg .medium) disk (withCell (withLog disk (g .stored′)) (waitingCell me)) (commitsOf (closed ++ (tail ∷ []))) (commitsOf (closed ++ (tail ∷ [])))

@@ -1,7 +1,7 @@
 -- A version more, for the parts of the invariant: what waits under each number, the cache, the pages' first changes, and
 -- who may write a record. A number that wrote a record and is active holds it, since the record's newest version is then
 -- its own and waits.
-use Prim.Native.Nat.{ℕ, suc, _+_, _*_, _≤_, _<_}
+use Prim.Native.Nat.{ℕ, suc, _+_, _*_, _/_, _%_, _≤_, _<_}
 use native.Mathlib.Omega.{arith}
 use mathlib.Core.Bool.{Bool, true, false, not, _&&_, false≢true}
 use mathlib.Core.List.{List, [], _∷_, _++_}
@@ -63,16 +63,17 @@ firsts-grow d vs w on o q first f = record {
   noted = λ n h k. rw (List·getD-append vs (w ∷ []) noVersion n h) (f .noted n h k);
   low = f .low;
   high = f .high;
+  lacks = f .lacks;
 }
 
 pub firsts-more : (d : ℕ) (vs : List LoggedVersion) (w : LoggedVersion) (on : ℕ → ℕ) (o q q′ : ℕ) (first : List ℕ) → Firsts d vs on (length vs) o q first
-    → w .seq ≡ q′ → q ≤ q′ → o ≤ q′ → 0 < q′ → length vs < 15 * d → d ≤ 64
+    → w .seq ≡ q′ → q ≤ q′ → o ≤ q′ → 0 < q′ → length vs < 15 * d → d ≤ 64 → on (length vs / 15) ≤ length vs % 15
     → Firsts d (vs ++ (w ∷ [])) on (length (vs ++ (w ∷ []))) o q′ (touched first (pageOf (length vs)) q′)
 unfolding pageOf
-firsts-more d vs w on o q q′ first f e h k z room few =
+firsts-more d vs w on o q q′ first f e h k z room few new =
     let a : length (vs ++ (w ∷ [])) ≡ suc (length vs) = length-append vs (w ∷ []) ∙ omega arith in
     rw a
-    (firsts-touched d (vs ++ (w ∷ [])) on (length vs) o q first (firsts-grow d vs w on o q first f) q′ (ap (λ (v : LoggedVersion). v .seq) (getD-append-seam vs w [] noVersion) ∙ e) h k z room few)
+    (firsts-touched d (vs ++ (w ∷ [])) on (length vs) o q first (firsts-grow d vs w on o q first f) q′ (ap (λ (v : LoggedVersion). v .seq) (getD-append-seam vs w [] noVersion) ∙ e) h k z room few new)
 
 -- ---- the cache
 

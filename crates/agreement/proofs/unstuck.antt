@@ -1,0 +1,4 @@
+pub mod Log
+pub mod Places
+pub mod Restart
+pub mod Only
