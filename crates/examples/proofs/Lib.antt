@@ -8,3 +8,5 @@ pub mod EveryCall
 pub mod Reread
 pub mod Repeats
 pub mod LastGiven
+pub mod Filled
+pub mod FullLog

@@ -13,7 +13,7 @@ abbrev said : ℕ → ℕ → World → Book → List Event → Ran
 said l d w b es =
     record { world = worldAfter l d w es; book = bookAfter l d w b es; seen = trace l d w es; run = isRun l d w es }
 
-ran-from : (l d : ℕ) (w : World) (b : Book) (es : List Event) → ranFrom l d w b es ≡ said l d w b es
+pub ran-from : (l d : ℕ) (w : World) (b : Book) (es : List Event) → ranFrom l d w b es ≡ said l d w b es
 unfolding ranFrom worldAfter bookAfter trace isRun
 ran-from l d w b [] = refl
 ran-from l d w b (e ∷ es) =
@@ -27,13 +27,18 @@ ran-is l d es = ran-from l d (formatted l d) blank es
 
 -- ---- one event behind others
 
-run-behind : (l d : ℕ) (w : World) (es : List Event) (e : Event)
+pub run-behind : (l d : ℕ) (w : World) (es : List Event) (e : Event)
     → isRun l d w (es ++ (e ∷ [])) ≡ (isRun l d w es && (typed e && allowed l d (worldAfter l d w es) e))
 unfolding isRun worldAfter
 run-behind l d w [] e = ap (λ (a : Bool). typed e && a) (and-true (allowed l d w e))
 run-behind l d w (x ∷ es) e =
     ap (λ (a : Bool). typed x && (allowed l d w x && a)) (run-behind l d (step l d w x .world) es e)
     ∙ sym (simp (and-assoc, and-assoc))
+
+pub world-behind : (l d : ℕ) (w : World) (es : List Event) (e : Event) → worldAfter l d w (es ++ (e ∷ [])) ≡ step l d (worldAfter l d w es) e .world
+unfolding worldAfter
+world-behind l d w [] e = refl
+world-behind l d w (x ∷ es) e = world-behind l d (step l d w x .world) es e
 
 pub computed-is : (l d : ℕ) (es : List Event) (e : Event)
     → computed l d es e ≡ record { run = isRun l d (formatted l d) (es ++ (e ∷ [])); book = bookAt l d es; seen = seenAt l d es e }

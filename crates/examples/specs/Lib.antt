@@ -5,3 +5,4 @@ pub mod Spoiling
 pub mod EveryCall
 pub mod LastGiven
 pub mod Repeats
+pub mod FullLog

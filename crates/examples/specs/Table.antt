@@ -64,7 +64,7 @@ abbrev pub tail : ℕ → ℕ → Tail
 tail s u = record { sequence = s; used = u }
 
 -- n writes of record 7 under number 1, and their slots from k on
-abbrev writes : ℕ → List Event
+abbrev pub writes : ℕ → List Event
 writes zero = []
 writes (suc n) = call (write 1 7 (bytes 65)) ∷ writes n
 

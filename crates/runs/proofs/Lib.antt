@@ -4,4 +4,5 @@ pub mod Asks
 pub mod Refusals
 pub mod OneBlock
 pub mod Counted
+pub mod Named
 pub mod Lengths
