@@ -31,7 +31,7 @@ pub fn checkpoint<R: Rules>(
 }
 
 /// The least block that first changed a page not stored since, or the tail.
-fn new_oldest(state: &State) -> u64 {
+pub fn new_oldest(state: &State) -> u64 {
     let changed = &state.first_changed[..state.pages];
     let least = changed.iter().copied().filter(|&sequence| sequence != 0);
     least.min().unwrap_or(state.tail_sequence)

@@ -49,16 +49,22 @@ fn store_tail(state: &mut State, medium: &mut [u8]) {
     state.stored_time = state.last_time;
 }
 
-pub fn store_log<R: Rules>(
-    state: &mut State,
-    medium: &mut [u8],
-    cache: &mut [u8],
-) -> Result<(), Refusal> {
+/// The questions of storing the log.
+pub fn check_store(state: &State, medium: &[u8], cache: &[u8]) -> Result<(), Refusal> {
     state.check_fit(medium, cache)?;
     let index = log_block(state.tail_sequence, state.log_blocks);
     if block(medium, index) == state.tail {
         return Err(NO_CHANGE);
     }
+    Ok(())
+}
+
+pub fn store_log<R: Rules>(
+    state: &mut State,
+    medium: &mut [u8],
+    cache: &mut [u8],
+) -> Result<(), Refusal> {
+    check_store(state, medium, cache)?;
     store_tail(state, medium);
     if R::DROP_WHEN_CACHED {
         pages::stamp_cache_and_drop(state, cache);

@@ -105,9 +105,7 @@ impl<R: Rules> Judge<R> {
     /// A refusal changes nothing, a call at most one block, a store at least a byte.
     fn judge_buffers(&self, line: &Line, reply: &Reply, before: &Option<State>) -> Verdict<()> {
         let machine = &self.machine;
-        let blocks = machine.medium.chunks_exact(BLOCK);
-        let pairs = blocks.zip(self.medium_before.chunks_exact(BLOCK));
-        let changed = pairs.filter(|(now, old)| now != old).count();
+        let changed = changed_blocks(&machine.medium, &self.medium_before);
         demand(changed <= 1, || format!("{changed} blocks changed"))?;
         if let Reply::Refused(_) = reply {
             let same = changed == 0

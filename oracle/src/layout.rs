@@ -76,6 +76,12 @@ pub fn block_mut(medium: &mut [u8], index: usize) -> &mut [u8] {
     &mut medium[index * BLOCK..(index + 1) * BLOCK]
 }
 
+/// How many blocks of a medium are not what they were.
+pub fn changed_blocks(now: &[u8], before: &[u8]) -> usize {
+    let blocks = now.chunks_exact(BLOCK).zip(before.chunks_exact(BLOCK));
+    blocks.filter(|(now, before)| now != before).count()
+}
+
 pub fn end_place(sequence: u64, offset: usize) -> u64 {
     sequence
         .saturating_mul(BLOCK as u64)

@@ -21,6 +21,7 @@ pub mod open;
 pub mod pages;
 pub mod profiles;
 pub mod random;
+pub mod relief;
 pub mod rules;
 pub mod script;
 pub mod scripts;

@@ -96,6 +96,7 @@ pub enum Reply {
     ShownPage(Option<usize>),
 }
 
+#[derive(Clone)]
 pub struct Machine<R: Rules> {
     pub log_blocks: u64,
     pub pages: u64,

@@ -1,13 +1,15 @@
 //! The oracle's commands.
 
 use oracle::bench::commits::{self, Way};
-use oracle::bench::{filler, growth, rooms, sql, turns};
+use oracle::bench::{self, filler, growth, sql, turns};
 use oracle::damage::{self, Tally};
 use oracle::disk::{command, program};
 use oracle::fuzz::{self, Reached};
 use oracle::judge::Strictness;
 use oracle::layout::{MAX_LOG_BLOCKS, MAX_PAGES, MAX_SLOTS};
-use oracle::profiles::{self, Profile, PROFILES};
+use oracle::profiles::{self, Profile, FULL, PROFILES};
+use oracle::relief::freed::{self, WayOut};
+use oracle::relief::{room, rooms, same};
 use oracle::rules::Sound;
 use oracle::scripts::{self, Options};
 use oracle::{script, stripbook};
@@ -29,6 +31,10 @@ oracle sql --update|--insert LEVEL    its commits, a transaction each, with this
 oracle turns FOLDER ROOMS PROGRAM..    commits on a disk, by striproom and SQLite in turns
 oracle fuzz --seeds A-B [--calls N] [--profile NAME]
 oracle damage --seeds A-B
+oracle relief --seeds A-B [--calls N] [--profile NAME]    ways out of a full log
+oracle relief rooms --seeds A-B    rooms for the program relief
+oracle relief expect           what it must print for the rooms of standard input
+oracle relief same PROGRAM --seeds A-B    compares the program with that
 oracle striproom [--spoilt NAME] FILE [FD]    the stand-in for striproom
 oracle disk same|kill|faults|spoilt PROGRAM LAUNCHER    tests of striproom
 oracle profiles                lists the profiles, by the seeds that take them";
@@ -87,6 +93,7 @@ fn main() -> ExitCode {
         "script" => write_script(&arguments),
         "fuzz" => run_fuzz(&arguments),
         "damage" => run_damage(&arguments),
+        "relief" => run_relief(&arguments),
         "disk" => command::run(&arguments.0).and_then(|text| print(format!("{text}\n").as_bytes())),
         "profiles" => list_profiles(),
         _ => Err(USAGE.into()),
@@ -151,7 +158,7 @@ fn write_script(arguments: &Arguments) -> Result<(), String> {
         return print(&scripts::stripbook_script(seed, calls, bad_end));
     }
     if arguments.has("--rooms") {
-        return print(&rooms::rooms_script(seed, calls));
+        return print(&bench::rooms::rooms_script(seed, calls));
     }
     print(&scripts::script(&Options {
         seed,
@@ -209,6 +216,50 @@ fn run_damage(arguments: &Arguments) -> Result<(), String> {
     } else {
         Err("not every condition occurred".into())
     }
+}
+
+fn run_relief(arguments: &Arguments) -> Result<(), String> {
+    let words: Vec<&str> = arguments.0.iter().map(String::as_str).collect();
+    match words[..] {
+        ["rooms", ..] => {
+            for sample in arguments.seeds()?.flat_map(rooms::rooms) {
+                let mut room = Vec::new();
+                sample.room.put(&mut room);
+                print(&room)?;
+            }
+        }
+        ["expect"] => run(room::expect)?,
+        ["same", program, ..] => {
+            let counts = same::run(Path::new(program), arguments.seeds()?)?;
+            println!("{counts}");
+        }
+        _ => println!("{}", tally_relief(arguments)?),
+    }
+    Ok(())
+}
+
+/// Histories of the profile that is named, or of the one of each seed and of small full logs.
+fn tally_relief(arguments: &Arguments) -> Result<freed::Tally, String> {
+    let calls = arguments.number("--calls", Some(1500))?;
+    let mut all = freed::Tally::default();
+    for seed in arguments.seeds()? {
+        let profile = arguments.profile(seed)?;
+        all.add(&freed::run_seed::<Sound>(
+            seed,
+            profile,
+            calls,
+            &WayOut::SOUND,
+        )?);
+        if arguments.value("--profile").is_none() {
+            all.add(&freed::run_seed::<Sound>(
+                seed,
+                &FULL,
+                calls,
+                &WayOut::SOUND,
+            )?);
+        }
+    }
+    Ok(all)
 }
 
 fn list_profiles() -> Result<(), String> {

@@ -149,8 +149,15 @@ pub static PROFILES: [Profile; 14] = [
     },
 ];
 
+/// Small logs that run full again and again, in every phase of a checkpoint. No seed stands for it.
+pub static FULL: Profile = Profile {
+    weights: [8, 50, 0, 10, 2, 0, 0, 3, 6, 4, 1, 0, 0],
+    ..profile("full", (2, 4), (2, 16))
+};
+
 pub fn by_name(name: &str) -> Option<&'static Profile> {
-    PROFILES.iter().find(|profile| profile.name == name)
+    let mut all = PROFILES.iter().chain([&FULL]);
+    all.find(|profile| profile.name == name)
 }
 
 /// The profile that a seed stands for where none is named.

@@ -1,5 +1,6 @@
-//! The sound store and wrong ones: the four shortcuts of document 01 that spoil a history, and three
-//! stores of which request #102 is not true, since an answer as of a time may not survive a cut.
+//! The sound store and wrong ones: the four shortcuts of document 01 that spoil a history, three stores
+//! of which request #102 is not true, since an answer as of a time may not survive a cut, and one of
+//! which #114 is not true, since its full log stays full.
 //!
 //! Each wrong one is a type, so the sound store is compiled without a trace of them.
 
@@ -18,6 +19,8 @@ pub trait Rules: Clone + Default {
     const READ_UNSTORED: bool = false;
     /// Moves the stored time when a time is given.
     const STORED_AT_COMMIT: bool = false;
+    /// Leaves the first change of a page that is stored.
+    const KEEP_FIRST_CHANGE: bool = false;
 
     /// Looks at the state that a cut or an opening ends.
     fn keep(&mut self, _ended: &State) {}
@@ -64,6 +67,12 @@ impl Rules for ReadUnstored {
 pub struct StoredAtCommit;
 impl Rules for StoredAtCommit {
     const STORED_AT_COMMIT: bool = true;
+}
+
+#[derive(Clone, Default)]
+pub struct KeepFirstChange;
+impl Rules for KeepFirstChange {
+    const KEEP_FIRST_CHANGE: bool = true;
 }
 
 /// A cut does not take back the last time given: it counts as stored from the opening on, though its

@@ -34,7 +34,7 @@ pub enum Life {
 #[derive(Clone, Copy, PartialEq, Eq, Debug)]
 pub struct Place {
     pub life: Life,
-    pub waiting: u16,
+    pub waiting: u64,
 }
 
 pub const FREE: Place = Place {

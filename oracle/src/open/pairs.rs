@@ -17,7 +17,7 @@ pub struct Pair {
     pub source: u16,
     pub block: u16,
     /// Waiting versions under the number, counted on its first pair.
-    waiting: u16,
+    waiting: u64,
 }
 
 impl Pair {
