@@ -31,6 +31,7 @@ ghost use Rattle.store.specs.Answer.{leaves};
 ghost use Rattle.store.specs.Places.{placeAt};
 ghost use Rattle.store.specs.State.{withPhase};
 ghost use Rattle.store.specs.Checkpoint.{leastOr, newOldest, noPair, pairBelow, pairsFrom, checkpointStep};
+ghost use Rattle.store.specs.Relief.{checkpointLeft};
 ghost use Rattle.memory.specs.Memory.{placesOf, firstOf, phaseBy, stateOf};
 ghost use Rattle.checkpoints.specs.Lesser.{lesserOf};
 
@@ -173,6 +174,19 @@ fn go_on(words: &mut [u64], kind: u64)
     ensures { λ _. ⌜ ((tail : List ℕ) → stateOf (now (words .exit)) tail ≡ withPhase (stateOf (now (words .entry)) tail) (phaseBy kind (getD (now (words .entry)) 9 0) (getD (now (words .entry)) 10 0))) ⌝ }
 {
     words[PHASE] = kind;
+}
+
+// Is a call left: is a checkpoint under way, or would one move the oldest block?
+pub fn is_left(words: &[u64; 448], tail: &[u8; 512], medium: &[u8]) -> bool
+    requires { ⌜ (getD (now words) 1 0 ≤ 64) × (512 ≤ length (now medium)) ⌝ }
+    ensures { λ r. ⌜ r ≡ checkpointLeft (stateOf (now (words .entry)) (now (tail .entry))) (now (medium .entry)) ⌝ }
+{
+    let phase = words[PHASE];
+    match phase {
+        1 => true,
+        2 => true,
+        _ => new_oldest(words, tail) != layout::master::oldest(medium),
+    }
 }
 
 // The next of the three stores. It writes one block, in place.

@@ -9,6 +9,7 @@ use native.Mathlib.Omega.{arith}
 use lib.ListN.{length, getD}
 use lib.Dec.{eqb, leb}
 use borrow.Author.Tests.{lt-ltb}
+use Rattle.fields.specs.Equal.{eqList}
 use Rattle.layout.specs.Slot.{slotState}
 use Rattle.layout.specs.Page.{pageSlot}
 use Rattle.layout.specs.declared.slot.Slot.{Slot}
@@ -110,7 +111,7 @@ module _ (w : List ℕ) where
         ap (timeBy w) (found-at i (omega arith)) ∙ found-time (slot i) ∙ ap (λ (l : List ℕ). stampTime pair (slotState l)) (sym (same i (omega arith))) in
         rw e (stamped-from k (i + 1) (stampWith t x i) (omega arith) (λ j g. stampWith-other t x i j (λ q. absurd (omega arith)) ∙ same j (omega arith)))
 
-    pub stamped-found : stampBy w found page 0 15 ≡ stampedUnder w page
+    stamped-found : stampBy w found page 0 15 ≡ stampedUnder w page
     unfolding stampedUnder
     stamped-found = stamped-from 15 0 page (omega arith) (λ j g. refl)
 
@@ -123,6 +124,18 @@ module _ (w : List ℕ) where
         ap (λ (p : ℕ). lowerBy p ps) (found-at i (omega arith)) ∙ found-lower (slot i) ps in
         rw e (settled-from k (i + 1) qs (omega arith))
 
-    pub settled-found : settleBy found (placesOf w) 0 15 ≡ settledUnder w page
+    settled-found : settleBy found (placesOf w) 0 15 ≡ settledUnder w page
     unfolding settledUnder
     settled-found = settled-from 15 0 (placesOf w) (omega arith)
+
+-- ---- by places found so; b is whether a block holds the page that is stamped by them
+
+module _ (w page found : List ℕ) (e : found ≡ placesFor w page) where
+  pub stamped-is : stampBy w found page 0 15 ≡ stampedUnder w page
+  stamped-is = rw e (stamped-found w page)
+
+  pub settled-is : settleBy found (placesOf w) 0 15 ≡ settledUnder w page
+  settled-is = rw e (settled-found w page)
+
+  pub asked : (block : List ℕ) (b : Bool) → b ≡ eqList block (stampBy w found page 0 15) → eqList block (stampedUnder w page) ≡ b
+  asked block b q = sym (q ∙ ap (eqList block) stamped-is)

@@ -99,6 +99,15 @@ fn is_stored(words: &[u64; 448], found: &[u64; 15], cached: &[u8], stored: &[u8]
     true
 }
 
+// Does the block hold the page, as it is once stamped? Nothing is changed.
+pub fn holds(words: &[u64; 448], page: &[u8], block: &[u8]) -> bool
+    requires { ⌜ (length (now page) ≡ 512) × (length (now block) ≡ 512) ⌝ }
+    ensures { λ r. ⌜ r ≡ eqList (now (block .entry)) (stampedUnder (now (words .entry)) (now (page .entry))) ⌝ }
+{
+    let found = places_for(words, page);
+    is_stored(words, &found, page, block)
+}
+
 // Stamps slot i of the page by its place.
 fn stamp_slot(words: &[u64], place: u64, page: &mut [u8], i: usize)
     requires { ⌜ length (now words) ≡ 448 ⌝ }

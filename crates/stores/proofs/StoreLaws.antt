@@ -7,7 +7,7 @@ use Prim.Native.Nat.{ℕ, _+_, _-_, _*_, _^_, _≤_, _<_}
 use native.Mathlib.Omega.{arith}
 use lib.ListN.{length, take, drop, getD, set}
 use borrow.Author.Tests.{lt-ltb, le-leb}
-use Rattle.fields.specs.Block.{blk, put, logBlockAt, pageBlockAt, mediumLength, cacheLength}
+use Rattle.fields.specs.Block.{blk, put, logBlockAt, pageBlockAt}
 use Rattle.fields.specs.Equal.{eqList}
 use Rattle.layout.specs.Journal.{sequenceOf}
 use Rattle.layout.specs.Page.{pageEnd}
@@ -25,15 +25,13 @@ use Rattle.store.specs.StorePage.{storedPair, stampedPage, settled, pageStored,
 use Rattle.store.proofs.FitLaws.{fit-of}
 use Rattle.memory.specs.Memory.{firstOf, stateBy, stateOf, withFirst, withPlaces}
 use Rattle.pages.specs.Stamped.{stampedUnder, settledUnder}
+use Rattle.stores.specs.Left.{Sized}
 
 -- ---- where the blocks lie; m and c are the lengths of medium and cache
 
 pub record Sizes (w t : List ℕ) (m c : ℕ) : Type 0 where
+  pub sized : Sized w m c
   pub blocks-low : 2 ≤ getD w 0 0
-  pub blocks-high : getD w 0 0 ≤ 32
-  pub pages-high : getD w 1 0 ≤ 64
-  pub medium : m ≡ mediumLength (getD w 0 0) (getD w 1 0)
-  pub cache : c ≡ cacheLength (getD w 1 0)
   pub sequence : sequenceOf t < 2 ^ 48
 
 pub sizes : (w t : List ℕ) (m c : ℕ) → fits (stateOf w t) m c ≡ true → Sizes w t m c
@@ -41,18 +39,15 @@ unfolding stateOf stateBy
 sizes w t m c e =
     let f = fit-of (stateOf w t) m c e in
     record {
+      sized = record { blocks-high = f .range .blocks-high; pages-high = f .range .pages-high; medium = f .medium; cache = f .cache };
       blocks-low = f .range .blocks-low;
-      blocks-high = f .range .blocks-high;
-      pages-high = f .range .pages-high;
-      medium = f .medium;
-      cache = f .cache;
       sequence = f .tail .sequence-high;
     }
 
-module _ (w t : List ℕ) (m c : ℕ) (f : Sizes w t m c) where
-  pub log-within : (k q : ℕ) → k ≡ logBlockAt (getD w 0 0) q → 512 * k + 512 ≤ m
-  log-within k q e = let h = log-in-medium (getD w 0 0) (getD w 1 0) q (omega arith) in omega arith
+pub log-within : (w t : List ℕ) (m c : ℕ) → Sizes w t m c → (k q : ℕ) → k ≡ logBlockAt (getD w 0 0) q → 512 * k + 512 ≤ m
+log-within w t m c f k q e = let h = log-in-medium (getD w 0 0) (getD w 1 0) q (omega arith) in omega arith
 
+module _ (w : List ℕ) (m c : ℕ) (f : Sized w m c) where
   pub page-within : (p : ℕ) → p < getD w 1 0 → (p < 64) × (512 * p + 512 ≤ c)
   page-within p h = let k = page-in-cache (getD w 1 0) p h in (omega arith, omega arith)
 
@@ -70,13 +65,13 @@ log-done s u m n c e q eu en = simp (e, q, eu, en)
 
 -- ---- block k of l as it is lent, and l once v is left in it
 
-abbrev lent : List ℕ → ℕ → List ℕ
+abbrev pub lent : List ℕ → ℕ → List ℕ
 lent l k = take (512 * k + 512 - 512 * k) (drop (512 * k) l)
 
 abbrev laid : List ℕ → ℕ → List ℕ → List ℕ
 laid l k v = take (512 * k) l ++ (v ++ drop (512 * k + 512 - 512 * k) (drop (512 * k) l))
 
-lent-blk : (l : List ℕ) (k : ℕ) → lent l k ≡ blk l k
+pub lent-blk : (l : List ℕ) (k : ℕ) → lent l k ≡ blk l k
 unfolding blk
 lent-blk l k = lent-part l (512 * k) 512
 

@@ -80,11 +80,11 @@ done-number Erased h = refl
 done-number Present h = refl
 done-number (Listed n) h = refl
 
-pub record Full (m c : List ℕ) (s : State) (x : Call) (o : Outcome) : Type 0 where
+pub record Filled (m c : List ℕ) (s : State) (x : Call) (o : Outcome) : Type 0 where
   pub no : ask (asks m c s x) ≡ some LogFull
   pub stays : after o ≡ up m c s
 
-pub full-way : {m c : List ℕ} {s : State} {x : Call} {o : Outcome} → Way m c s x o → answerNumber (o .answer) ≡ 8 → Full m c s x o
+pub full-way : {m c : List ℕ} {s : State} {x : Call} {o : Outcome} → Way m c s x o → answerNumber (o .answer) ≡ 8 → Filled m c s x o
 unfolding answerNumber writeStep commitStep storeLogIf storePageIf checkpointStep
 full-way (refused k r w) e = record { no = w ∙ ap some (full-of r e); stays = refl }
 full-way (begins clock i p w) e = absurd (omega arith)

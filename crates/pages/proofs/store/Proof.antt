@@ -1,13 +1,8 @@
 -- The places are looked up before any is counted down, so what the functions leave by them is what the definitions say.
 -- Assumes nothing.
-use mathlib.Core.Path.{_≡_, refl, sym, ap, _∙_}
-use mathlib.Core.Bool.{Bool}
-use mathlib.Core.List.{List}
-use Prim.Native.Nat.{ℕ}
-use Rattle.fields.specs.Equal.{eqList}
-use Rattle.memory.specs.Memory.{placesOf, stateOf, withPlaces}
-use Rattle.pages.specs.Stamped.{stampedUnder, settledUnder, placesFor, stampBy, settleBy}
-use Rattle.pages.proofs.FoundLaws.{stamped-found, settled-found}
+use mathlib.Core.Path.{refl, ap, _∙_}
+use Rattle.memory.specs.Memory.{stateOf, withPlaces}
+use Rattle.pages.proofs.FoundLaws.{stamped-is, settled-is, asked}
 use borrow.Author.Needs.{needs}
 use Rattle.pages.proofs.store.Statement.{statement}
 use Rattle.pages.proofs.store.Tie as tie
@@ -18,16 +13,6 @@ use Rattle.pages.proofs.is_stored.Reads as is-stored-reads
 use Rattle.pages.proofs.places_for.Reads as places-for-reads
 use Rattle.pages.proofs.settle.Reads as settle-reads
 use Rattle.pages.proofs.stamp.Reads as stamp-reads
-
-module _ (w page found : List ℕ) (e : found ≡ placesFor w page) where
-  stamped-is : stampBy w found page 0 15 ≡ stampedUnder w page
-  stamped-is = rw e (stamped-found w page)
-
-  settled-is : settleBy found (placesOf w) 0 15 ≡ settledUnder w page
-  settled-is = rw e (settled-found w page)
-
-  asked : (block : List ℕ) (b : Bool) → b ≡ eqList block (stampBy w found page 0 15) → eqList block (stampedUnder w page) ≡ b
-  asked block b q = sym (q ∙ ap (eqList block) stamped-is)
 
 places-for-requires : tie.Need-places-for-requires
 places-for-requires c κs = search needs

@@ -39,14 +39,14 @@ fit : (c : tie.Else1) → let a = c .before .before .before .before .before .bef
 fit c = sizes _ _ _ _ (q1 c)
 
 within : (c : tie.Else2) → let a = c .before .before .before .before .before .before .before .before .before .args in (a .page < 64) × (512 * a .page + 512 ≤ length (a .cache .now))
-within c = page-within _ _ _ _ (fit (c .before .before)) _ (c .if2 .left)
+within c = page-within _ _ _ (fit (c .before .before) .sized) _ (c .if2 .left)
 
 both : (c : tie.After-page-block) → let a = c .before .before .before .before .before .before .before .before .before .before .before .before .before .before .before .before .before .args in let r = c .page-block .result in
     (a .page < 64) × (512 * a .page + 512 ≤ length (a .cache .now)) × (r < 128) × (512 * r + 512 ≤ length (a .medium .now))
 both c =
     let k = c .before .before .before .before .before .before .before .before in
     let w = within k in
-    let x = block-within _ _ _ _ (fit (k .before .before)) _ _ (k .if2 .left) (c .page-block .ensures) in
+    let x = block-within _ _ _ (fit (k .before .before) .sized) _ _ (k .if2 .left) (c .page-block .ensures) in
     (w .0, w .1, x .0, x .1)
 
 is-fit-requires : tie.Need-is-fit-requires
