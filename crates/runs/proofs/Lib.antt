@@ -3,6 +3,6 @@ pub mod OpenFits
 pub mod Asks
 pub mod Refusals
 pub mod OneBlock
-pub mod Counted
+pub mod OneEach
 pub mod Named
 pub mod Lengths

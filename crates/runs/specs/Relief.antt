@@ -82,24 +82,25 @@ abbrev pub AllAccepted : List Observation → Type 0
 AllAccepted [] = Unit {0}
 AllAccepted (o ∷ os) = (o .refusal ≡ 0) × AllAccepted os
 
--- 01: "A store replaces one block. Each call but formatting makes at most one store": from w on the events make n stores. Each
--- leaves the medium alone, or makes one store and replaces one block of 512 bytes.
-pub data Stores (l d : ℕ) : World → List Event → ℕ → Type 0 where
-  none : (w : World) → Stores l d w [] 0
-  quiet : (w : World) (e : Event) (es : List Event) (n : ℕ) → mediumOf (step l d w e .world) ≡ mediumOf w
-      → Stores l d (step l d w e .world) es n → Stores l d w (e ∷ es) n
-  one : (w : World) (e : Event) (es : List Event) (n k : ℕ) (block : List ℕ) → length block ≡ 512
-      → mediumOf (step l d w e .world) ≡ put (mediumOf w) k block
-      → Stores l d (step l d w e .world) es n → Stores l d w (e ∷ es) (suc n)
+-- 01: "A store replaces one block": what an event that makes at most one store makes of the medium m. It leaves it alone, or
+-- replaces one block of 512 bytes.
+pub data OneStore (m : List ℕ) : List ℕ → Type 0 where
+  alone : OneStore m m
+  replaced : (k : ℕ) (block : List ℕ) → length block ≡ 512 → OneStore m (put m k block)
+
+-- 01: "Each call but formatting makes at most one store": so with each of these events, from w on
+abbrev pub OneEach : ℕ → ℕ → World → List Event → Type 0
+OneEach l d w [] = Unit {0}
+OneEach l d w (e ∷ es) =
+    OneStore (mediumOf w) (mediumOf (step l d w e .world)) × OneEach l d (step l d w e .world) es
 
 -- 02, #114: "The same call is then not refused 8. This takes at most 1 + D + 5 stores where A = 0": what the calls es do from
--- w on, where k was refused 8
+-- w on, where k was refused 8. There are at most 1 + D + 5 of them, and each makes at most one store.
 pub record Frees (l d : ℕ) (w : World) (k : Call) (es : List Event) : Type 0 where
   pub goes-on : isRun l d w (es ++ (call k ∷ [])) ≡ true  -- the run may go on so
   pub accepted : AllAccepted (trace l d w es)
-  pub stores : ℕ
-  pub made : Stores l d w es stores
-  pub few : stores ≤ 1 + d + 5
+  pub few : length es ≤ 1 + d + 5
+  pub one-each : OneEach l d w es
   pub again : step l d (worldAfter l d w es) (call k) .seen .refusal ≡ 0  -- not refused 8, nor otherwise
 
 -- 02, #114: "the tail .. sequence": in a running store

@@ -24,7 +24,7 @@ use Rattle.runs.specs.Machine.{World, up, down, called, seenOf, after, step, is
 use Rattle.runs.specs.Moments.{worldAfter, bookAt}
 use Rattle.runs.specs.Relief.{leftOf, left, oneMore, pagesFrom, differs, differing, relief, nextIn, asking, Frees, tailIn, Full, OutOfFull, Told, ByAsking}
 use Rattle.runs.proofs.Asks.{way}
-use Rattle.runs.proofs.Counted.{counted}
+use Rattle.runs.proofs.OneEach.{one-each}
 use Rattle.agreement.proofs.history.Ghost.{Disk}
 use Rattle.agreement.proofs.history.ListLaws.{same?}
 use Rattle.agreement.proofs.invariant.Invariant.{Up, Inv, running, fallen}
@@ -202,16 +202,13 @@ module _ {l d : ℕ} {m c : List ℕ} {s : State} {b : Book} {disk : Disk} {clos
 
   -- calls that lead to where the tail is the oldest block
   freeing : (es : List Event) → length es ≤ 1 + d + 5 → Leads l d (up m c s) es (Free l d closed tail s) → Frees l d (up m c s) k es
-  freeing es h q =
-      let (n, g, count) = counted l d (up m c s) es in
-      record {
-        goes-on = leads-then l d (up m c s) es (call k ∷ []) (Free l d closed tail s) (λ v. Unit {0}) q once .run;
-        accepted = q .accepted;
-        stores = n;
-        made = count;
-        few = omega arith;
-        again = done (worldAfter l d (up m c s) es) (q .there);
-      }
+  freeing es h q = record {
+    goes-on = leads-then l d (up m c s) es (call k ∷ []) (Free l d closed tail s) (λ v. Unit {0}) q once .run;
+    accepted = q .accepted;
+    few = h;
+    one-each = one-each l d (up m c s) es;
+    again = done (worldAfter l d (up m c s) es) (q .there);
+  }
     where
       once : (v : World) → Free l d closed tail s v → Leads l d v (call k ∷ []) (λ w. Unit {0})
       once v (runs n a z b′ disk′ x y) = leads-call l d n a z k [] (λ w. Unit {0}) t (done (up n a z) (runs n a z b′ disk′ x y)) (leads-none l d _ (λ w. Unit {0}) tt)
