@@ -33,6 +33,7 @@ use Rattle.store.specs.declared.State.{State}
 use Rattle.store.specs.Answer.{Outcome, refuses, answerNumber, refusalNumber}
 use Rattle.store.specs.State.{withPhase}
 use Rattle.store.specs.StoreLog.{logStored, storeLogIf, storeLogOf}
+use Rattle.store.specs.Tail.{tailEnd}
 use Rattle.store.specs.StorePage.{stampedPage, storePageAsks, pageStored, storePageIf, storePageOf}
 use Rattle.store.specs.Checkpoint.{newOldest, tableBlock, checkpointStep, checkpointIf, checkpointOf}
 use Rattle.store.specs.Relief.{allYes, pageLeft, underWay, checkpointLeft, afterLog, reliefOf}
@@ -166,9 +167,12 @@ module _ {l d : ℕ} {m c : List ℕ} {s : State} {b : Book} {disk : Disk} {clos
     logged-equal : log-equal ≡ true
     logged-equal = rw (log-block, a .logged) (eq-refl (s .tail))
 
+    all-stored : s .end .0 ≡ tailEnd (s .tail) .0
+    all-stored = log-same u (a .logged)
+
     -- its questions but for the last are answered "yes"
     page-left : (i : ℕ) → i < d → allYes (storePageAsks s m c i) ≡ not (page-equal i) && true
-    page-left i h = rw (fits-up u, lt-ltb i (s .pages) (omega (arith, u .state .pages)), le-leb (pageEnd (blk c i)) (s .end .0) (page-ended u (log-same u (a .logged)) i h))
+    page-left i h = rw (fits-up u, lt-ltb i (s .pages) (omega (arith, u .state .pages)), le-leb (pageEnd (blk c i)) (s .end .0) (page-ended u all-stored i h))
 
     -- a page that is clear does not differ
     clear-equal : (i : ℕ) → i < p → i < d → page-equal i ≡ true
@@ -183,11 +187,11 @@ module _ {l d : ℕ} {m c : List ℕ} {s : State} {b : Book} {disk : Disk} {clos
     module _ (inside : p < d) where
       page-refused : page-equal p ≡ true → called m c s (store-page p) ≡ refuses Unchanged s m c
       unfolding called storePageOf storePageIf
-      page-refused e = rw (fits-up u, lt-ltb p (s .pages) (omega (arith, u .state .pages)), le-leb (pageEnd (blk c p)) (s .end .0) (page-ended u (log-same u (a .logged)) p inside), e)
+      page-refused e = rw (fits-up u, lt-ltb p (s .pages) (omega (arith, u .state .pages)), le-leb (pageEnd (blk c p)) (s .end .0) (page-ended u all-stored p inside), e)
 
       page-done : page-equal p ≡ false → called m c s (store-page p) ≡ storePageIf none s m c p
       unfolding called storePageOf
-      page-done e = rw (fits-up u, lt-ltb p (s .pages) (omega (arith, u .state .pages)), le-leb (pageEnd (blk c p)) (s .end .0) (page-ended u (log-same u (a .logged)) p inside), e)
+      page-done e = rw (fits-up u, lt-ltb p (s .pages) (omega (arith, u .state .pages)), le-leb (pageEnd (blk c p)) (s .end .0) (page-ended u all-stored p inside), e)
 
       page-named : page-equal p ≡ false → nextIn (up m c s) ≡ call (store-page p) ∷ []
       unfolding pageLeft
@@ -195,11 +199,11 @@ module _ {l d : ℕ} {m c : List ℕ} {s : State} {b : Book} {disk : Disk} {clos
           log-passed logged-equal
           ∙ rw (first-least (λ i. allYes (storePageAsks s m c i)) (s .pages) 0 p (omega arith) (omega (arith, u .state .pages)) (λ i g h. clear-passed i h (omega arith)) (rw (page-left p inside, e)))
 
-      abbrev page-turned′ : List Cell
-      page-turned′ = page-turned u p inside .cells
+      abbrev stamped-cells : List Cell
+      stamped-cells = page-turned u p inside .cells
 
       ended : pageEnd (blk c p) ≤ s .end .0
-      ended = page-ended u (log-same u (a .logged)) p inside
+      ended = page-ended u all-stored p inside
 
       page-block : blk m (pageBlockAt (s .blocks) p) ≡ blk m (pageBlockAt l p)
       page-block = ap (λ (x : ℕ). blk m (pageBlockAt x p)) (u .state .blocks)
@@ -217,12 +221,12 @@ module _ {l d : ℕ} {m c : List ℕ} {s : State} {b : Book} {disk : Disk} {clos
       kept-quiet : (j : ℕ) → j < 15 * (p + 1) → page-equal p ≡ true → (j < 15 * p) ⊎ (15 * p ≤ j) → (n : TxNumber) → cell (disk .cells) j .state ≡ Waiting n → find (commitsOf (closed ++ (tail ∷ []))) (n .0) .time ≡ 0
       kept-quiet j h e (inl z) n w = a .quiet j z n w
       kept-quiet j h e (inr z) n w =
-          turned-quiet u (log-same u (a .logged)) p inside (j - 15 * p) (omega arith) n
+          turned-quiet u all-stored p inside (j - 15 * p) (omega arith) n
           (sym (same-state u p inside (same-page e) (j - 15 * p) (omega arith)) ∙ ap (λ (i : ℕ). cell (disk .cells) i .state) (sym (shifted j z)) ∙ w)
 
-      new-quiet : (j : ℕ) → j < 15 * (p + 1) → (j < 15 * p) ⊎ (15 * p ≤ j) → (n : TxNumber) → cell page-turned′ j .state ≡ Waiting n → find (commitsOf (closed ++ (tail ∷ []))) (n .0) .time ≡ 0
+      new-quiet : (j : ℕ) → j < 15 * (p + 1) → (j < 15 * p) ⊎ (15 * p ≤ j) → (n : TxNumber) → cell stamped-cells j .state ≡ Waiting n → find (commitsOf (closed ++ (tail ∷ []))) (n .0) .time ≡ 0
       new-quiet j h (inl z) n w = a .quiet j z n (ap (λ (x : Cell). x .state) (sym (page-turned u p inside .off j (omega arith))) ∙ w)
-      new-quiet j h (inr z) n w = turned-quiet u (log-same u (a .logged)) p inside (j - 15 * p) (omega arith) n (ap (λ (i : ℕ). cell page-turned′ i .state) (sym (shifted j z)) ∙ w)
+      new-quiet j h (inr z) n w = turned-quiet u all-stored p inside (j - 15 * p) (omega arith) n (ap (λ (i : ℕ). cell stamped-cells i .state) (sym (shifted j z)) ∙ w)
 
       new-clear : (i : ℕ) → i < p + 1 → (i ≡ p) ⊎ (i ≢ p) → getD (set (s .first) p 0) i 0 ≡ 0
       new-clear i h (inl z) = rw z (getD-set-same (s .first) p 0 0 (omega (arith, u .firsts .size, u .medium .sizes .range .pages-high)))
@@ -292,8 +296,8 @@ module _ {l d : ℕ} {m c : List ℕ} {s : State} {b : Book} {disk : Disk} {clos
   -- ---- all pages are clear
 
   module _ {r : State} {Ph : Phase → Type 0} (a : Clear l closed tail r Ph d disk m s) where
-    newest-oldest : newOldest s ≡ sequenceOf (s .tail)
-    newest-oldest = oldest-tail u (a .clear)
+    new-oldest-tail : newOldest s ≡ sequenceOf (s .tail)
+    new-oldest-tail = oldest-tail u (a .clear)
 
     pages-passed : nextIn (up m c s) ≡ named (afterLog Nothing (checkpointLeft s m))
     unfolding pageLeft
@@ -301,11 +305,11 @@ module _ {l d : ℕ} {m c : List ℕ} {s : State} {b : Book} {disk : Disk} {clos
         log-passed (logged-equal a)
         ∙ rw (first-none (λ i. allYes (storePageAsks s m c i)) (s .pages) 0 (λ i g h. let k : i < d = omega (arith, u .state .pages) in clear-passed a i k k))
 
-    -- a checkpoint is named while one is under way, or one would make the tail the oldest block
-    -- by the phase, and whether one would move the oldest block
+    -- what is named then, by the phase, and whether one more would leave the oldest block where it is
     abbrev byPhase : Phase → Bool → List Event
-    byPhase ph moved = named (afterLog Nothing (underWay ph || not moved))
+    byPhase ph same = named (afterLog Nothing (underWay ph || not same))
 
+    -- a checkpoint while one is under way, or would make the tail the oldest block, and nothing once the tail is
     pub under-named : underWay (s .phase) ≡ true → nextIn (up m c s) ≡ call checkpoint ∷ []
     unfolding checkpointLeft
     under-named e = pages-passed ∙ rw e
@@ -314,19 +318,19 @@ module _ {l d : ℕ} {m c : List ℕ} {s : State} {b : Book} {disk : Disk} {clos
     unfolding checkpointLeft
     idle-named e h =
         pages-passed ∙ ap (λ (ph : Phase). byPhase ph (eqb (newOldest s) (oldestOn m))) e
-        ∙ ap (byPhase Idle) (ne-eqb (newOldest s) (oldestOn m) (λ z. h (sym z ∙ newest-oldest)))
+        ∙ ap (byPhase Idle) (ne-eqb (newOldest s) (oldestOn m) (λ z. h (sym z ∙ new-oldest-tail)))
 
     pub none-named : s .phase ≡ Idle → oldestOn m ≡ sequenceOf (s .tail) → nextIn (up m c s) ≡ []
     unfolding checkpointLeft
     none-named e h =
         pages-passed ∙ ap (λ (ph : Phase). byPhase ph (eqb (newOldest s) (oldestOn m))) e
-        ∙ ap (byPhase Idle) (eq-eqb (newOldest s) (oldestOn m) (newest-oldest ∙ sym h))
+        ∙ ap (byPhase Idle) (eq-eqb (newOldest s) (oldestOn m) (new-oldest-tail ∙ sym h))
 
     -- the first call makes the tail the new oldest block
     pub check-first : s .phase ≡ Idle → Made l d closed tail (up m c s) checkpoint (Clear l closed tail r (First (length closed)) d)
     unfolding checkpointStep answerNumber
     check-first i =
-        let e : newOldest s ≡ length closed = newest-oldest ∙ tail-sequence u in
+        let e : newOldest s ≡ length closed = new-oldest-tail ∙ tail-sequence u in
         checked a (Clear l closed tail r (First (length closed)) d) Idle i refl
         (runs _ c _ b disk (first-up u)
         (in-phase a disk refl _ (logged-still a 1 (tableBlock (s .places) (newOldest s) 0) (omega arith) (length-tableBlock (s .places) (newOldest s) 0)) (FirstStored (newOldest s) (s .saved)) (First (length closed))
