@@ -125,15 +125,21 @@ impl Room {
         }
         Some(Room {
             words,
-            tail: input.split_off(..BLOCK)?.try_into().ok()?,
-            medium: input.split_off(..medium)?.to_vec(),
-            cache: input.split_off(..cache)?.to_vec(),
+            tail: take_bytes(input, BLOCK)?.try_into().ok()?,
+            medium: take_bytes(input, medium)?.to_vec(),
+            cache: take_bytes(input, cache)?.to_vec(),
         })
     }
 }
 
+fn take_bytes<'a>(input: &mut &'a [u8], count: usize) -> Option<&'a [u8]> {
+    let (bytes, rest) = input.split_at_checked(count)?;
+    *input = rest;
+    Some(bytes)
+}
+
 fn take_word(input: &mut &[u8]) -> Option<u64> {
-    input.split_off(..8).map(|word| get64(word, 0))
+    take_bytes(input, 8).map(|word| get64(word, 0))
 }
 
 /// Kind 1 is active, with its clock as the time, 2 committed, any other free.

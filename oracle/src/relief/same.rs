@@ -63,9 +63,8 @@ pub fn compare(
     for sample in samples {
         let mut wanted = Vec::new();
         let calls = sample.room.clone().free(next::<Sound>, &mut wanted);
-        let printed = rest
-            .split_off(..wanted.len().min(rest.len()))
-            .unwrap_or(&[]);
+        let (printed, others) = rest.split_at(wanted.len().min(rest.len()));
+        rest = others;
         demand(*printed == wanted, || {
             let text = wanted.len() - room_bytes(&sample.room);
             format!("{}: {}", sample.origin, difference(&wanted, printed, text))
