@@ -50,7 +50,9 @@ fn lists_as_long_as_can_be() {
             spare: 0,
             cut_short: false,
         };
-        let reply = Reply::Refused(LOG_FULL);
+        // The call is refused 8, and a refusal changes nothing.
+        let reply = machine.clone().call(&refused);
+        assert_eq!(reply, Reply::Refused(LOG_FULL));
         assert_eq!(
             judge(&machine, &refused, &reply, &WayOut::SOUND),
             Ok(Some(freed))
