@@ -55,11 +55,11 @@ use Rattle.agreement.proofs.reads.Answers.{current-answers, as-of-answe
 
 -- ---- refusals leave the book
 
-old-book : (n : ℕ) (b new : Book) → 0 < n → unlessRefused n b new ≡ b
+pub old-book : (n : ℕ) (b new : Book) → 0 < n → unlessRefused n b new ≡ b
 old-book zero b new h = absurd (omega arith)
 old-book (suc n) b new h = refl
 
-same-book : (n : ℕ) (b : Book) → unlessRefused n b b ≡ b
+pub same-book : (n : ℕ) (b : Book) → unlessRefused n b b ≡ b
 same-book zero b = refl
 same-book (suc n) b = refl
 

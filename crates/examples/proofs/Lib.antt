@@ -10,3 +10,6 @@ pub mod Repeats
 pub mod LastGiven
 pub mod Filled
 pub mod FullLog
+pub mod Handovers
+pub mod Refusing
+pub mod OldBoard

@@ -6,3 +6,5 @@ pub mod EveryCall
 pub mod LastGiven
 pub mod Repeats
 pub mod FullLog
+pub mod Handovers
+pub mod OldBoard

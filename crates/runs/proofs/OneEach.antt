@@ -25,7 +25,7 @@ opened-alone Erased w o e = e
 opened-alone Present w o e = e
 opened-alone (Listed k) w o e = e
 
-one-of : {m n : List ℕ} {k : ℕ} → Stores m k n → OneStore m n
+pub one-of : {m n : List ℕ} {k : ℕ} → Stores m k n → OneStore m n
 one-of nothing = alone
 one-of {k = k} (block b e) = replaced k b e
 

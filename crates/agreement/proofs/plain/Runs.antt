@@ -153,6 +153,13 @@ module _ (l d : ℕ) where
       let q = run-append es fs (step l d w e .world) (and-1 (allowed l d w e) _ r1) in
       (rw (and-0 (typed e) _ r, and-0 (allowed l d w e) _ r1) (q .0), q .1)
 
+  pub run-join : (es fs : List Event) (w : World) → isRun l d w es ≡ true → isRun l d (worldAfter l d w es) fs ≡ true → isRun l d w (es ++ fs) ≡ true
+  unfolding isRun worldAfter
+  run-join [] fs w r q = q
+  run-join (e ∷ es) fs w r q =
+      let r1 = and-1 (typed e) _ r in
+      rw (and-0 (typed e) _ r, and-0 (allowed l d w e) _ r1) (run-join es fs (step l d w e .world) (and-1 (allowed l d w e) _ r1) q)
+
   -- the first event of a run
   pub first-typed : (e : Event) (es : List Event) (w : World) → isRun l d w (e ∷ es) ≡ true → (allowed l d w e ≡ true) × (typed e ≡ true) × (isRun l d (step l d w e .world) es ≡ true)
   unfolding isRun

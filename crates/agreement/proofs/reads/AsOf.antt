@@ -44,7 +44,7 @@ best-append rs key limit best [] ws = refl
 best-append rs key limit best (x ∷ vs) ws =
     best-append rs key limit (cond (eqb (x .key) key) (datedOf (timeOf rs (x .number)) best limit x) best) vs ws
 
-best-snoc : (rs : List Row) (key limit : ℕ) (best : Option Dated) (vs : List RowVersion) (v : RowVersion)
+pub best-snoc : (rs : List Row) (key limit : ℕ) (best : Option Dated) (vs : List RowVersion) (v : RowVersion)
     → bestBelow rs key limit best (vs ++ (v ∷ []))
     ≡ cond (eqb (v .key) key) (datedOf (timeOf rs (v .number)) (bestBelow rs key limit best vs) limit v) (bestBelow rs key limit best vs)
 unfolding bestBelow

@@ -32,7 +32,7 @@ use Rattle.agreement.proofs.reads.Sights.{version-time}
 use Rattle.agreement.proofs.reads.WalkLaws.{overAll, Reaches, walked}
 use Rattle.agreement.proofs.reads.ReadFacts.{rowsFor-step, all-rows, row-time, chain-cached, kind-cached, value-cached, few-slots}
 
-current-snoc : (rs : List Row) (n key : ℕ) (before : Strip) (vs : List Version) (v : Version)
+pub current-snoc : (rs : List Row) (n key : ℕ) (before : Strip) (vs : List Version) (v : Version)
     → rowsCurrent rs n key before (vs ++ (v ∷ []))
     ≡ cond (eqb (v .key) key && (eqb (v .number) n || isSome (timeOf rs (v .number)))) (rowStrip (v .kind) (v .value)) (rowsCurrent rs n key before vs)
 unfolding rowsCurrent

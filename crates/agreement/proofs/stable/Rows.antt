@@ -101,7 +101,7 @@ above low (committed k t ∷ rs) n u r e = go (eqb k n) e (above t rs n u (r .1)
 -- ---- versions that do not count
 
 -- a time from the limit on
-too-late : (best : Option Dated) (limit : ℕ) (x : Dated) → limit ≤ x .time → laterOf best limit x ≡ best
+pub too-late : (best : Option Dated) (limit : ℕ) (x : Dated) → limit ≤ x .time → laterOf best limit x ≡ best
 too-late none limit x h = rw (le-ltb (x .time) limit h)
 too-late (some y) limit x h = rw (le-ltb (x .time) limit h)
 
@@ -119,6 +119,22 @@ best-fresh R S (version v ∷ rs) key limit best h =
     same false = refl
 best-fresh R S (committed n t ∷ rs) key limit best h =
     best-fresh R (S ++ (committed n t ∷ [])) rs key limit best (subst (λ (xs : List Row). Fresh xs rs) (append-assoc R S (committed n t ∷ [])) h)
+
+-- ---- lists
+
+-- a list follows from the last versions below the times up to its limit
+module _ (rs qs : List Row) (key t1 top : ℕ) (last : (limit : ℕ) → limit ≤ top → lastBelow qs key limit ≡ lastBelow rs key limit) where
+  pub lines-same : (k limit : ℕ) → limit ≤ top → linesBelow qs key t1 k limit ≡ linesBelow rs key t1 k limit
+  unfolding linesBelow
+  lines-same zero limit h = refl
+  lines-same (suc k) limit h = ap (linesAt qs key t1 (linesBelow qs key t1 k)) (last limit h) ∙ go (lastBelow rs key limit) refl (lines-same k)
+    where
+      go : (x : Option Dated) → lastBelow rs key limit ≡ x → ((a : ℕ) → a ≤ top → linesBelow qs key t1 k a ≡ linesBelow rs key t1 k a)
+          → linesAt qs key t1 (linesBelow qs key t1 k) x ≡ linesAt rs key t1 (linesBelow rs key t1 k) x
+      go none e ih = refl
+      go (some x) e ih =
+          let low : x .time ≤ top = omega (arith, last-from rs key limit x e .below) in
+          rw (ih (x .time) low, last (x .time) low)
 
 -- ---- the same answers; the commits among R have reached the time t
 
@@ -158,20 +174,6 @@ module _ (R more : List Row) (rising : Rises 0 (transactions (R ++ more))) (fres
   unfolding asOf
   strip-same key = ap stripAt (last-same key (suc t) (omega arith))
 
-  lines-same : (key t1 k limit : ℕ) → limit ≤ suc t → linesBelow (R ++ more) key t1 k limit ≡ linesBelow R key t1 k limit
-  unfolding linesBelow
-  lines-same key t1 zero limit h = refl
-  lines-same key t1 (suc k) limit h =
-      ap (linesAt (R ++ more) key t1 (linesBelow (R ++ more) key t1 k)) (last-same key limit h)
-      ∙ go (lastBelow R key limit) refl (lines-same key t1 k)
-    where
-      go : (x : Option Dated) → lastBelow R key limit ≡ x → ((a : ℕ) → a ≤ suc t → linesBelow (R ++ more) key t1 k a ≡ linesBelow R key t1 k a)
-          → linesAt (R ++ more) key t1 (linesBelow (R ++ more) key t1 k) x ≡ linesAt R key t1 (linesBelow R key t1 k) x
-      go none e ih = refl
-      go (some x) e ih =
-          let low : x .time ≤ suc t = omega (arith, last-from R key limit x e .below) in
-          rw (ih (x .time) low, last-same key (x .time) low)
-
   pub list-same : (key t1 : ℕ) → linesOf (R ++ more) key t1 t ≡ linesOf R key t1 t
   unfolding linesOf
-  list-same key t1 = lines-same key t1 (suc (suc t)) (suc t) (omega arith)
+  list-same key t1 = lines-same R (R ++ more) key t1 (suc t) (last-same key) (suc (suc t)) (suc t) (omega arith)

@@ -28,7 +28,7 @@ use Rattle.agreement.proofs.reads.Changes.{alike-length, alike-bytes, a
 use Rattle.agreement.proofs.Cut.{cut-down}
 
 module _ {l d : ℕ} {m c : List ℕ} {s : State} {b : Book} {disk : Disk} {closed : List (List Record)} {tail : List Record} (u : Up l d m c s b disk closed tail) where
-  saved-is : s .saved .0 ≡ lastTime (fall b .rows)
+  pub saved-is : s .saved .0 ≡ lastTime (fall b .rows)
   saved-is = u .state .saved ∙ sym (ap lastTime (cut-down u .rows) ∙ last-row (records (disk .stored)) (cut-down u .medium .numbers .rising))
 
   -- ---- a read

@@ -62,7 +62,7 @@ module _ {l d : ℕ} {m c : List ℕ} {s : State} {b : Book} {disk : Disk} {clos
   pairs : (i : ℕ) → i < 64 → tablePair medium i ≡ tablePair m i
   pairs = pairs-stay (u .medium) (u .state .ring-low) (u .state .ring-high) (u .state .mark)
 
-  later : lastOf (commitsOf (disk .stored)) ≤ lastOf (commitsOf history)
+  pub later : lastOf (commitsOf (disk .stored)) ≤ lastOf (commitsOf history)
   later = omega (arith, ap lastOf (commits-split (u .medium)), last-append (commitsOf (disk .stored)) (commitsIn (u .medium .log .shape .rest)))
 
   pub log-up : Up l d medium c (logStored s) (record { opened = b .opened; rows = b .rows; stored = length (b .rows) }) newDisk closed tail

@@ -1,0 +1,5 @@
+pub mod calls
+pub mod rows
+pub mod run
+pub mod Main
+pub mod HandLaws

@@ -1,0 +1,4 @@
+pub mod Hand
+pub mod Calls
+pub mod EveryInput
+pub mod Promise
