@@ -9,7 +9,7 @@ use Rattle.store.specs.declared.State.{State}
 use Rattle.runs.specs.Event.{Call, Event, call, begin, current-read, as-of, Strip, missing, erased, present, Observation}
 use Rattle.runs.specs.Book.{Book, version, committed, versions, isOpen, hasRow, lastTime, currentOf, asOf, linesOf}
 use Rattle.runs.specs.Machine.{World, up, step, formatted}
-use Rattle.runs.specs.Moments.{Run, worldAfter, bookAfter, bookAt}
+use Rattle.runs.specs.Moments.{Run, worldAfter, bookAt}
 use Rattle.handover.specs.declared.Transfer.{Transfer}
 use Rattle.handover.specs.Hand.{HandOutcome, handNumber, handValue, ownerOf, withOwner, handOf}
 use Rattle.handover.specs.Calls.{handTyped, handEvents}

@@ -1,5 +1,5 @@
 -- The commit's answer says whether the handover is over or given up.
-use mathlib.Core.Path.{sym, ap, _∙_}
+use mathlib.Core.Path.{_∙_}
 use mathlib.Core.Option.{Option}
 use Rattle.store.specs.declared.Refusal.{Refusal}
 use Rattle.store.specs.Answer.{Outcome}

@@ -1,5 +1,5 @@
 -- The begin's answer says whether the handover goes on, under the number in it.
-use mathlib.Core.Path.{sym, ap, _∙_}
+use mathlib.Core.Path.{_∙_}
 use mathlib.Core.Option.{Option}
 use Rattle.store.specs.declared.Refusal.{Refusal}
 use Rattle.store.specs.Answer.{Outcome}

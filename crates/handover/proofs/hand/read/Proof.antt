@@ -1,9 +1,8 @@
 -- The read's answer says whether the handover goes on or is given up.
-use mathlib.Core.Path.{sym, ap, _∙_}
+use mathlib.Core.Path.{_∙_}
 use mathlib.Core.Option.{Option}
 use Rattle.store.specs.declared.Refusal.{Refusal}
-use Rattle.store.specs.Answer.{Outcome}
-use Rattle.store.specs.Answer.{answerValue}
+use Rattle.store.specs.Answer.{Outcome, answerValue}
 use Rattle.handover.specs.Hand.{afterBegin, afterRead}
 use Rattle.handover.proofs.HandLaws.{by-refusal, by-answer, not-refused}
 use borrow.Author.Needs.{needs}

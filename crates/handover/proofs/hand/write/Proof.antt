@@ -1,5 +1,5 @@
 -- The write's answer says whether the handover goes on or is given up.
-use mathlib.Core.Path.{sym, ap, _∙_}
+use mathlib.Core.Path.{_∙_}
 use mathlib.Core.Option.{Option}
 use Rattle.store.specs.declared.Refusal.{Refusal}
 use Rattle.store.specs.Answer.{Outcome}
