@@ -10,6 +10,9 @@ use Rattle.fields.specs.Block.{blk}
 use Rattle.store.specs.declared.Answer.{Answer}
 use Rattle.store.specs.declared.Answer.the-variants.{Refused, Done, Begun, Written, Committed, Opened, Missing, Erased, Present, Listed}
 use Rattle.store.specs.Answer.{answerNumber}
+use Rattle.handover.specs.declared.HandAnswer.{HandAnswer}
+use Rattle.handover.specs.declared.HandAnswer.the-variants.{Denied, NotOwner, Handed}
+use Rattle.handover.specs.Hand.{handNumber}
 use Rattle.script.specs.Print.{decimal, hexOf}
 
 -- replay: "A refusal prints the letter, the refusal's number and `-`"
@@ -42,6 +45,16 @@ resultText (Listed k) v = decimal k
 unfoldable pub answerText : ℕ → Answer → List ℕ → List ℕ
 answerText letter answer v =
     letter ∷ (32 ∷ (decimal (answerNumber answer) ++ (32 ∷ (resultText answer v ++ (10 ∷ [])))))
+
+-- replay: "`H 0 time` or `H n -`": the last word of a handover's line
+unfoldable pub handedResult : HandAnswer → List ℕ
+handedResult (Denied r) = dash
+handedResult NotOwner = dash
+handedResult (Handed t) = decimal (t .0)
+
+-- replay: "`H 0 time` or `H n -`", "17 is the handover's own refusal": a handover's line
+unfoldable pub handedText : HandAnswer → List ℕ
+handedText answer = 72 ∷ (32 ∷ (decimal (handNumber answer) ++ (32 ∷ (handedResult answer ++ (10 ∷ [])))))
 
 -- replay: "`time kind value` each on its own line (kind 0 or 1)": a line of a list, from its 32 bytes
 unfoldable pub changeText : List ℕ → List ℕ

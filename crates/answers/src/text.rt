@@ -1,5 +1,6 @@
 // What the lines print, put behind the first n bytes of the output.
 use fields::block;
+use handover::HandAnswer;
 use script::print;
 use store::Answer;
 ghost use mathlib.Core.Path.{_≡_};
@@ -8,7 +9,8 @@ ghost use Prim.Native.Nat.{ℕ, _+_, _*_, _≤_};
 ghost use lib.ListN.{length, take};
 ghost use Rattle.store.specs.declared.Answer.the-variants.{Listed};
 ghost use Rattle.store.specs.Answer.{answerNumber};
-ghost use Rattle.answers.specs.Text.{resultText, answerText, changeText, changesText, allAre, keptText, listText, blockText, shownText};
+ghost use Rattle.handover.specs.Hand.{handNumber};
+ghost use Rattle.answers.specs.Text.{resultText, answerText, handedResult, handedText, changeText, changesText, allAre, keptText, listText, blockText, shownText};
 
 // 0, or the number of the refusal.
 pub fn refusal(answer: Answer) -> u64
@@ -52,6 +54,45 @@ pub fn put_answer(out: &mut [u8], n: usize, letter: u8, answer: Answer, value: [
     let c = print::number(out, b, number);
     let d = print::byte(out, c, b' ');
     let e = put_result(out, d, answer, value);
+    print::byte(out, e, b'\n')
+}
+
+// 0, or the number of the refusal: the store's, or the handover's own.
+fn denial(answer: HandAnswer) -> u64
+    ensures { λ r. ⌜ r ≡ handNumber answer ⌝ }
+{
+    match answer {
+        HandAnswer::Denied(r) => print::number_of(r),
+        HandAnswer::NotOwner => 17,
+        HandAnswer::Handed(_) => 0,
+    }
+}
+
+// The last word of a handover's line.
+fn put_time(out: &mut [u8], n: usize, answer: HandAnswer) -> usize
+    requires { ⌜ n + 20 ≤ length (now out) ⌝ }
+    ensures { λ r. ⌜ r ≤ n + 20 ⌝ }
+    ensures { λ r. ⌜ take r (now (out .exit)) ≡ take n (now (out .entry)) ++ handedResult answer ⌝ }
+{
+    match answer {
+        HandAnswer::Denied(_) => print::byte(out, n, b'-'),
+        HandAnswer::NotOwner => print::byte(out, n, b'-'),
+        HandAnswer::Handed(time) => print::number(out, n, time.0),
+    }
+}
+
+// A handover's line: `H`, 0 or the refusal, and the time.
+pub fn put_handed(out: &mut [u8], n: usize, answer: HandAnswer) -> usize
+    requires { ⌜ n + 56 ≤ length (now out) ⌝ }
+    ensures { λ r. ⌜ r ≤ n + 56 ⌝ }
+    ensures { λ r. ⌜ take r (now (out .exit)) ≡ take n (now (out .entry)) ++ handedText answer ⌝ }
+{
+    let number = denial(answer);
+    let a = print::byte(out, n, b'H');
+    let b = print::byte(out, a, b' ');
+    let c = print::number(out, b, number);
+    let d = print::byte(out, c, b' ');
+    let e = put_time(out, d, answer);
     print::byte(out, e, b'\n')
 }
 

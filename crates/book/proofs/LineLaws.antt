@@ -1,21 +1,21 @@
 -- A line of numbers alone: its form closes with the last of them, so that the numbers of the form are those of the words.
--- No letter of the script takes four numbers, and another byte takes none.
+-- No letter of the script takes four numbers or more, and another byte takes none.
 use mathlib.Core.Path.{_≡_, refl, sym, ap, _∙_}
 use mathlib.Core.Bool.{Bool, true, false, not}
 use mathlib.Core.Option.{Option, none, some}
 use mathlib.Core.List.{List, [], _∷_, _++_}
-use Prim.Native.Nat.{ℕ, suc, _<_}
+use Prim.Native.Nat.{ℕ, suc, _≤_, _<_}
 use native.Mathlib.Omega.{arith}
 use lib.ListN.{length}
 use lib.Dec.{eqb}
-use borrow.Author.Tests.{eqb-true, lt-ltb, not-true, not-false}
+use borrow.Author.Tests.{eqb-true, eqb-false, lt-ltb, not-true, not-false}
 use Rattle.script.specs.declared.line.Line.{Line}
 use Rattle.script.specs.Words.{wordsOf, isIn, numberOf, joined, numbersOf}
 use Rattle.script.specs.Form.{wordOf, Form, other, bare, ending, behind, afterLetter, isLetter, byWords as formBy, limited, formOf}
 use Rattle.script.specs.Reader.{noLine, isNumber, grownBy, doneOf, lastWord}
 use Rattle.fields.proofs.Choose.{bool-case, no}
 use Rattle.script.proofs.Meaning.{after-case, line-form}
-use Rattle.script.proofs.ReaderLaws.{seen-bad, seen-none, seen-bare, seen-words}
+use Rattle.script.proofs.ReaderLaws.{done-4, done-5, seen-bad, seen-none, seen-bare, seen-words}
 use Rattle.book.specs.declared.call.Call.the-variants.{Other}
 use Rattle.book.specs.Line.{callOf, callIf, byWords, lineOf, closed, formCall, meaningOf}
 
@@ -31,7 +31,7 @@ module _ (k : ℕ) {P : Type 0} (b : k ≡ 66 → P) (w : k ≡ 87 → P) (c : k
       bool-case (eqb k 81) (λ e. q (eqb-true k 81 e)) (λ e4.
       bool-case (eqb k 88) (λ e. x (eqb-true k 88 e)) (λ e5. r (λ ns. simp (e1, e2, e3, e4, e5)))))))
 
-pub four : (k a b c d : ℕ) (ns : List ℕ) → callOf k (a ∷ (b ∷ (c ∷ (d ∷ ns)))) ≡ Other
+four : (k a b c d : ℕ) (ns : List ℕ) → callOf k (a ∷ (b ∷ (c ∷ (d ∷ ns)))) ≡ Other
 unfolding callOf
 four k a b c d ns =
     letter-case k (λ e. simp e) (λ e. simp e) (λ e. simp e) (λ e. simp e) (λ e. simp e) (λ f. f (a ∷ (b ∷ (c ∷ (d ∷ ns)))))
@@ -103,9 +103,10 @@ limited-call (ending k [] w) = refl
 limited-call (ending k (a ∷ []) w) = refl
 limited-call (ending k (a ∷ (b ∷ [])) w) = refl
 limited-call (ending k (a ∷ (b ∷ (c ∷ []))) w) = refl
-limited-call (ending k (a ∷ (b ∷ (c ∷ (d ∷ ns)))) w) =
-    let h : 3 < suc (suc (suc (suc (length ns)))) = omega arith in
-    simp (lt-ltb _ _ h) (sym (many-closed k a b c d ns (w .number)))
+limited-call (ending k (a ∷ (b ∷ (c ∷ (d ∷ [])))) w) = refl
+limited-call (ending k (a ∷ (b ∷ (c ∷ (d ∷ (e ∷ ns))))) w) =
+    let h : 4 < suc (suc (suc (suc (suc (length ns))))) = omega arith in
+    simp (lt-ltb _ _ h) (sym (many-closed k a b c d (e ∷ ns) (w .number)))
 
 not-call : (k : ℕ) (o : Option (List ℕ)) → isLetter k ≡ false → callIf k o ≡ Other
 not-call k none t = refl
@@ -148,3 +149,14 @@ module _ (l : Line) where
     pub number-call : not r ≡ false → (ns : List ℕ) → doneOf l [] ≡ ns → meaningOf l ≡ callOf (l .letter) (ns ++ (l .last ∷ []))
     unfolding meaningOf formCall lastWord
     number-call t ns d = simp (seen-words l b h e, ← g, not-false r t, d)
+
+    pub many-call : not r ≡ false → 4 ≤ l .count → meaningOf l ≡ Other
+    many-call t k =
+        bool-case (eqb (l .count) 4)
+        (λ n.
+        number-call t (l .fourth ∷ (l .third ∷ (l .second ∷ []))) (done-4 l (eqb-true (l .count) 4 n))
+        ∙ four (l .letter) (l .fourth) (l .third) (l .second) (l .last) [])
+        (λ n.
+        let m = eqb-false (l .count) 4 n in
+        number-call t (l .fifth ∷ (l .fourth ∷ (l .third ∷ (l .second ∷ [])))) (done-5 l (omega arith))
+        ∙ four (l .letter) (l .fifth) (l .fourth) (l .third) (l .second) (l .last ∷ []))

@@ -1,5 +1,5 @@
 -- A call changes no block but the one that `blockOf` names: it is the block that the call stores, and where sizes or page
--- are out of range the call is refused and stores nothing.
+-- are out of range the call is refused and stores nothing. So with a handover, which stores the tail's block or nothing.
 use mathlib.Core.Path.{_≡_, refl, sym, ap, _∙_}
 use mathlib.Core.Bool.{false}
 use mathlib.Core.List.{List}
@@ -18,6 +18,9 @@ use Rattle.runs.specs.Event.{Call, write, erase, commit, store-log, store-page,
 use Rattle.runs.specs.Machine.{called}
 use Rattle.runs.proofs.Asks.{Way, refused, begins, writes, erases, looks, commits, ends, aborts, logs, pages, checks, way}
 use Rattle.runs.proofs.OneBlock.{Stores, nothing, block, phaseBlock as storedIn, storeBlock, stores}
+use Rattle.handover.specs.declared.Transfer.{Transfer}
+use Rattle.handover.specs.Hand.{handOf}
+use Rattle.handover.proofs.OneStore.{hand-stores, hand-unfit}
 use Rattle.disk.specs.Block.{logBlock, pageBlock, phaseBlock}
 use Rattle.disk.proofs.AlikeLaws.{Alike, alike-same, alike-is, alike-splice}
 
@@ -83,6 +86,12 @@ module _ (m c : List ℕ) (s : State) where
 
   pub alike-log : Alike m (logBlock s) (called m c s store-log .medium)
   alike-log = in-log store-log refl
+
+  pub alike-hand : (h : Transfer) → Alike m (logBlock s) (handOf s m c h .medium)
+  unfolding logBlock
+  alike-hand h = bool-case (inRange (s .blocks) (s .pages))
+      (λ t. simp t (alike-put (hand-stores s m c h)))
+      (λ t. simp t (alike-is (hand-unfit s m c h (unfit-range s _ _ t))))
 
   pub alike-page : (p : ℕ) → Alike m (pageBlock s p) (called m c s (store-page p) .medium)
   unfolding pageBlock

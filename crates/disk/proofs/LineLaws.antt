@@ -1,5 +1,5 @@
--- A line changes no block but the one that `blockOf` names: a call by its own law, a byte put into the medium lies in its
--- block, and the other lines leave the medium as it is.
+-- A line changes no block but the one that `blockOf` names: a call and a handover by their own laws, a byte put into the
+-- medium lies in its block, and the other lines leave the medium as it is.
 use mathlib.Core.Path.{_≡_, refl, sym}
 use mathlib.Core.Bool.{false}
 use mathlib.Core.List.{List, [], _∷_}
@@ -16,16 +16,17 @@ use Rattle.runs.specs.Machine.{called}
 use Rattle.runs.proofs.OneBlock.{stores}
 use Rattle.runs.proofs.Refusals.{open-medium}
 use Rattle.fields.proofs.Choose.{bool-case, no}
+use Rattle.handover.specs.declared.Transfer.{Transfer}
 use Rattle.script.specs.declared.call.Asked.{Asked}
 use Rattle.script.specs.declared.call.Call.{Call}
-use Rattle.script.specs.declared.call.Call.the-variants.{Format, Open, OpenSized, Cut, Begin, Write, Erase, Read, Commit, Abort, AsOf, Changes, StoreLog, StorePage, Checkpoint, Block, Page, Poke, Other}
+use Rattle.script.specs.declared.call.Call.the-variants.{Format, Open, OpenSized, Cut, Begin, Write, Erase, Read, Commit, Abort, Hand, AsOf, Changes, StoreLog, StorePage, Checkpoint, Block, Page, Poke, Other}
 use Rattle.rooms.specs.declared.parts.Standing.{Standing}
 use Rattle.rooms.specs.Parts.{roomOf}
-use Rattle.rooms.specs.Room.{Room, gone, shut, ready, mediumIn, blocksIn, pagesIn, opened, opening, cut, poked, outcomeOf, called as printed, calling, turnBy, turnOf}
-use Rattle.disk.specs.Block.{blockOf}
+use Rattle.rooms.specs.Room.{Room, gone, shut, ready, mediumIn, blocksIn, pagesIn, opened, opening, cut, poked, outcomeOf, called as printed, calling, handed, handing, turnBy, turnOf}
+use Rattle.disk.specs.Block.{logBlock, blockOf}
 use Rattle.disk.specs.Stored.{isFormat}
 use Rattle.disk.proofs.AlikeLaws.{Alike, alike-same, alike-is, alike-splice}
-use Rattle.disk.proofs.CallLaws.{alike-put, alike-write, alike-erase, alike-commit, alike-log, alike-page, alike-checkpoint}
+use Rattle.disk.proofs.CallLaws.{alike-put, alike-write, alike-erase, alike-commit, alike-hand, alike-log, alike-page, alike-checkpoint}
 
 -- an opening leaves the medium
 open-left : (letter : ℕ) (r : Room) (given : List ℕ) → mediumIn (opening letter r given .room) ≡ mediumIn r
@@ -63,6 +64,7 @@ call-left m c s v (Erase number key) = alike-erase m c s number key
 call-left m c s v (Read number key) = alike-put (stores m c s (current-read number key))
 call-left m c s v (Commit number clock) = alike-commit m c s number clock
 call-left m c s v (Abort number) = alike-put (stores m c s (abort number))
+call-left m c s v (Hand flight from to began ended) = alike-same m _
 call-left m c s v (AsOf key time) = alike-put (stores m c s (as-of key time))
 call-left m c s v (Changes key t1 t2 bytes) = alike-put (stores m c s (changes key t1 t2 (replicate bytes 170)))
 call-left m c s v StoreLog = alike-log m c s
@@ -85,10 +87,18 @@ calling-left k v {s = s} is-gone = alike-same [] (blockOf s k)
 calling-left k v {s = s} (is-shut {m = m}) = alike-same m (blockOf s k)
 calling-left k v {s = s} (is-ready {m = m} {c = c}) = call-left m c s v k
 
+-- ---- a handover
+
+handing-left : (x : Transfer) {r : Room} {s : State} → Holds r s → Alike (mediumIn r) (logBlock s) (mediumIn (handing x r .room))
+unfolding handing handed
+handing-left x {s = s} is-gone = alike-same [] (logBlock s)
+handing-left x {s = s} (is-shut {m = m}) = alike-same m (logBlock s)
+handing-left x {s = s} (is-ready {m = m} {c = c}) = alike-hand m c s x
+
 -- ---- a line
 
 line-left : (k : Call) (v : List ℕ) {r : Room} {s : State} → Holds r s → isFormat k ≡ false → Alike (mediumIn r) (blockOf s k) (mediumIn (turnBy k v r .room))
-unfolding turnBy isFormat
+unfolding turnBy isFormat blockOf
 line-left (Format l d) v h e = no (sym e)
 line-left (Open byte) v {r} h e = alike-is (open-left 79 r _)
 line-left (OpenSized bytes) v {r} h e = alike-is (open-left 111 r _)
@@ -99,6 +109,7 @@ line-left (Erase number key) v h e = calling-left (Erase number key) v h
 line-left (Read number key) v h e = calling-left (Read number key) v h
 line-left (Commit number clock) v h e = calling-left (Commit number clock) v h
 line-left (Abort number) v h e = calling-left (Abort number) v h
+line-left (Hand flight from to began ended) v h e = handing-left (record { flight = flight; from = from; to = to; began = began; ended = ended }) h
 line-left (AsOf key time) v h e = calling-left (AsOf key time) v h
 line-left (Changes key t1 t2 bytes) v h e = calling-left (Changes key t1 t2 bytes) v h
 line-left StoreLog v h e = calling-left StoreLog v h

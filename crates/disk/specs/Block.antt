@@ -9,7 +9,7 @@ use Rattle.store.specs.declared.Phase.the-variants.{Idle, FirstStored, SecondSt
 use Rattle.store.specs.declared.State.{State}
 use Rattle.store.specs.State.{inRange}
 use Rattle.script.specs.declared.call.Call.{Call}
-use Rattle.script.specs.declared.call.Call.the-variants.{Format, Open, OpenSized, Cut, Begin, Write, Erase, Read, Commit, Abort, AsOf, Changes, StoreLog, StorePage, Checkpoint, Block, Page, Poke, Other}
+use Rattle.script.specs.declared.call.Call.the-variants.{Format, Open, OpenSized, Cut, Begin, Write, Erase, Read, Commit, Abort, Hand, AsOf, Changes, StoreLog, StorePage, Checkpoint, Block, Page, Poke, Other}
 
 -- 01: "Sequence s is at block 3 + (s mod L)": the tail's; with sizes out of range a call is refused
 unfoldable pub logBlock : State → ℕ
@@ -37,6 +37,7 @@ blockOf s (Erase number key) = logBlock s
 blockOf s (Read number key) = 0
 blockOf s (Commit number clock) = logBlock s
 blockOf s (Abort number) = 0
+blockOf s (Hand flight from to began ended) = logBlock s
 blockOf s (AsOf key time) = 0
 blockOf s (Changes key t1 t2 bytes) = 0
 blockOf s StoreLog = logBlock s

@@ -6,7 +6,7 @@ use mathlib.Core.List.{List}
 use lib.ListN.{length}
 use Rattle.fields.specs.Part.{splice}
 use Rattle.script.specs.declared.call.Call.{Call}
-use Rattle.script.specs.declared.call.Call.the-variants.{Format, Open, OpenSized, Cut, Begin, Write, Erase, Read, Commit, Abort, AsOf, Changes, StoreLog, StorePage, Checkpoint, Block, Page, Poke, Other}
+use Rattle.script.specs.declared.call.Call.the-variants.{Format, Open, OpenSized, Cut, Begin, Write, Erase, Read, Commit, Abort, Hand, AsOf, Changes, StoreLog, StorePage, Checkpoint, Block, Page, Poke, Other}
 
 -- replay, `F L D`: "format a fresh medium": the line that makes every block anew
 unfoldable pub isFormat : Call → Bool
@@ -20,6 +20,7 @@ isFormat (Erase number key) = false
 isFormat (Read number key) = false
 isFormat (Commit number clock) = false
 isFormat (Abort number) = false
+isFormat (Hand flight from to began ended) = false
 isFormat (AsOf key time) = false
 isFormat (Changes key t1 t2 bytes) = false
 isFormat StoreLog = false

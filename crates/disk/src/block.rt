@@ -65,6 +65,7 @@ pub fn of(call: Call, words: &[u64; 448], tail: &[u8; 512]) -> u64
         Call::Write(_, _) => of_log(words, tail),
         Call::Erase(_, _) => of_log(words, tail),
         Call::Commit(_, _) => of_log(words, tail),
+        Call::Hand(_, _, _, _, _) => of_log(words, tail),
         Call::StoreLog => of_log(words, tail),
         Call::StorePage(page) => of_page(words, tail, page),
         Call::Checkpoint => of_phase(words, tail),

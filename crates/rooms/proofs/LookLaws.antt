@@ -21,7 +21,7 @@ use Rattle.store.specs.State.{fits}
 use Rattle.store.specs.CurrentRead.{reads}
 use Rattle.store.specs.Changes.{changeLines, changesIf, changesOf}
 use Rattle.script.specs.declared.call.Call.{Call}
-use Rattle.script.specs.declared.call.Call.the-variants.{Format, Open, OpenSized, Cut, Begin, Write, Erase, Read, Commit, Abort, AsOf, Changes, StoreLog, StorePage, Checkpoint, Block, Page, Poke, Other}
+use Rattle.script.specs.declared.call.Call.the-variants.{Format, Open, OpenSized, Cut, Begin, Write, Erase, Read, Commit, Abort, Hand, AsOf, Changes, StoreLog, StorePage, Checkpoint, Block, Page, Poke, Other}
 use Rattle.script.proofs.call.Call.{the-type}
 use Rattle.fields.proofs.Choose.{bool-case, no}
 use Rattle.rooms.specs.declared.parts.Standing.{Standing}
@@ -76,7 +76,7 @@ look-list b x y m c s l d key t1 t2 k e h p = rw (length-take-le k b (omega arit
 
 -- the lines that the match leaves to its last arm
 abbrev Rest : List ℕ
-Rest = 0 ∷ 1 ∷ 2 ∷ 3 ∷ 4 ∷ 5 ∷ 6 ∷ 8 ∷ 9 ∷ 12 ∷ 13 ∷ 14 ∷ 17 ∷ 18 ∷ []
+Rest = 0 ∷ 1 ∷ 2 ∷ 3 ∷ 4 ∷ 5 ∷ 6 ∷ 8 ∷ 9 ∷ 10 ∷ 13 ∷ 14 ∷ 15 ∷ 18 ∷ 19 ∷ []
 
 pub look-rest : (k : Call) → OneOf Rest (tagOf the-type k) → planOf k .looks ≡ true → ⊥
 unfolding planOf
@@ -90,12 +90,13 @@ look-rest (Erase number key) o e = no e
 look-rest (Read number key) o e = miss Rest 7 tt o
 look-rest (Commit number clock) o e = no e
 look-rest (Abort number) o e = no e
-look-rest (AsOf key time) o e = miss Rest 10 tt o
-look-rest (Changes key t1 t2 bytes) o e = miss Rest 11 tt o
+look-rest (Hand flight from to began ended) o e = no e
+look-rest (AsOf key time) o e = miss Rest 11 tt o
+look-rest (Changes key t1 t2 bytes) o e = miss Rest 12 tt o
 look-rest StoreLog o e = no e
 look-rest (StorePage page) o e = no e
 look-rest Checkpoint o e = no e
-look-rest (Block block) o e = miss Rest 15 tt o
-look-rest (Page page) o e = miss Rest 16 tt o
+look-rest (Block block) o e = miss Rest 16 tt o
+look-rest (Page page) o e = miss Rest 17 tt o
 look-rest (Poke offset byte) o e = no e
 look-rest Other o e = no e

@@ -22,11 +22,13 @@ use Rattle.store.specs.Changes.{changesOf}
 use Rattle.store.specs.StoreLog.{storeLogOf}
 use Rattle.store.specs.StorePage.{storePageOf}
 use Rattle.store.specs.Checkpoint.{checkpointOf}
+use Rattle.handover.specs.declared.Transfer.{Transfer}
+use Rattle.handover.specs.Hand.{HandOutcome, handOf}
 use Rattle.script.specs.declared.call.Call.{Call}
-use Rattle.script.specs.declared.call.Call.the-variants.{Format, Open, OpenSized, Cut, Begin, Write, Erase, Read, Commit, Abort, AsOf, Changes, StoreLog, StorePage, Checkpoint, Block, Page, Poke, Other}
+use Rattle.script.specs.declared.call.Call.the-variants.{Format, Open, OpenSized, Cut, Begin, Write, Erase, Read, Commit, Abort, Hand, AsOf, Changes, StoreLog, StorePage, Checkpoint, Block, Page, Poke, Other}
 use Rattle.script.specs.declared.call.Asked.{Asked}
 use Rattle.rooms.specs.declared.plan.Plan.{Plan}
-use Rattle.answers.specs.Text.{answerText, listText, shownText}
+use Rattle.answers.specs.Text.{answerText, handedText, listText, shownText}
 
 -- replay: "there is no medium", "After `F` or `X`, until an accepted `O`": no medium; a medium with its sizes L and D,
 -- shut; and opened, with a cache and a state
@@ -85,6 +87,7 @@ planOf (Erase number key) = plan 69 3 false
 planOf (Read number key) = plan 82 3 true
 planOf (Commit number clock) = plan 67 3 false
 planOf (Abort number) = plan 65 3 false
+planOf (Hand flight from to began ended) = plan 72 3 false
 planOf (AsOf key time) = plan 81 3 true
 planOf (Changes key t1 t2 bytes) = plan 76 (withinBuffer bytes 3) true
 planOf StoreLog = plan 83 3 false
@@ -156,6 +159,7 @@ outcomeOf (Erase number key) v s m c = eraseOf s m c number key
 outcomeOf (Read number key) v s m c = currentOf s m c number key
 outcomeOf (Commit number clock) v s m c = commitOf s m c number clock
 outcomeOf (Abort number) v s m c = abortOf s m c number
+outcomeOf (Hand flight from to began ended) v s m c = leaves Done s m c
 outcomeOf (AsOf key time) v s m c = asOfOf s m c key time
 outcomeOf (Changes key t1 t2 bytes) v s m c = changesOf s m c (replicate bytes 170) key t1 t2
 outcomeOf StoreLog v s m c = storeLogOf s m c
@@ -179,6 +183,17 @@ calling call v gone = record { room = gone; text = [] }
 calling call v (shut l d m) = record { room = shut l d m; text = [] }
 calling call v (ready l d m c s) = called (planOf call .letter) l d (outcomeOf call v s m c)
 
+-- replay, `H`: "`H 0 time` or `H n -`": a handover leaves an opened room, and prints its answer
+unfoldable pub handed : ℕ → ℕ → HandOutcome → Turn
+handed l d o = record { room = ready l d (o .medium) (o .cache) (o .state); text = handedText (o .answer) }
+
+-- replay, `H`: "hand the flight over from one sector to the other": on a room; one that is not opened stays, for it does not
+-- play the line
+unfoldable pub handing : Transfer → Room → Turn
+handing h gone = record { room = gone; text = [] }
+handing h (shut l d m) = record { room = shut l d m; text = [] }
+handing h (ready l d m c s) = handed l d (handOf s m c h)
+
 -- replay, `M` and `V`: "(no call)"
 abbrev pub stays : Room → List ℕ → Turn
 stays r text = record { room = r; text = text }
@@ -199,6 +214,7 @@ turnBy (Erase number key) v r = calling (Erase number key) v r
 turnBy (Read number key) v r = calling (Read number key) v r
 turnBy (Commit number clock) v r = calling (Commit number clock) v r
 turnBy (Abort number) v r = calling (Abort number) v r
+turnBy (Hand flight from to began ended) v r = handing (record { flight = flight; from = from; to = to; began = began; ended = ended }) r
 turnBy (AsOf key time) v r = calling (AsOf key time) v r
 turnBy (Changes key t1 t2 bytes) v r = calling (Changes key t1 t2 bytes) v r
 turnBy StoreLog v r = calling StoreLog v r

@@ -57,6 +57,7 @@ pub fn of(call: Call) -> Plan
         Call::Read(_, _) => looking(b'R', 3),
         Call::Commit(_, _) => changing(b'C', 3),
         Call::Abort(_) => changing(b'A', 3),
+        Call::Hand(_, _, _, _, _) => changing(b'H', 3),
         Call::AsOf(_, _) => looking(b'Q', 3),
         Call::Changes(_, _, _, bytes) => looking(b'L', within(bytes, 3)),
         Call::StoreLog => changing(b'S', 3),

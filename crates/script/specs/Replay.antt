@@ -6,7 +6,7 @@ use mathlib.Core.List.{List, [], _∷_}
 use lib.Dec.{eqb, ltb}
 use Rattle.fields.specs.Block.{zeros}
 use Rattle.script.specs.declared.call.Call.{Call}
-use Rattle.script.specs.declared.call.Call.the-variants.{Format, Open, OpenSized, Cut, Begin, Write, Erase, Read, Commit, Abort, AsOf, Changes, StoreLog, StorePage, Checkpoint, Block, Page, Poke, Other}
+use Rattle.script.specs.declared.call.Call.the-variants.{Format, Open, OpenSized, Cut, Begin, Write, Erase, Read, Commit, Abort, Hand, AsOf, Changes, StoreLog, StorePage, Checkpoint, Block, Page, Poke, Other}
 use Rattle.script.specs.declared.call.Asked.{Asked}
 use Rattle.script.specs.declared.line.Line.{Line}
 use Rattle.script.specs.Form.{Word, Form, other, bare, ending, formOf}
@@ -16,7 +16,7 @@ use Rattle.script.specs.Reader.{doneOf, lastWord, seenOf}
 unfoldable pub plain : Call → Asked
 plain call = record { call = call; value = zeros 16 }
 
--- replay: "a record or a byte at most 255", "at most 40000"
+-- replay: "a record, a sector or a byte at most 255", "at most 40000"
 unfoldable pub atMost : ℕ → ℕ → Call → Call
 atMost most n call = cond (ltb most n) Other call
 
@@ -65,6 +65,10 @@ writeBy n key (some v) = cond (ltb 255 key) (plain Other) (record { call = Write
 unfoldable pub fourNumbers : ℕ → ℕ → ℕ → ℕ → ℕ → Call
 fourNumbers k a b c n = cond (eqb k 76) (atMost 255 a (atMost 40000 n (Changes a b c n))) Other
 
+-- replay: `H flight from to clock clock`
+unfoldable pub fiveNumbers : ℕ → ℕ → ℕ → ℕ → ℕ → ℕ → Call
+fiveNumbers k a b c d n = cond (eqb k 72) (atMost 255 a (atMost 255 b (atMost 255 c (Hand a b c d n)))) Other
+
 -- replay: "One call to a line": what a form means
 unfoldable pub replayOf : Form → Asked
 replayOf other = plain Other
@@ -73,7 +77,8 @@ replayOf (ending k [] w) = plain (given (w .number) (oneNumber k))
 replayOf (ending k (a ∷ []) w) = plain (twoWords k a w)
 replayOf (ending k (a ∷ (b ∷ [])) w) = cond (eqb k 87) (writeBy a b (w .value)) (plain Other)
 replayOf (ending k (a ∷ (b ∷ (c ∷ []))) w) = plain (given (w .number) (fourNumbers k a b c))
-replayOf (ending k (a ∷ (b ∷ (c ∷ (d ∷ ns)))) w) = plain Other
+replayOf (ending k (a ∷ (b ∷ (c ∷ (d ∷ [])))) w) = plain (given (w .number) (fiveNumbers k a b c d))
+replayOf (ending k (a ∷ (b ∷ (c ∷ (d ∷ (e ∷ ns))))) w) = plain Other
 
 -- replay: "One call to a line": what a line means, given by its bytes without the newline
 unfoldable pub lineOf : List ℕ → Asked

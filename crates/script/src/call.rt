@@ -5,7 +5,7 @@ ghost use mathlib.Core.Path.{_≡_};
 ghost use mathlib.Core.List.{_++_};
 ghost use Prim.Native.Nat.{_≤_};
 ghost use Rattle.script.specs.Reader.{wide, lastWord};
-ghost use Rattle.script.specs.Replay.{plain as Replay·plain, wordless as Replay·wordless, oneNumber, twoNumbers, twoWords, writeBy, fourNumbers, manyWords, meaningOf};
+ghost use Rattle.script.specs.Replay.{plain as Replay·plain, wordless as Replay·wordless, oneNumber, twoNumbers, twoWords, writeBy, fourNumbers, fiveNumbers, manyWords, meaningOf};
 
 // A call, a cut, or one of the lines that look at the bytes or put one; a write's value stands beside it.
 pub enum Call {
@@ -19,6 +19,7 @@ pub enum Call {
     Read(u64, u8),
     Commit(u64, u64),
     Abort(u64),
+    Hand(u8, u8, u8, u64, u64),
     AsOf(u8, u64),
     Changes(u8, u64, u64, u64),
     StoreLog,
@@ -198,6 +199,31 @@ fn four_numbers(line: Line) -> Call
     Call::Changes(line.fourth as u8, line.third, line.second, line.last)
 }
 
+// A handover, if the flight and both sectors are at most 255.
+fn five_numbers(line: Line) -> Call
+    ensures { λ r. ⌜ r ≡ fiveNumbers (line .letter) (line .fifth) (line .fourth) (line .third) (line .second) (line .last) ⌝ }
+{
+    if line.letter != b'H' {
+        return Call::Other;
+    }
+    if 255 < line.fifth {
+        return Call::Other;
+    }
+    if 255 < line.fourth {
+        return Call::Other;
+    }
+    if 255 < line.third {
+        return Call::Other;
+    }
+    Call::Hand(
+        line.fifth as u8,
+        line.fourth as u8,
+        line.third as u8,
+        line.second,
+        line.last,
+    )
+}
+
 // What a line of three words or more asks for.
 fn many_words(line: Line) -> Asked
     requires { ⌜ 3 ≤ line .count ⌝ }
@@ -212,7 +238,10 @@ fn many_words(line: Line) -> Asked
     if !line::is_number(line) {
         return plain(Call::Other);
     }
-    plain(four_numbers(line))
+    if line.count == 4 {
+        return plain(four_numbers(line));
+    }
+    plain(five_numbers(line))
 }
 
 // What a line asks for that ends here.

@@ -9,12 +9,13 @@ ghost use Rattle.script.specs.Words.{isIn, hexDigit};
 ghost use Rattle.script.specs.Form.{isLetter};
 ghost use Rattle.script.specs.Reader.{noLine, spoilt as Reader·spoilt, withLetter, isNumber, nextWord, withSpace, staysNumber, oneMore, pushed, withDigit, noWord, grown, takeOf};
 
-// What was taken of a line: its letter (0: none yet), how many words were begun behind it, the three numbers before the
+// What was taken of a line: its letter (0: none yet), how many words were begun behind it, the four numbers before the
 // last word, the last word's number, whether the word is all digits and below 2^64, its hex digits counted (33: too many,
 // or another byte), the first sixteen of them and the others, and whether the line is of another form already.
 pub struct Line {
     pub letter: u8,
     pub count: u8,
+    pub fifth: u64,
     pub fourth: u64,
     pub third: u64,
     pub second: u64,
@@ -32,6 +33,7 @@ pub fn empty() -> Line
     Line {
         letter: 0,
         count: 0,
+        fifth: 0,
         fourth: 0,
         third: 0,
         second: 0,
@@ -96,11 +98,12 @@ pub fn is_number(line: Line) -> bool
 
 // The line with another word begun.
 fn next_word(line: Line) -> Line
-    requires { ⌜ line .count < 4 ⌝ }
+    requires { ⌜ line .count < 5 ⌝ }
     ensures { λ r. ⌜ r ≡ nextWord line ⌝ }
 {
     let mut l = line;
     l.count = line.count + 1;
+    l.fifth = line.fourth;
     l.fourth = line.third;
     l.third = line.second;
     l.second = line.last;
@@ -122,7 +125,7 @@ fn with_space(line: Line) -> Line
     if line.count == 0 {
         return next_word(line);
     }
-    if 4 <= line.count {
+    if 5 <= line.count {
         return spoilt(line);
     }
     if !is_number(line) {

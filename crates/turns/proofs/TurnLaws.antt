@@ -2,7 +2,7 @@
 -- outcome stands in their place.
 use mathlib.Core.Path.{_≡_, refl, sym, ap, _∙_}
 use mathlib.Core.Bool.{false, cond, _&&_}
-use mathlib.Core.List.{List, _++_, append-nil}
+use mathlib.Core.List.{List, [], _∷_, _++_, append-nil}
 use Prim.Native.Nat.{ℕ, _+_, _-_, _≤_, _<_}
 use native.Mathlib.Omega.{arith}
 use native.Mathlib.Nat.{min-eq-left}
@@ -10,6 +10,8 @@ use lib.ListN.{length, take, drop, set, replicate, length-take, length-replicate
 use lib.Seq.{length-take-le, take-at, take-set-lt, set-out}
 use lib.Dec.{eqb}
 use borrow.Author.Tests.{lt-ltb, le-ltb, eq-eqb, ne-eqb, eqb-true, le-leb}
+use types.Run.{OneOf, miss}
+use denote.Enum.Declared.{tagOf}
 use Rattle.fields.specs.Block.{zeros, mediumLength, cacheLength}
 use Rattle.fields.proofs.Choose.{and-0, bool-case, no}
 use Rattle.store.specs.declared.Answer.{Answer}
@@ -20,11 +22,16 @@ use Rattle.store.specs.State.{inRange}
 use Rattle.store.specs.Format.{formatIf, formatOf}
 use Rattle.store.specs.Open.{openIf, openOf}
 use Rattle.store.proofs.FitLaws.{range-of}
+use Rattle.handover.specs.declared.HandAnswer.{HandAnswer}
+use Rattle.handover.specs.declared.Transfer.{Transfer}
+use Rattle.handover.specs.Hand.{handEnds, handOf}
 use Rattle.script.specs.declared.call.Call.{Call}
-use Rattle.script.specs.declared.call.Call.the-variants.{Format, Open, OpenSized, Cut, Begin, Write, Erase, Read, Commit, Abort, AsOf, Changes, StoreLog, StorePage, Checkpoint, Block, Page, Poke, Other}
+use Rattle.script.specs.declared.call.Call.the-variants.{Format, Open, OpenSized, Cut, Begin, Write, Erase, Read, Commit, Abort, Hand, AsOf, Changes, StoreLog, StorePage, Checkpoint, Block, Page, Poke, Other}
+use Rattle.script.specs.declared.call.Asked.{Asked}
+use Rattle.script.proofs.call.Call.{the-type}
 use Rattle.rooms.specs.declared.parts.Standing.{Standing}
-use Rattle.answers.specs.Text.{answerText}
-use Rattle.rooms.specs.Room.{Room, shut, ready, Turn, planOf, freshLength, formatted, rightLength, opened, opening, cut, poked, outcomeOf, called, calling, moves}
+use Rattle.answers.specs.Text.{answerText, handedText}
+use Rattle.rooms.specs.Room.{Room, shut, ready, Turn, planOf, freshLength, formatted, rightLength, opened, opening, cut, poked, outcomeOf, called, calling, handed, handing, moves, turnBy, turnOf}
 use Rattle.rooms.specs.Parts.{stageOf, mediumPart, cachePart, roomOf, stageAfter, leftBy}
 use Rattle.rooms.proofs.RoomLaws.{first-back, stage-case, stage-2, stage-3, room-gone, room-shut, room-ready, medium-in, blocks-in, pages-in, medium-part, no-medium}
 
@@ -137,6 +144,7 @@ change-letter (Erase number key) e = refl
 change-letter (Read number key) e = refl
 change-letter (Commit number clock) e = refl
 change-letter (Abort number) e = refl
+change-letter (Hand flight from to began ended) e = refl
 change-letter (AsOf key time) e = refl
 change-letter (Changes key t1 t2 bytes) e = no (sym e)
 change-letter StoreLog e = refl
@@ -156,3 +164,47 @@ unfolding calling called
 make-left t m c s k v a st pm pc vm vc h lk em ec hm hc lm lc e =
     let g = stage-3 t h in
     simp (room-ready t (vm ++ drop pm m) (vc ++ drop pc c) st g, room-ready t m c s g, ← em, ← ec, first-back m vm pm hm lm, first-back c vc pc hc lc, ← e, change-letter k lk, append-nil)
+
+-- ---- a handover
+
+-- the lines that are none
+abbrev Others : List ℕ
+Others = 0 ∷ 1 ∷ 2 ∷ 3 ∷ 4 ∷ 5 ∷ 6 ∷ 7 ∷ 8 ∷ 9 ∷ 11 ∷ 12 ∷ 13 ∷ 14 ∷ 15 ∷ 16 ∷ 17 ∷ 18 ∷ 19 ∷ []
+
+pub not-hand : (k : Call) → OneOf Others (tagOf the-type k) → eqb (planOf k .letter) 72 ≡ false
+unfolding planOf
+not-hand (Format l d) o = refl
+not-hand (Open byte) o = refl
+not-hand (OpenSized bytes) o = refl
+not-hand Cut o = refl
+not-hand (Begin clock) o = refl
+not-hand (Write number key) o = refl
+not-hand (Erase number key) o = refl
+not-hand (Read number key) o = refl
+not-hand (Commit number clock) o = refl
+not-hand (Abort number) o = refl
+not-hand (Hand flight from to began ended) o = absurd (miss Others 10 tt o)
+not-hand (AsOf key time) o = refl
+not-hand (Changes key t1 t2 bytes) o = refl
+not-hand StoreLog o = refl
+not-hand (StorePage page) o = refl
+not-hand Checkpoint o = refl
+not-hand (Block block) o = refl
+not-hand (Page page) o = refl
+not-hand (Poke offset byte) o = refl
+not-hand Other o = refl
+
+pub hand-left : (t : Standing) (m c : List ℕ) (s : State) (h : Transfer) (a : HandAnswer) (st : State) (pm pc : ℕ) (vm vc : List ℕ)
+    → 3 ≤ stageOf t → pm ≡ mediumPart t → pc ≡ cachePart t → pm ≤ length m → pc ≤ length c
+    → length vm ≡ length (take pm m) → length vc ≡ length (take pc c)
+    → handEnds a st vm vc ≡ handOf s (take pm m) (take pc c) h
+    → record { room = roomOf t (vm ++ drop pm m) (vc ++ drop pc c) st; text = handedText a } ≡ handing h (roomOf t m c s)
+unfolding handing handed
+hand-left t m c s h a st pm pc vm vc k em ec hm hc lm lc e =
+    let g = stage-3 t k in
+    simp (room-ready t (vm ++ drop pm m) (vc ++ drop pc c) st g, room-ready t m c s g, ← em, ← ec, first-back m vm pm hm lm, first-back c vc pc hc lc, ← e)
+
+pub hand-turn : (a : Asked) (r : Room) (u : Turn) (flight from to began ended : ℕ) → a .call ≡ Hand flight from to began ended
+    → u ≡ handing (record { flight = flight; from = from; to = to; began = began; ended = ended }) r → u ≡ turnOf a r
+unfolding turnBy turnOf
+hand-turn a r u flight from to began ended e w = simp e w

@@ -1,10 +1,12 @@
 // One line of a script, whatever it does.
 use crate::turn;
 use answers::text;
+use handover::Transfer;
 use rooms::look;
 use rooms::parts::Standing;
 use rooms::plan::Plan;
 use script::call::Asked;
+use script::call::Call;
 ghost use mathlib.Core.Path.{_≡_};
 ghost use mathlib.Core.List.{_++_};
 ghost use Prim.Native.Nat.{_+_, _≤_};
@@ -44,6 +46,22 @@ pub fn step(
 {
     if p.looks {
         let end = look::look(asked, t, words, tail, medium, cache, buffer, out, n);
+        return Stepped {
+            standing: t,
+            n: end,
+        };
+    }
+    let call = asked.call;
+    if let Call::Hand(flight, from, to, began, ended) = call {
+        let transfer = Transfer {
+            flight: flight,
+            from: from,
+            to: to,
+            began: began,
+            ended: ended,
+        };
+        let answer = turn::hand(transfer, t, words, tail, medium, cache);
+        let end = text::put_handed(out, n, answer);
         return Stepped {
             standing: t,
             n: end,

@@ -1,5 +1,7 @@
 // The lines that change the room.
 use answers::text;
+use handover::HandAnswer;
+use handover::Transfer;
 use rooms::parts;
 use rooms::parts::Standing;
 use rooms::plan::Plan;
@@ -11,13 +13,15 @@ ghost use mathlib.Core.Bool.{false};
 ghost use mathlib.Core.List.{List};
 ghost use Prim.Native.Nat.{ℕ, _≤_};
 ghost use lib.ListN.{length, replicate};
+ghost use lib.Dec.{eqb};
 ghost use Rattle.fields.specs.Block.{zeros};
 ghost use Rattle.store.specs.declared.State.{State};
 ghost use Rattle.store.specs.Answer.{leaves};
 ghost use Rattle.store.specs.Format.{formatOf};
 ghost use Rattle.store.specs.Open.{openOf};
 ghost use Rattle.memory.specs.Memory.{stateOf};
-ghost use Rattle.rooms.specs.Room.{planOf, freshLength, formatted, opening, cut as Room·cut, poked, outcomeOf, calling, moves, turnOf};
+ghost use Rattle.answers.specs.Text.{handedText};
+ghost use Rattle.rooms.specs.Room.{planOf, freshLength, formatted, opening, cut as Room·cut, poked, outcomeOf, calling, handing, moves, turnOf};
 ghost use Rattle.rooms.specs.Parts.{stageOf, stageAfter, roomOf, leftBy};
 
 // How the room stands then, and what the line answers.
@@ -214,6 +218,25 @@ fn make(
     }
 }
 
+// `H`, on an opened store: a handover is lent medium and cache as a call is.
+pub fn hand(
+    asked: Transfer,
+    t: Standing,
+    words: &mut [u64; 448],
+    tail: &mut [u8; 512],
+    medium: &mut [u8],
+    cache: &mut [u8],
+) -> HandAnswer
+    requires { ⌜ length (now medium) ≡ 50688 ⌝ }
+    requires { ⌜ length (now cache) ≡ 32768 ⌝ }
+    requires { ⌜ 3 ≤ stageOf t ⌝ }
+    ensures { λ r. ⌜ record { room = roomOf t (now (medium .exit)) (now (cache .exit)) (stateOf (now (words .exit)) (now (tail .exit))); text = handedText r } ≡ handing asked (roomOf t (now (medium .entry)) (now (cache .entry)) (stateOf (now (words .entry)) (now (tail .entry)))) ⌝ }
+{
+    let m = parts::medium_part(t);
+    let c = parts::cache_part(t);
+    handover::hand::hand(words, tail, &mut medium[..m], &mut cache[..c], asked)
+}
+
 // What no line leaves: the match on the lines that change a room has an arm for the others.
 fn stay(t: Standing) -> Turned {
     Turned {
@@ -222,7 +245,7 @@ fn stay(t: Standing) -> Turned {
     }
 }
 
-// Plays a line that changes the room.
+// Plays a line that changes the room; `H` has its own answers, and is not played here.
 pub fn turn(
     asked: Asked,
     p: Plan,
@@ -238,6 +261,7 @@ pub fn turn(
     requires { ⌜ length (now buffer) ≡ 40000 ⌝ }
     requires { ⌜ p ≡ planOf (asked .call) ⌝ }
     requires { ⌜ p .looks ≡ false ⌝ }
+    requires { ⌜ eqb (p .letter) 72 ≡ false ⌝ }
     requires { ⌜ p .stage ≤ stageOf t ⌝ }
     ensures { λ r. ⌜ leftBy (r .standing) (now (medium .exit)) (now (cache .exit)) (stateOf (now (words .exit)) (now (tail .exit))) (p .letter) (r .answer) ≡ turnOf asked (roomOf t (now (medium .entry)) (now (cache .entry)) (stateOf (now (words .entry)) (now (tail .entry)))) ⌝ }
 {

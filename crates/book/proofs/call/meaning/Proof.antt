@@ -2,8 +2,8 @@
 use mathlib.Core.Path.{sym, _∙_}
 use mathlib.Core.List.{[], _∷_}
 use native.Mathlib.Omega.{arith}
-use Rattle.script.proofs.ReaderLaws.{done-1, done-2, done-3, done-4}
-use Rattle.book.proofs.LineLaws.{four, no-letter, bad-call, bare-call, word-call, number-call}
+use Rattle.script.proofs.ReaderLaws.{done-1, done-2, done-3}
+use Rattle.book.proofs.LineLaws.{no-letter, bad-call, bare-call, word-call, number-call, many-call}
 use borrow.Author.Needs.{needs}
 use Rattle.book.proofs.call.meaning.Statement.{statement}
 use Rattle.book.proofs.call.meaning.Tie as tie
@@ -45,10 +45,7 @@ returns-7 : tie.Need-returns-7
 returns-7 c = c .three-numbers .ensures ∙ sym (number-call _ (c .before .before .before .before .before .before .before .before .before .before .before .before .before .if1 .left) (c .before .before .before .before .before .before .before .before .before .before .before .if2 .left) (c .before .before .before .before .before .before .before .before .before .if3 .left) (c .before .before .before .before .before .before .before .before .is-number .result) (c .before .before .before .before .before .before .before .before .is-number .ensures) (c .before .before .before .before .before .before .before .if4 .left) (c .before .before .before .before .before .before .before .before .before .before .before .before .before .before .args .line .third ∷ (c .before .before .before .before .before .before .before .before .before .before .before .before .before .before .args .line .second ∷ [])) (done-3 _ (c .before .if7 .taken)))
 
 returns-8 : tie.Need-returns-8
-returns-8 c =
-    let l = c .before .before .before .before .before .before .before .before .before .before .before .before .before .args .line in
-    sym (number-call l (c .before .before .before .before .before .before .before .before .before .before .before .before .if1 .left) (c .before .before .before .before .before .before .before .before .before .before .if2 .left) (c .before .before .before .before .before .before .before .before .if3 .left) (c .before .before .before .before .before .before .before .is-number .result) (c .before .before .before .before .before .before .before .is-number .ensures) (c .before .before .before .before .before .before .if4 .left) (l .fourth ∷ (l .third ∷ (l .second ∷ []))) (done-4 l (omega arith))
-    ∙ four (l .letter) (l .fourth) (l .third) (l .second) (l .last) [])
+returns-8 c = sym (many-call _ (c .before .before .before .before .before .before .before .before .before .before .before .before .if1 .left) (c .before .before .before .before .before .before .before .before .before .before .if2 .left) (c .before .before .before .before .before .before .before .before .if3 .left) (c .before .before .before .before .before .before .before .is-number .result) (c .before .before .before .before .before .before .before .is-number .ensures) (c .before .before .before .before .before .before .if4 .left) (omega arith))
 
 pub meaning-spec : {M : Type 1} → statement M
 meaning-spec = tie.close (tie.spec returns returns-2 bare-requires returns-3 is-number-requires returns-4 one-number-requires returns-5 two-numbers-requires returns-6 three-numbers-requires returns-7 returns-8)

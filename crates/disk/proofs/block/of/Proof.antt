@@ -35,14 +35,20 @@ enum-told-4 c = search needs
 of-log-requires-4 : tie.Need-of-log-requires-4
 of-log-requires-4 c κs = search needs
 
+enum-told-5 : tie.Need-enum-told-5
+enum-told-5 c = search needs
+
+of-log-requires-5 : tie.Need-of-log-requires-5
+of-log-requires-5 c κs = search needs
+
 enum-known-call : tie.Need-enum-known-call
 enum-known-call c = search needs
 
 of-page-requires : tie.Need-of-page-requires
 of-page-requires c κs = search needs
 
-enum-told-5 : tie.Need-enum-told-5
-enum-told-5 c = search needs
+enum-told-6 : tie.Need-enum-told-6
+enum-told-6 c = search needs
 
 of-phase-requires : tie.Need-of-phase-requires
 of-phase-requires c κs = search needs
@@ -68,18 +74,22 @@ returns-4 c = simp (c .before .enum-told4 .given .1) (c .of-log4 .ensures)
 
 returns-5 : tie.Need-returns-5
 unfolding blockOf
-returns-5 c = simp (c .before .before .call .given .1) (c .of-page .ensures)
+returns-5 c = simp (c .before .enum-told5 .given .1) (c .of-log5 .ensures)
 
 returns-6 : tie.Need-returns-6
 unfolding blockOf
-returns-6 c = simp (c .before .enum-told5 .given .1) (c .of-phase .ensures)
+returns-6 c = simp (c .before .before .call .given .1) (c .of-page .ensures)
 
 returns-7 : tie.Need-returns-7
 unfolding blockOf
-returns-7 c = simp (c .before .call2 .given .1)
+returns-7 c = simp (c .before .enum-told6 .given .1) (c .of-phase .ensures)
 
 returns-8 : tie.Need-returns-8
-returns-8 c = block-rest (stateOf (c .before .args .words .now) (c .before .args .tail .now)) (c .before .args .call) (c .match .keys8)
+unfolding blockOf
+returns-8 c = simp (c .before .call2 .given .1)
+
+returns-9 : tie.Need-returns-9
+returns-9 c = block-rest (stateOf (c .before .args .words .now) (c .before .args .tail .now)) (c .before .args .call) (c .match .keys9)
 
 pub of-spec : {M : Type 1} → statement M
 of-spec =
@@ -93,9 +103,11 @@ of-spec =
     of-log-requires-3
     enum-told-4
     of-log-requires-4
+    enum-told-5
+    of-log-requires-5
     enum-known-call
     of-page-requires
-    enum-told-5
+    enum-told-6
     of-phase-requires
     enum-known-call-2
     returns
@@ -105,4 +117,5 @@ of-spec =
     returns-5
     returns-6
     returns-7
-    returns-8)
+    returns-8
+    returns-9)

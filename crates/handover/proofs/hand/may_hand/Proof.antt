@@ -1,4 +1,4 @@
--- The answer is the first question that is answered no.
+-- Each test that fails answers no, and the last one is the answer.
 use borrow.Author.Tests.{eq-eqb, ne-eqb}
 use Rattle.handover.specs.Hand.{mayHand}
 use Rattle.handover.proofs.HandLaws.{not-present, owner-left}

@@ -1,6 +1,7 @@
--- A line from stage 3 on is a call; the others go by their letter, and no other line comes here.
+-- A line from stage 3 on is a call, as no handover comes here; the others go by their letter, and no other line comes here.
 use mathlib.Core.Path.{refl, sym, ap, _∙_}
 use native.Mathlib.Omega.{arith}
+use lib.Dec.{eqb}
 use Rattle.rooms.specs.declared.plan.Plan.{Plan}
 use Rattle.rooms.specs.Room.{planOf, turnBy, turnOf}
 use Rattle.rooms.specs.Parts.{stageOf}
@@ -31,7 +32,7 @@ same-length-2 c = search needs
 
 returns : tie.Need-returns
 unfolding turnOf
-returns c = rw (c .before .before .before .before .before .before .before .before .before .before .before .before .before .before .pre .1 .1 .1 .0) (c .before .before .before .before .make .ensures ∙ turn-calls _ _ _ (ap (λ (q : Plan). q .stage) (sym (c .before .before .before .before .before .before .before .before .before .before .before .before .before .before .pre .1 .1 .1 .0)) ∙ c .before .before .before .before .before .before .before .before .before .if1 .taken))
+returns c = rw (c .before .before .before .before .before .before .before .before .before .before .before .before .before .before .pre .1 .1 .1 .0) (c .before .before .before .before .make .ensures ∙ turn-calls _ _ _ (ap (λ (q : Plan). q .stage) (sym (c .before .before .before .before .before .before .before .before .before .before .before .before .before .before .pre .1 .1 .1 .0)) ∙ c .before .before .before .before .before .before .before .before .before .if1 .taken) (ap (λ (q : Plan). eqb (q .letter) 72) (sym (c .before .before .before .before .before .before .before .before .before .before .before .before .before .before .pre .1 .1 .1 .0)) ∙ c .before .before .before .before .before .before .before .before .before .before .before .before .before .before .pre .1 .1 .1 .1 .1 .0))
 
 enum-known-call : tie.Need-enum-known-call
 enum-known-call c = search needs
@@ -47,21 +48,21 @@ right-length-requires c κs = search needs
 
 open-requires : tie.Need-open-requires
 unfolding planOf
-open-requires c κs = (c .before .before .before .before .before .before .before .before .before .before .before .before .before .before .pre .0, (c .before .before .before .before .before .before .before .before .before .before .before .before .before .before .pre .1 .0, (c .before .before .before .before .before .before .before .before .before .before .before .before .before .before .pre .1 .1 .0, (omega arith, plan-stage _ _ _ _ (c .before .before .before .before .before .before .before .before .before .before .before .before .before .before .pre .1 .1 .1 .0) (c .before .before .before .before .before .before .before .call2 .given .1) (c .before .before .before .before .before .before .before .before .before .before .before .before .before .before .pre .1 .1 .1 .1 .1)))))
+open-requires c κs = (c .before .before .before .before .before .before .before .before .before .before .before .before .before .before .pre .0, (c .before .before .before .before .before .before .before .before .before .before .before .before .before .before .pre .1 .0, (c .before .before .before .before .before .before .before .before .before .before .before .before .before .before .pre .1 .1 .0, (omega arith, plan-stage _ _ _ _ (c .before .before .before .before .before .before .before .before .before .before .before .before .before .before .pre .1 .1 .1 .0) (c .before .before .before .before .before .before .before .call2 .given .1) (c .before .before .before .before .before .before .before .before .before .before .before .before .before .before .pre .1 .1 .1 .1 .1 .1)))))
 
 enum-known-call-3 : tie.Need-enum-known-call-3
 enum-known-call-3 c = search needs
 
 open-requires-2 : tie.Need-open-requires-2
 unfolding planOf
-open-requires-2 c κs = let f = within-fits _ 2 _ (plan-stage _ _ _ _ (c .before .before .before .before .before .before .before .before .before .before .before .before .before .pre .1 .1 .1 .0) (c .before .before .before .before .before .before .call3 .given .1) (c .before .before .before .before .before .before .before .before .before .before .before .before .before .pre .1 .1 .1 .1 .1)) (stage-most (c .before .before .before .before .before .before .before .before .before .before .before .before .before .args .t)) in (c .before .before .before .before .before .before .before .before .before .before .before .before .before .pre .0, (c .before .before .before .before .before .before .before .before .before .before .before .before .before .pre .1 .0, (c .before .before .before .before .before .before .before .before .before .before .before .before .before .pre .1 .1 .0, (f .0, f .1))))
+open-requires-2 c κs = let f = within-fits _ 2 _ (plan-stage _ _ _ _ (c .before .before .before .before .before .before .before .before .before .before .before .before .before .pre .1 .1 .1 .0) (c .before .before .before .before .before .before .call3 .given .1) (c .before .before .before .before .before .before .before .before .before .before .before .before .before .pre .1 .1 .1 .1 .1 .1)) (stage-most (c .before .before .before .before .before .before .before .before .before .before .before .before .before .args .t)) in (c .before .before .before .before .before .before .before .before .before .before .before .before .before .pre .0, (c .before .before .before .before .before .before .before .before .before .before .before .before .before .pre .1 .0, (c .before .before .before .before .before .before .before .before .before .before .before .before .before .pre .1 .1 .0, (f .0, f .1))))
 
 enum-told : tie.Need-enum-told
 enum-told c = search needs
 
 cut-requires : tie.Need-cut-requires
 unfolding planOf
-cut-requires c κs = plan-stage _ _ _ _ (c .before .before .before .before .before .before .before .pre .1 .1 .1 .0) (c .enum-told .given .1) (c .before .before .before .before .before .before .before .pre .1 .1 .1 .1 .1)
+cut-requires c κs = plan-stage _ _ _ _ (c .before .before .before .before .before .before .before .pre .1 .1 .1 .0) (c .enum-told .given .1) (c .before .before .before .before .before .before .before .pre .1 .1 .1 .1 .1 .1)
 
 enum-known-call-4 : tie.Need-enum-known-call-4
 enum-known-call-4 c = search needs
@@ -90,7 +91,7 @@ same-length-6 c = search needs
 
 returns-3 : tie.Need-returns-3
 unfolding turnOf turnBy planOf
-returns-3 c = simp (c .before .before .before .before .before .before .before .before .before .before .before .before .before .before .before .before .before .before .before .pre .1 .1 .1 .0, c .before .before .before .before .before .before .before .before .before .before .before .before .call2 .given .1) (open-right (c .before .before .before .before .before .before .before .before .before .before .before .before .before .before .before .before .before .before .before .args .t) (c .before .before .before .before .before .before .before .before .before .before .before .before .before .before .before .before .before .before .before .args .medium .now) (c .before .before .before .before .before .before .before .before .before .before .before .before .before .before .before .before .before .before .before .args .cache .now) ((stateOf (c .before .before .before .before .before .before .before .before .before .before .before .before .before .before .before .before .before .before .before .args .words .now) (c .before .before .before .before .before .before .before .before .before .before .before .before .before .before .before .before .before .before .before .args .tail .now))) _ _ _ (plan-stage _ _ _ _ (c .before .before .before .before .before .before .before .before .before .before .before .before .before .before .before .before .before .before .before .pre .1 .1 .1 .0) (c .before .before .before .before .before .before .before .before .before .before .before .before .call2 .given .1) (c .before .before .before .before .before .before .before .before .before .before .before .before .before .before .before .before .before .before .before .pre .1 .1 .1 .1 .1)) (c .before .before .before .before .before .before .before .before .before .before .right-length .ensures .0) (c .before .before .before .before .«open» .ensures 79))
+returns-3 c = simp (c .before .before .before .before .before .before .before .before .before .before .before .before .before .before .before .before .before .before .before .pre .1 .1 .1 .0, c .before .before .before .before .before .before .before .before .before .before .before .before .call2 .given .1) (open-right (c .before .before .before .before .before .before .before .before .before .before .before .before .before .before .before .before .before .before .before .args .t) (c .before .before .before .before .before .before .before .before .before .before .before .before .before .before .before .before .before .before .before .args .medium .now) (c .before .before .before .before .before .before .before .before .before .before .before .before .before .before .before .before .before .before .before .args .cache .now) ((stateOf (c .before .before .before .before .before .before .before .before .before .before .before .before .before .before .before .before .before .before .before .args .words .now) (c .before .before .before .before .before .before .before .before .before .before .before .before .before .before .before .before .before .before .before .args .tail .now))) _ _ _ (plan-stage _ _ _ _ (c .before .before .before .before .before .before .before .before .before .before .before .before .before .before .before .before .before .before .before .pre .1 .1 .1 .0) (c .before .before .before .before .before .before .before .before .before .before .before .before .call2 .given .1) (c .before .before .before .before .before .before .before .before .before .before .before .before .before .before .before .before .before .before .before .pre .1 .1 .1 .1 .1 .1)) (c .before .before .before .before .before .before .before .before .before .before .right-length .ensures .0) (c .before .before .before .before .«open» .ensures 79))
 
 same-length-7 : tie.Need-same-length-7
 same-length-7 c = search needs
@@ -117,7 +118,7 @@ unfolding turnOf turnBy planOf
 returns-6 c = simp (c .before .before .before .before .before .before .before .before .before .before .before .before .pre .1 .1 .1 .0, c .before .before .before .before .before .call4 .given .1) (c .before .before .poke .ensures (c .before .before .before .before .before .before .before .before .before .before .before .before .args .cache .now) (stateOf (c .before .before .before .before .before .before .before .before .before .before .before .before .args .words .now) (c .before .before .before .before .before .before .before .before .before .before .before .before .args .tail .now)))
 
 returns-7 : tie.Need-returns-7
-returns-7 c = absurd (no-rest (c .before .before .before .before .before .before .before .args .asked .call) (stageOf (c .before .before .before .before .before .before .before .args .t)) (c .before .match .keys6) (ap (λ (q : Plan). q .looks) (sym (c .before .before .before .before .before .before .before .pre .1 .1 .1 .0)) ∙ c .before .before .before .before .before .before .before .pre .1 .1 .1 .1 .0) (λ z. c .before .before .if1 .left (ap (λ (q : Plan). q .stage) (c .before .before .before .before .before .before .before .pre .1 .1 .1 .0) ∙ z)) (plan-stage _ _ _ _ (c .before .before .before .before .before .before .before .pre .1 .1 .1 .0) refl (c .before .before .before .before .before .before .before .pre .1 .1 .1 .1 .1)) (stage-most (c .before .before .before .before .before .before .before .args .t)))
+returns-7 c = absurd (no-rest (c .before .before .before .before .before .before .before .args .asked .call) (stageOf (c .before .before .before .before .before .before .before .args .t)) (c .before .match .keys6) (ap (λ (q : Plan). q .looks) (sym (c .before .before .before .before .before .before .before .pre .1 .1 .1 .0)) ∙ c .before .before .before .before .before .before .before .pre .1 .1 .1 .1 .0) (λ z. c .before .before .if1 .left (ap (λ (q : Plan). q .stage) (c .before .before .before .before .before .before .before .pre .1 .1 .1 .0) ∙ z)) (plan-stage _ _ _ _ (c .before .before .before .before .before .before .before .pre .1 .1 .1 .0) refl (c .before .before .before .before .before .before .before .pre .1 .1 .1 .1 .1 .1)) (stage-most (c .before .before .before .before .before .before .before .args .t)))
 
 pub turn-spec : {M : Type 1} → statement M
 turn-spec =
