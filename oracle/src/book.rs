@@ -64,6 +64,10 @@ impl Book {
         self.open.len()
     }
 
+    pub fn open_numbers(&self) -> impl Iterator<Item = u64> + '_ {
+        self.open.iter().map(|&(number, _)| number)
+    }
+
     pub fn has_row(&self, number: u64) -> bool {
         self.rows.iter().any(|row| row.number() == number)
     }

@@ -1,6 +1,7 @@
 //! The refusals that follow from the rows of the book and their places in the log.
 
 use crate::book::Book;
+use crate::handover::{Handover, NOBODY, OWNER};
 use crate::layout::*;
 use crate::machine::Line;
 use crate::shadow::Shadow;
@@ -58,6 +59,40 @@ pub fn refusal(book: &Book, shadow: &Shadow, medium: &[u8], pages: u64, line: &L
         Line::StorePage { page } => store_page(book, shadow, medium, pages, page),
         _ => read(book, line),
     }
+}
+
+/// Refusals of a handover: those of its calls, with 17 behind those of the read. Its number has no rows
+/// yet, which 0 has never.
+pub fn handover(
+    book: &Book,
+    shadow: &Shadow,
+    medium: &[u8],
+    pages: u64,
+    handover: &Handover,
+) -> Expected {
+    let live = book.open_count() + shadow.live_commits(book, medium);
+    let slots = PAGE_SLOTS * pages as usize;
+    let Handover {
+        flight, from, to, ..
+    } = *handover;
+    let read = book.current(0, flight);
+    let strip = read.filter(|found| found.kind != ERASED);
+    let mut written = shadow.clone();
+    written.add(VERSION_BYTES);
+    first_no(&[
+        (live < TABLE_PLACES, NO_PLACE),
+        (!book.held(0, flight), HELD),
+        (strip.is_some(), NOT_OWNER),
+        (
+            strip.is_some_and(|found| found.value[OWNER] == from),
+            NOT_OWNER,
+        ),
+        (from != NOBODY && to != NOBODY, NOT_OWNER),
+        (book.slots().count() < slots, NO_SLOT_LEFT),
+        (shadow.has_room(medium, VERSION_BYTES), LOG_FULL),
+        (book.last_time() < u64::MAX, NO_TIME_LEFT),
+        (written.has_room(medium, COMMIT_BYTES), LOG_FULL),
+    ])
 }
 
 /// Refusals of the calls that change nothing; other calls are accepted.

@@ -10,13 +10,26 @@ use crate::shrink::shrink;
 use crate::state::TIME_AHEAD;
 use std::panic::{catch_unwind, AssertUnwindSafe};
 
+/// Handovers of some histories.
+#[derive(Clone, Copy, Default, Debug)]
+pub struct Handovers {
+    pub tried: u64,
+    pub handed: u64,
+    /// How often each refusal was the answer.
+    pub refused: [u64; 18],
+    /// Handovers that changed a block of the medium.
+    pub stored: u64,
+    /// Of each refusal, those that left a version: the commit was refused.
+    pub left: [u64; 18],
+}
+
 /// What the histories of some seeds reached.
 #[derive(Clone, Copy, Default, Debug)]
 pub struct Reached {
     pub calls: u64,
     pub cuts: u64,
     /// How often each refusal occurred.
-    pub refusals: [u64; 17],
+    pub refusals: [u64; 18],
     /// The most committed transactions live at once.
     pub live_commits: usize,
     /// The most pairs in the table at once.
@@ -33,6 +46,46 @@ pub struct Reached {
     pub unstored: u64,
     /// Answers that were asked again of an opened run.
     pub asked_again: u64,
+    pub handovers: Handovers,
+}
+
+impl Handovers {
+    fn note(&mut self, reply: &Reply, stored: bool, versions: usize) {
+        self.tried += 1;
+        self.stored += u64::from(stored);
+        match reply {
+            Reply::Refused(refusal) => {
+                self.refused[refusal.0 as usize] += 1;
+                self.left[refusal.0 as usize] += versions as u64;
+            }
+            _ => self.handed += 1,
+        }
+    }
+
+    pub fn add(&mut self, other: &Handovers) {
+        self.tried += other.tried;
+        self.handed += other.handed;
+        for refusal in 0..self.refused.len() {
+            self.refused[refusal] += other.refused[refusal];
+            self.left[refusal] += other.left[refusal];
+        }
+        self.stored += other.stored;
+    }
+}
+
+impl std::fmt::Display for Handovers {
+    fn fmt(&self, out: &mut std::fmt::Formatter) -> std::fmt::Result {
+        write!(out, "{} handovers, {} handed", self.tried, self.handed)?;
+        for (refusal, (count, left)) in self.refused.iter().zip(self.left).enumerate() {
+            if *count > 0 {
+                write!(out, ", {count} refused {refusal}")?;
+            }
+            if left > 0 {
+                write!(out, " ({left} at the commit)")?;
+            }
+        }
+        write!(out, "; {} changed a block", self.stored)
+    }
 }
 
 impl Reached {
@@ -50,6 +103,7 @@ impl Reached {
         self.begun_over_dead += other.begun_over_dead;
         self.unstored += other.unstored;
         self.asked_again += other.asked_again;
+        self.handovers.add(&other.handovers);
     }
 }
 
@@ -75,10 +129,20 @@ pub fn run_seed<R: Rules>(
         lines.push(line);
         let table = table_numbers(&judge);
         let torn = line == Line::Cut && under_way(&judge);
+        let rows = judge.book.rows().len();
+        let medium = match line {
+            Line::Hand(_) => judge.machine.medium.clone(),
+            _ => Vec::new(),
+        };
         let step = catch_unwind(AssertUnwindSafe(|| judge.step(&line)));
         let complaint = match step {
             Ok(Ok(reply)) => {
                 observe(&mut reached, &judge, &line, &reply);
+                if let Line::Hand(_) = line {
+                    let stored = judge.machine.medium != medium;
+                    let added = judge.book.rows().len() - rows;
+                    reached.handovers.note(&reply, stored, added);
+                }
                 reached.torn += u64::from(torn);
                 reached.places_reused += reused(&table, &table_numbers(&judge));
                 reached.begun_over_dead += u64::from(begun_over_dead(&judge, &line, &reply));

@@ -1,11 +1,13 @@
 //! The generator: the next line of a random history, from the store as it stands.
 
+use crate::handover::OWNER;
 use crate::journal::check_room;
 use crate::layout::*;
 use crate::machine::{Line, Machine, MAX_BUFFER};
 use crate::profiles::{Clocks, Kind, Profile, KINDS};
 use crate::random::Random;
 use crate::rules::Rules;
+use crate::sectors;
 use crate::state::*;
 use crate::waves::{self, Step};
 use std::collections::VecDeque;
@@ -82,6 +84,7 @@ impl History {
         self.plan.clear();
         self.first_clock = match self.profile.clocks {
             Clocks::Last => u64::MAX - self.random.below(60),
+            Clocks::SomeLast if self.random.percent(20) => u64::MAX - self.random.below(60),
             _ => self.random.below(50),
         };
         Line::Format {
@@ -194,7 +197,16 @@ impl History {
                 fill: self.random.below(256) as u8,
             },
             Kind::WrongCache => self.wrong_cache(machine.pages),
+            Kind::Hand => self.handover(state, &machine.cache),
         }
+    }
+
+    fn handover(&mut self, state: &State, cache: &[u8]) -> Line {
+        let clocks = (self.clock(state), self.clock(state));
+        let record = self.record();
+        let flight = sectors::flight(&mut self.random, record, state, cache);
+        let random = &mut self.random;
+        Line::Hand(sectors::handover(random, flight, state, cache, clocks))
     }
 
     /// Mostly an active number, now and then one that is not.
@@ -239,11 +251,14 @@ impl History {
             return Line::Erase { number, record };
         }
         // Few different values, so that equal neighbours occur.
-        let value = match self.random.below(4) {
+        let mut value = match self.random.below(4) {
             0 => (u128::from(self.random.draw()) << 64 | u128::from(self.random.draw()))
                 .to_le_bytes(),
             low => [low as u8 - 1; 16],
         };
+        if self.profile.sectors {
+            value[OWNER] = sectors::owner(&mut self.random);
+        }
         Line::Write {
             number,
             record,

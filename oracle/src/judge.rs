@@ -24,7 +24,7 @@ pub struct Judge<R: Rules> {
     pub book: Book,
     pub shadow: Shadow,
     pub answered: Answered,
-    strictness: Strictness,
+    pub strictness: Strictness,
     medium_before: Vec<u8>,
     cache_before: Vec<u8>,
     /// Opened after a cut that the run itself does not see.
@@ -57,6 +57,13 @@ impl<R: Rules> Judge<R> {
 
     /// Executes a line and judges it. A line without a place here is passed over.
     pub fn step(&mut self, line: &Line) -> Verdict<Reply> {
+        match line {
+            Line::Hand(handover) => self.step_handover(handover),
+            _ => self.step_call(line),
+        }
+    }
+
+    pub fn step_call(&mut self, line: &Line) -> Verdict<Reply> {
         let state_before = self.machine.state.clone();
         self.cache_before.clone_from(&self.machine.cache);
         self.medium_before.clone_from(&self.machine.medium);
@@ -289,9 +296,13 @@ fn judge_found(book: &Book, state: &State, cache: &[u8]) -> Verdict<()> {
 }
 
 fn strip(found: Option<Found>) -> Reply {
-    Reply::Strip(match found {
+    Reply::Strip(strip_of(found))
+}
+
+pub fn strip_of(found: Option<Found>) -> Strip {
+    match found {
         None => Strip::None,
         Some(found) if found.kind == ERASED => Strip::Erased,
         Some(found) => Strip::Present(found.value),
-    })
+    }
 }

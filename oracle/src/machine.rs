@@ -3,6 +3,7 @@
 use crate::chain::{self, Strip};
 use crate::checkpoint::checkpoint;
 use crate::format::format;
+use crate::handover::{Handover, Store};
 use crate::journal::store_log;
 use crate::layout::*;
 use crate::open::{open, Fault};
@@ -53,6 +54,7 @@ pub enum Line {
     Abort {
         number: u64,
     },
+    Hand(Handover),
     AsOf {
         record: u8,
         time: u64,
@@ -165,6 +167,7 @@ impl<R: Rules> Machine<R> {
                 }
                 Reply::Answer(0)
             }
+            Line::Hand(handover) if self.state.is_some() => answer(R::hand(self, &handover)),
             _ => self.call_open(line),
         }
     }
@@ -279,7 +282,13 @@ impl<R: Rules> Machine<R> {
     }
 }
 
-fn answer(result: Result<u64, Refusal>) -> Reply {
+impl<R: Rules> Store for Machine<R> {
+    fn make(&mut self, call: &Line) -> Reply {
+        self.call(call)
+    }
+}
+
+pub fn answer(result: Result<u64, Refusal>) -> Reply {
     result.map_or_else(Reply::Refused, Reply::Answer)
 }
 

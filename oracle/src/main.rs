@@ -198,7 +198,7 @@ fn run_fuzz(arguments: &Arguments) -> Result<(), String> {
             Err(found) => return Err(fuzz::report::<Sound>(seed, &found, Strictness::All)),
         }
     }
-    println!("{all:#?}");
+    println!("{all:#?}\n{}", all.handovers);
     Ok(())
 }
 

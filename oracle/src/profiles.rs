@@ -15,9 +15,10 @@ pub enum Kind {
     Cut,
     Reopen,
     WrongCache,
+    Hand,
 }
 
-pub const KINDS: [Kind; 13] = [
+pub const KINDS: [Kind; 14] = [
     Kind::Begin,
     Kind::Version,
     Kind::Read,
@@ -31,6 +32,7 @@ pub const KINDS: [Kind; 13] = [
     Kind::Cut,
     Kind::Reopen,
     Kind::WrongCache,
+    Kind::Hand,
 ];
 
 #[derive(Clone, Copy, PartialEq, Eq, Debug)]
@@ -41,6 +43,8 @@ pub enum Clocks {
     Extreme,
     /// Starts some commits below 2^64 - 1.
     Last,
+    /// Last in some rooms, near in the others.
+    SomeLast,
 }
 
 #[derive(Clone, Copy, PartialEq, Eq, Debug)]
@@ -52,6 +56,8 @@ pub enum Waves {
     Torn,
     /// Dead pairs whose places are taken again.
     Reuse,
+    /// Handovers in a rush, of flights that others hold, and with cuts between them.
+    Handovers,
 }
 
 pub struct Profile {
@@ -64,8 +70,10 @@ pub struct Profile {
     pub active: usize,
     pub clocks: Clocks,
     pub waves: Waves,
+    /// Strips have a sector for an owner, or nobody.
+    pub sectors: bool,
     /// In the order of `KINDS`.
-    pub weights: [u64; 13],
+    pub weights: [u64; 14],
 }
 
 const fn profile(name: &'static str, log_blocks: (u64, u64), pages: (u64, u64)) -> Profile {
@@ -77,29 +85,30 @@ const fn profile(name: &'static str, log_blocks: (u64, u64), pages: (u64, u64)) 
         active: 6,
         clocks: Clocks::Near,
         waves: Waves::Never,
-        weights: [10, 24, 5, 10, 3, 6, 4, 8, 10, 9, 2, 1, 1],
+        sectors: false,
+        weights: [10, 24, 5, 10, 3, 6, 4, 8, 10, 9, 2, 1, 1, 3],
     }
 }
 
-pub static PROFILES: [Profile; 14] = [
+pub static PROFILES: [Profile; 15] = [
     profile("mixed", (2, 32), (1, 64)),
     profile("small", (2, 3), (1, 2)),
     Profile {
         records: 200,
         active: 20,
-        weights: [10, 60, 2, 9, 1, 2, 2, 4, 8, 4, 1, 0, 0],
+        weights: [10, 60, 2, 9, 1, 2, 2, 4, 8, 4, 1, 0, 0, 3],
         ..profile("large", (24, 32), (40, 64))
     },
     Profile {
         records: 256,
         active: 64,
-        weights: [30, 24, 4, 8, 4, 2, 2, 5, 4, 4, 1, 0, 0],
+        weights: [30, 24, 4, 8, 4, 2, 2, 5, 4, 4, 1, 0, 0, 3],
         ..profile("crowd", (4, 32), (8, 64))
     },
     Profile {
         records: 2,
         active: 3,
-        weights: [8, 24, 6, 10, 4, 10, 10, 6, 8, 5, 2, 1, 0],
+        weights: [8, 24, 6, 10, 4, 10, 10, 6, 8, 5, 2, 1, 0, 3],
         ..profile("hot", (2, 10), (2, 12))
     },
     Profile {
@@ -111,47 +120,56 @@ pub static PROFILES: [Profile; 14] = [
         ..profile("last-times", (2, 8), (2, 20))
     },
     Profile {
-        weights: [10, 24, 2, 12, 3, 3, 2, 3, 24, 6, 4, 1, 0],
+        weights: [10, 24, 2, 12, 3, 3, 2, 3, 24, 6, 4, 1, 0, 3],
         ..profile("pages-first", (2, 8), (2, 20))
     },
     Profile {
-        weights: [10, 40, 2, 8, 2, 2, 2, 3, 2, 1, 1, 0, 0],
+        weights: [10, 40, 2, 8, 2, 2, 2, 3, 2, 1, 1, 0, 0, 2],
         ..profile("log-full", (2, 4), (6, 30))
     },
     Profile {
-        weights: [8, 16, 2, 9, 3, 2, 2, 8, 10, 12, 12, 3, 2],
+        weights: [8, 16, 2, 9, 3, 2, 2, 8, 10, 12, 12, 3, 2, 3],
         ..profile("cuts", (2, 6), (2, 16))
     },
     Profile {
         records: 256,
         active: 64,
         waves: Waves::Waiting,
-        weights: [8, 12, 2, 9, 2, 3, 2, 6, 2, 6, 1, 0, 0],
+        weights: [8, 12, 2, 9, 2, 3, 2, 6, 2, 6, 1, 0, 0, 2],
         ..profile("waiting", (4, 16), (10, 40))
     },
     Profile {
         records: 256,
         active: 64,
         waves: Waves::Torn,
-        weights: [8, 12, 1, 9, 2, 1, 1, 4, 2, 9, 4, 1, 0],
+        weights: [8, 12, 1, 9, 2, 1, 1, 4, 2, 9, 4, 1, 0, 2],
         ..profile("torn", (3, 12), (10, 40))
     },
     Profile {
         records: 256,
         active: 64,
         waves: Waves::Reuse,
-        weights: [8, 12, 1, 9, 2, 1, 1, 6, 4, 9, 2, 1, 0],
+        weights: [8, 12, 1, 9, 2, 1, 1, 6, 4, 9, 2, 1, 0, 2],
         ..profile("reuse", (3, 12), (16, 64))
     },
     Profile {
-        weights: [8, 16, 8, 9, 3, 24, 24, 6, 8, 4, 2, 1, 1],
+        weights: [8, 16, 8, 9, 3, 24, 24, 6, 8, 4, 2, 1, 1, 3],
         ..profile("reads", (3, 16), (4, 40))
+    },
+    Profile {
+        records: 5,
+        active: 4,
+        clocks: Clocks::SomeLast,
+        waves: Waves::Handovers,
+        sectors: true,
+        weights: [4, 8, 2, 9, 2, 3, 2, 5, 6, 6, 1, 1, 0, 30],
+        ..profile("sectors", (2, 12), (1, 10))
     },
 ];
 
 /// Small logs that run full again and again, in every phase of a checkpoint. No seed stands for it.
 pub static FULL: Profile = Profile {
-    weights: [8, 50, 0, 10, 2, 0, 0, 3, 6, 4, 1, 0, 0],
+    weights: [8, 50, 0, 10, 2, 0, 0, 3, 6, 4, 1, 0, 0, 3],
     ..profile("full", (2, 4), (2, 16))
 };
 

@@ -1,10 +1,11 @@
 //! The sound store and wrong ones: the four shortcuts of document 01 that spoil a history, three stores
 //! of which request #102 is not true, since an answer as of a time may not survive a cut, and one of
-//! which #114 is not true, since its full log stays full.
+//! which #114 is not true, since its full log stays full. Wrong handovers are in `boards`.
 //!
 //! Each wrong one is a type, so the sound store is compiled without a trace of them.
 
-use crate::state::State;
+use crate::handover::{self, Handover, Store};
+use crate::state::{Refusal, State};
 
 pub trait Rules: Clone + Default {
     /// Stamps a page with a time whose commit record is not stored.
@@ -27,6 +28,11 @@ pub trait Rules: Clone + Default {
 
     /// Changes the state that an opening found.
     fn put_back(&self, _found: &mut State) {}
+
+    /// Hands a flight over, by the calls of an open store.
+    fn hand(store: &mut impl Store, handover: &Handover) -> Result<u64, Refusal> {
+        handover::hand(store, handover)
+    }
 }
 
 #[derive(Clone, Default)]

@@ -1,6 +1,7 @@
 //! The script language: reads lines, writes them, runs them and prints what they answer.
 
 use crate::chain::Strip;
+use crate::handover::Handover;
 use crate::layout::*;
 use crate::machine::{Line, Machine, Reply, MAX_BUFFER};
 use crate::rules::{Rules, Sound};
@@ -18,6 +19,7 @@ pub fn letter(line: &Line) -> u8 {
         Line::Read { .. } => b'R',
         Line::Commit { .. } => b'C',
         Line::Abort { .. } => b'A',
+        Line::Hand(_) => b'H',
         Line::AsOf { .. } => b'Q',
         Line::Changes { .. } => b'L',
         Line::StoreLog => b'S',
@@ -50,6 +52,16 @@ pub fn parse(line: &[u8]) -> Option<Line> {
                 record: byte(record)?,
                 value: hex(value)?,
             })
+        }
+        b'H' => {
+            let [flight, from, to, began, ended] = words(rest)?;
+            Some(Line::Hand(Handover {
+                flight: byte(flight)?,
+                from: byte(from)?,
+                to: byte(to)?,
+                began: number(began)?,
+                ended: number(ended)?,
+            }))
         }
         b'L' => {
             let [record, from, to, bytes] = words(rest)?;
@@ -130,29 +142,36 @@ pub fn put_line(out: &mut Vec<u8>, line: &Line) {
 }
 
 /// The decimal words of a line, and how many they are.
-fn numbers(line: &Line) -> ([u64; 4], usize) {
+fn numbers(line: &Line) -> ([u64; 5], usize) {
     match *line {
-        Line::Cut | Line::StoreLog | Line::Checkpoint => ([0; 4], 0),
-        Line::Open { fill } => ([fill.into(), 0, 0, 0], 1),
+        Line::Cut | Line::StoreLog | Line::Checkpoint => ([0; 5], 0),
+        Line::Open { fill } => ([fill.into(), 0, 0, 0, 0], 1),
         Line::OpenSized { bytes: only }
         | Line::Begin { clock: only }
         | Line::Abort { number: only }
         | Line::StorePage { page: only }
         | Line::ShowBlock { block: only }
         | Line::ShowPage { page: only }
-        | Line::Poke { offset: only, .. } => ([only, 0, 0, 0], 1),
+        | Line::Poke { offset: only, .. } => ([only, 0, 0, 0, 0], 1),
         Line::Write { number, record, .. }
         | Line::Erase { number, record }
-        | Line::Read { number, record } => ([number, record.into(), 0, 0], 2),
-        Line::Format { log_blocks, pages } => ([log_blocks, pages, 0, 0], 2),
-        Line::Commit { number, clock } => ([number, clock, 0, 0], 2),
-        Line::AsOf { record, time } => ([record.into(), time, 0, 0], 2),
+        | Line::Read { number, record } => ([number, record.into(), 0, 0, 0], 2),
+        Line::Format { log_blocks, pages } => ([log_blocks, pages, 0, 0, 0], 2),
+        Line::Commit { number, clock } => ([number, clock, 0, 0, 0], 2),
+        Line::AsOf { record, time } => ([record.into(), time, 0, 0, 0], 2),
+        Line::Hand(Handover {
+            flight,
+            from,
+            to,
+            began,
+            ended,
+        }) => ([flight.into(), from.into(), to.into(), began, ended], 5),
         Line::Changes {
             record,
             from,
             to,
             bytes,
-        } => ([record.into(), from, to, bytes], 4),
+        } => ([record.into(), from, to, bytes, 0], 4),
     }
 }
 

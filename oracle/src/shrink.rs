@@ -63,7 +63,7 @@ fn without_chunks<R: Rules>(mut kept: Vec<Line>, strictness: Strictness) -> Vec<
 fn without_transactions<R: Rules>(mut kept: Vec<Line>, strictness: Strictness) -> Vec<Line> {
     let begins = kept
         .iter()
-        .filter(|line| matches!(line, Line::Begin { .. }));
+        .filter(|line| matches!(line, Line::Begin { .. } | Line::Hand(_)));
     for number in (1..=begins.count() as u64).rev() {
         let candidate = without_number::<R>(&kept, number);
         if candidate.len() < kept.len() {
@@ -77,13 +77,20 @@ fn without_transactions<R: Rules>(mut kept: Vec<Line>, strictness: Strictness) -
 fn without_number<R: Rules>(lines: &[Line], dropped: u64) -> Vec<Line> {
     let mut machine = Machine::<R>::default();
     let remaining = lines.iter().filter_map(|line| {
+        let next = next_number(&machine);
         let called = catch_unwind(AssertUnwindSafe(|| machine.call(line)));
         match (line, called) {
             (Line::Begin { .. }, Ok(Reply::Answer(number))) if number == dropped => None,
+            (Line::Hand(_), _) if next == dropped && next_number(&machine) > next => None,
             _ => renumbered(*line, dropped),
         }
     });
     remaining.collect()
+}
+
+fn next_number<R: Rules>(machine: &Machine<R>) -> u64 {
+    let state = machine.state.as_ref();
+    state.map_or(0, |state| state.next_number)
 }
 
 fn renumbered(mut line: Line, dropped: u64) -> Option<Line> {

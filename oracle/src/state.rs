@@ -22,6 +22,7 @@ pub const NO_CHANGE: Refusal = Refusal(13);
 pub const ANSWER_SHORT: Refusal = Refusal(14);
 pub const NO_NUMBER_LEFT: Refusal = Refusal(15);
 pub const MISFIT: Refusal = Refusal(16);
+pub const NOT_OWNER: Refusal = Refusal(17);
 
 #[derive(Clone, Copy, PartialEq, Eq, Debug)]
 pub enum Life {

@@ -45,8 +45,56 @@ pub fn plan(waves: Waves, state: &State, random: &mut Random) -> Plan {
                 checkpoint(&mut plan, random, 20);
             }
         },
+        Waves::Handovers => match random.below(5) {
+            0 => calls(&mut plan, Kind::Hand, random.below(90)),
+            1 => appear(&mut plan, random),
+            2 => held(&mut plan, random),
+            3 => cut_handovers(&mut plan, random),
+            _ => tidy(&mut plan, random),
+        },
     }
     plan
+}
+
+/// Some flights get a strip.
+fn appear(plan: &mut Plan, random: &mut Random) {
+    calls(plan, Kind::Begin, 1);
+    plan.extend((0..2 + random.below(6)).map(|_| Step::VersionOfPoorest));
+    calls(plan, Kind::Commit, 2);
+}
+
+/// Others have some flights while these are handed about.
+fn held(plan: &mut Plan, random: &mut Random) {
+    let others = 1 + random.below(3);
+    calls(plan, Kind::Begin, others);
+    plan.extend((0..others).map(|_| Step::VersionOfPoorest));
+    calls(plan, Kind::Hand, 2 + random.below(5));
+    match random.below(3) {
+        0 => calls(plan, Kind::Abort, others),
+        _ => calls(plan, Kind::Commit, others),
+    }
+}
+
+/// Cuts that find handovers stored and unstored.
+fn cut_handovers(plan: &mut Plan, random: &mut Random) {
+    for _ in 0..1 + random.below(3) {
+        calls(plan, Kind::Hand, 1 + random.below(6));
+        if random.percent(50) {
+            calls(plan, Kind::StoreLog, 1);
+            calls(plan, Kind::Hand, random.below(3));
+        }
+        calls(plan, Kind::Cut, 1);
+        calls(plan, Kind::AsOf, random.below(3));
+    }
+}
+
+/// All stored, so that log and places have room again.
+fn tidy(plan: &mut Plan, random: &mut Random) {
+    calls(plan, Kind::StoreLog, 1);
+    let pages = 1 + random.below(8);
+    plan.extend((0..pages).map(|_| Step::StoreDirtyPage));
+    calls(plan, Kind::StorePage, random.below(6));
+    calls(plan, Kind::Checkpoint, 3);
 }
 
 fn calls(plan: &mut Plan, kind: Kind, count: u64) {

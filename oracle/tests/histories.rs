@@ -14,15 +14,15 @@ use oracle::scripts::{script, stripbook_script, Options};
 #[test]
 fn histories_agree_with_the_book() {
     let mut all = Reached::default();
-    for seed in 0..280 {
+    for seed in 0..300 {
         match run_seed::<Sound>(seed, by_seed(seed), 1500, Strictness::All) {
             Ok(reached) => all.add(&reached),
             Err(found) => panic!("{}", report::<Sound>(seed, &found, Strictness::All)),
         }
     }
-    println!("{all:?}");
+    println!("{all:?}\n{}", all.handovers);
     // What a run can be refused for by a history, each at least once.
-    for refusal in [2, 4, 5, 6, 7, 8, 9, 10, 11, 12, 13, 14] {
+    for refusal in [2, 4, 5, 6, 7, 8, 9, 10, 11, 12, 13, 14, 17] {
         assert!(
             all.refusals[refusal] > 0,
             "refusal {refusal} never occurred"
@@ -33,6 +33,12 @@ fn histories_agree_with_the_book() {
     assert!(all.torn > 0 && all.none_matched > 0);
     assert!(all.places_reused > 0 && all.begun_over_dead > 0);
     assert!(all.unstored > 0 && all.asked_again > 0);
+    // And every refusal that a handover can answer in a run, in profiles of all kinds.
+    for refusal in [4, 6, 7, 8, 9, 17] {
+        let count = all.handovers.refused[refusal];
+        assert!(count > 0, "no handover was refused {refusal}");
+    }
+    assert!(all.handovers.handed > 5000 && all.handovers.stored > 200);
 }
 
 #[test]

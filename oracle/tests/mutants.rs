@@ -8,7 +8,7 @@ use oracle::profiles::by_seed;
 use oracle::rules::*;
 use oracle::shrink::failure;
 
-const SEEDS: std::ops::Range<u64> = 0..70;
+const SEEDS: std::ops::Range<u64> = 0..75;
 const CALLS: u64 = 1500;
 
 /// The seeds on which the judge disagrees, each with its disagreement.

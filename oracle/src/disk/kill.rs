@@ -1,5 +1,6 @@
 //! Ended by SIGKILL at any moment, and exactly at a call: nothing that was answered is lost.
 
+use crate::disk::handed;
 use crate::disk::process::{Process, Setup};
 use crate::disk::room::{Change, Room, Turn};
 use crate::disk::same::save;
@@ -28,6 +29,9 @@ struct Tally {
     before: u64,
     formats: u64,
     inside_checkpoint: u64,
+    /// While a flight was handed over, at a random moment or a store's call, and in `handed`.
+    in_handover: u64,
+    handovers: u64,
     done: u64,
     not_done: u64,
     versions: u64,
@@ -35,7 +39,7 @@ struct Tally {
 }
 
 /// When the process is ended.
-enum Moment {
+pub enum Moment {
     /// So long after so many bytes of answers.
     After(usize, Duration),
     /// As the preloaded library is told, and what that allows.
@@ -56,10 +60,12 @@ pub fn run(setup: &Setup, effort: &Effort) -> Result<String, String> {
     for existing in [false, true] {
         formats(setup, existing, &mut tally)?;
     }
+    tally.handovers = handed::run(setup)?;
     Ok(format!(
         "kill: {} runs ended at a random moment (the call under way {} times done, {} times not, else without \
          a store), {} between the pwrite and the answer, {} before a pwrite, {} at a call of a format; \
-         {} of all inside a checkpoint; never half, {} stored versions found again and {} answers given \
+         {} of all inside a checkpoint, {} while a flight was handed over, and {} more at a call of a handover or \
+         of the store behind it; never half, {} stored versions found again and {} answers given \
          again, nothing lost",
         tally.random,
         tally.done,
@@ -68,6 +74,8 @@ pub fn run(setup: &Setup, effort: &Effort) -> Result<String, String> {
         tally.before,
         tally.formats,
         tally.inside_checkpoint,
+        tally.in_handover,
+        tally.handovers,
         tally.versions,
         tally.answers
     ))
@@ -184,6 +192,7 @@ fn round_of(
     };
     let fate = chain.killed(&lines, &printed, std::fs::read(path).ok(), allowed)?;
     tally.inside_checkpoint += u64::from(chain.inside_checkpoint() && fate != Fate::Idle);
+    tally.in_handover += u64::from(chain.in_handover);
     match (moment, fate) {
         (_, Fate::Idle) => {}
         (Moment::After(..), _) => {
@@ -205,7 +214,12 @@ fn round_of(
     Ok(fate)
 }
 
-fn run_until(setup: &Setup, path: &Path, text: &[u8], moment: &Moment) -> Result<Vec<u8>, String> {
+pub fn run_until(
+    setup: &Setup,
+    path: &Path,
+    text: &[u8],
+    moment: &Moment,
+) -> Result<Vec<u8>, String> {
     let mut command = setup.program(path);
     if let Moment::At(call, _) = moment {
         command.env("DISK_KILL", call);
@@ -236,7 +250,12 @@ fn killed(process: &mut Process) -> Result<(), String> {
 }
 
 /// A new process finds what the book says, and leaves the file alone.
-fn finds(setup: &Setup, path: &Path, chain: &mut Chain, random: &mut Random) -> Result<(), String> {
+pub fn finds(
+    setup: &Setup,
+    path: &Path,
+    chain: &mut Chain,
+    random: &mut Random,
+) -> Result<(), String> {
     let (text, wanted) = chain.questions(random)?;
     let got = ask(setup, path, &text)?;
     if got != wanted {
@@ -264,7 +283,7 @@ fn refuses(setup: &Setup, path: &Path) -> Result<(), String> {
     }
 }
 
-fn ask(setup: &Setup, path: &Path, text: &[u8]) -> Result<Vec<u8>, String> {
+pub fn ask(setup: &Setup, path: &Path, text: &[u8]) -> Result<Vec<u8>, String> {
     let mut process = setup.start(setup.program(path))?;
     let mut got = Vec::new();
     process.send(text);

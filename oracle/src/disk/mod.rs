@@ -2,6 +2,7 @@
 
 pub mod command;
 pub mod faults;
+pub mod handed;
 pub mod kill;
 pub mod launch;
 pub mod locks;

@@ -20,7 +20,7 @@ enum Way {
 }
 
 pub struct Effort {
-    /// Seeds of histories; a seed takes the profile at its rest by 14.
+    /// Seeds of histories; a seed takes the profile at its rest by 15.
     pub seeds: u64,
     pub calls: u64,
     pub damaged: u64,
@@ -48,10 +48,13 @@ pub fn run(setup: &Setup, effort: &Effort) -> Result<String, String> {
         stores,
         formats,
         processes,
+        handovers,
+        handover_stores,
     } = counts;
     Ok(format!(
         "same: {scripts} scripts, {processes} processes, {lines} lines: answers, calls and the file's bytes \
-         after each as the oracle's; {stores} stores of one block, {formats} formats"
+         after each as the oracle's; {stores} stores of one block, {formats} formats; {handovers} handovers, \
+         {handover_stores} with a store"
     ))
 }
 
@@ -71,7 +74,7 @@ fn history(
             ..Options::plain(seed, calls)
         });
         // Storing on a disk takes time, so most files lie in memory.
-        let on_disk = seed % 14 == 1 && !damage;
+        let on_disk = seed % 15 == 1 && !damage;
         let folder = if on_disk { &setup.disk } else { &setup.memory };
         let played = play(
             setup,

@@ -11,6 +11,9 @@ pub struct Counts {
     pub stores: u64,
     pub formats: u64,
     pub processes: u64,
+    /// Lines that hand a flight over, and those of them that store.
+    pub handovers: u64,
+    pub handover_stores: u64,
 }
 
 impl Counts {
@@ -19,6 +22,8 @@ impl Counts {
         self.stores += other.stores;
         self.formats += other.formats;
         self.processes += other.processes;
+        self.handovers += other.handovers;
+        self.handover_stores += other.handover_stores;
     }
 }
 
@@ -99,18 +104,22 @@ impl<'a> Session<'a> {
         for wanted in wanted {
             let read = reader.line(wanted.change, wanted.answer.len());
             read.map_err(|text| format!("{}: {text}", shown(wanted.line)))?;
-            self.count(wanted.change);
+            self.count(wanted);
         }
         reader.end()?;
         self.compare()
     }
 
-    fn count(&mut self, change: Change) {
+    fn count(&mut self, wanted: &Wanted) {
         self.counts.lines += 1;
-        match change {
+        match wanted.change {
             Change::Nothing => {}
             Change::Part { .. } => self.counts.stores += 1,
             Change::Whole { .. } => self.counts.formats += 1,
+        }
+        if hands(wanted.line) {
+            self.counts.handovers += 1;
+            self.counts.handover_stores += u64::from(wanted.change != Change::Nothing);
         }
     }
 
@@ -151,6 +160,11 @@ impl<'a> Session<'a> {
         self.counts.processes += 1;
         Ok(())
     }
+}
+
+/// Does a line hand a flight over?
+pub fn hands(line: &[u8]) -> bool {
+    line.starts_with(b"H ")
 }
 
 /// Where two files differ, in words.

@@ -2,7 +2,8 @@
 
 use crate::disk::program::{print, Program, Trouble, NOT_STORED, NOT_WRITTEN, NO_FILE};
 use crate::disk::room::{Change, Room};
-use crate::layout::{BLOCK, FIRST_LOG_BLOCK};
+use crate::disk::session::hands;
+use crate::layout::{log_block, BLOCK, FIRST_LOG_BLOCK};
 
 macro_rules! spoilt {
     ($($(#[$about:meta])* $kind:ident $name:literal,)*) => {
@@ -26,6 +27,8 @@ spoilt! {
     TwoHalves "two-halves",
     /// A block that the file's end cuts is written whole.
     PastEnd "past-end",
+    /// A handover is stored at once.
+    HandStored "hand-stored",
     WriteOnRead "write-on-read",
     WriteOnRefusal "write-on-refusal",
     WriteErrorIgnored "write-error-ignored",
@@ -103,6 +106,11 @@ impl Program {
                 }
                 print(&std::mem::take(&mut self.kept_back))
             }
+            Some(Spoilt::HandStored) if hands(line) => {
+                self.store(room, change)?;
+                self.store_tail(room)?;
+                print(text)
+            }
             Some(Spoilt::LateWrite) => {
                 self.write_late(room)?;
                 match change {
@@ -124,6 +132,15 @@ impl Program {
                 stored
             }
         }
+    }
+
+    fn store_tail(&self, room: &Room) -> Result<(), Trouble> {
+        let Some(state) = &room.machine.state else {
+            return Ok(());
+        };
+        let block = log_block(state.tail_sequence, state.log_blocks);
+        self.write(&state.tail, block * BLOCK)?;
+        self.sync()
     }
 
     fn overlook(&self, stored: Result<(), Trouble>) -> Result<(), Trouble> {

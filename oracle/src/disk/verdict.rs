@@ -1,7 +1,7 @@
 //! What a killed process left behind: judged by what it had printed, and by the book.
 
 use crate::disk::room::{Change, Room, Turn};
-use crate::disk::session::{difference, shown};
+use crate::disk::session::{difference, hands, shown};
 use crate::judge::{Judge, Strictness};
 use crate::layout::{all_zero, BLOCK};
 use crate::machine::{Line, Machine, Reply};
@@ -38,6 +38,8 @@ pub struct Chain {
     pub file: Option<Vec<u8>>,
     /// Answers of earlier processes that new ones were asked for.
     pub asked_again: u64,
+    /// The last kill came while a flight was handed over.
+    pub in_handover: bool,
 }
 
 impl Default for Chain {
@@ -46,6 +48,7 @@ impl Default for Chain {
             judge: Judge::new(Strictness::Book),
             file: None,
             asked_again: 0,
+            in_handover: false,
         }
     }
 }
@@ -70,6 +73,7 @@ impl Chain {
                 (fate.map_err(|text| at_line(done, line, &text))?, *line)
             }
         };
+        self.in_handover = hands(line);
         let formats = line.starts_with(b"F ");
         let fits = match fate {
             Fate::NotDone => allowed != Allowed::Done || formats,

@@ -38,7 +38,7 @@ type Test = (&'static str, fn(&Setup) -> Result<String, String>);
 
 const SAME: Test = ("same", |setup| {
     let effort = same::Effort {
-        seeds: 14,
+        seeds: 15,
         calls: 60,
         damaged: 1,
         odd: 30,

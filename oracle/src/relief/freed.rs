@@ -101,11 +101,21 @@ fn frees<R: Rules>(
         made.push(call);
     }
     let again = room.clone().call(refused);
-    demand(matches!(again, Reply::Answer(_)), || {
+    demand(goes_on(refused, &again), || {
         format!("{refused:?} is answered {again:?} after {made:?}")
     })?;
     all_stored(&mut room)?;
     Ok(made)
+}
+
+/// The call is done. A handover is several: where its write was refused 8, its commit may find no time
+/// left, and where its commit was, its version may have taken the last slot.
+fn goes_on(refused: &Line, again: &Reply) -> bool {
+    match (refused, again) {
+        (_, Reply::Answer(_)) => true,
+        (Line::Hand(_), Reply::Refused(why)) => [NO_TIME_LEFT, NO_SLOT_LEFT].contains(why),
+        _ => false,
+    }
 }
 
 /// "the log if it differs, each page that differs": none does any more.
