@@ -187,8 +187,8 @@ calling call v (ready l d m c s) = called (planOf call .letter) l d (outcomeOf c
 unfoldable pub handed : ℕ → ℕ → HandOutcome → Turn
 handed l d o = record { room = ready l d (o .medium) (o .cache) (o .state); text = handedText (o .answer) }
 
--- replay, `H`: "hand the flight over from one sector to the other": on a room; one that is not opened stays, for it does not
--- play the line
+-- replay, `H`: "hand the flight over from one sector to the other": on a room; one that is not opened stays, for it does
+-- not play the line
 unfoldable pub handing : Transfer → Room → Turn
 handing h gone = record { room = gone; text = [] }
 handing h (shut l d m) = record { room = shut l d m; text = [] }

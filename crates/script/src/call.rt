@@ -7,7 +7,7 @@ ghost use Prim.Native.Nat.{_≤_};
 ghost use Rattle.script.specs.Reader.{wide, lastWord};
 ghost use Rattle.script.specs.Replay.{plain as Replay·plain, wordless as Replay·wordless, oneNumber, twoNumbers, twoWords, writeBy, fourNumbers, fiveNumbers, manyWords, meaningOf};
 
-// A call, a cut, or one of the lines that look at the bytes or put one; a write's value stands beside it.
+// A call, a handover, a cut, or one of the lines that look at the bytes or put one; a write's value stands beside it.
 pub enum Call {
     Format(u64, u64),
     Open(u8),
