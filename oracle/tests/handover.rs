@@ -49,6 +49,18 @@ fn fill(count: u64) -> Vec<(String, String)> {
     lines
 }
 
+/// Stores of two pages and a checkpoint, which free the log.
+fn free() -> Vec<(String, String)> {
+    pairs(&[
+        ("S", "S 0 0"),
+        ("P 0", "P 0 0"),
+        ("P 1", "P 0 0"),
+        ("K", "K 0 0"),
+        ("K", "K 0 0"),
+        ("K", "K 0 0"),
+    ])
+}
+
 #[test]
 fn handed_at_the_time_of_the_rule() {
     let lines = pairs(&[
@@ -206,12 +218,9 @@ fn eight_at_the_commit_leaves_a_version() {
         ("W 2 8 S9", "W 8 -"),
         ("C 2 1", "C 8 -"),
         ("H 7 1 2 1 1", "H 8 -"),
-        ("S", "S 0 0"),
-        ("P 0", "P 0 0"),
-        ("P 1", "P 0 0"),
-        ("K", "K 0 0"),
-        ("K", "K 0 0"),
-        ("K", "K 0 0"),
+    ]));
+    lines.extend(free());
+    lines.extend(pairs(&[
         ("B 1", "B 0 5"),
         ("R 5 7", "R 0 S1"),
         ("W 5 8 S9", "W 0 29"),
@@ -228,12 +237,9 @@ fn eight_at_the_write_leaves_its_number_used() {
         ("H 7 2 2 1 1", "H 17 -"),
         ("A 3", "A 5 -"),
         ("R 2 7", "R 0 S1"),
-        ("S", "S 0 0"),
-        ("P 0", "P 0 0"),
-        ("P 1", "P 0 0"),
-        ("K", "K 0 0"),
-        ("K", "K 0 0"),
-        ("K", "K 0 0"),
+    ]));
+    lines.extend(free());
+    lines.extend(pairs(&[
         ("H 7 1 2 1 1", "H 0 11"),
         ("B 1", "B 0 6"),
         ("W 6 8 S9", "W 0 30"),
