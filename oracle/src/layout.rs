@@ -25,6 +25,7 @@ pub const PRESENT: u8 = 0;
 pub const ERASED: u8 = 1;
 
 pub type Value = [u8; 16];
+pub type RecordNumber = u8;
 
 pub fn get16(bytes: &[u8], at: usize) -> u16 {
     u16::from_le_bytes([bytes[at], bytes[at + 1]])
@@ -140,6 +141,10 @@ pub fn slot_state(slot: &[u8]) -> Slot {
 pub fn stamp(slot: &mut [u8], time: u64) {
     slot[0] = 2;
     put64(slot, 8, time);
+}
+
+pub fn slot_record(slot: &[u8]) -> RecordNumber {
+    slot[1]
 }
 
 pub fn slot_value(slot: &[u8]) -> Value {

@@ -19,6 +19,7 @@ pub mod journal;
 pub mod judge;
 pub mod layout;
 pub mod machine;
+pub mod media;
 pub mod open;
 pub mod pages;
 pub mod profiles;

@@ -12,7 +12,7 @@ use oracle::relief::freed::{self, WayOut};
 use oracle::relief::{room, rooms, same};
 use oracle::rules::Sound;
 use oracle::scripts::{self, Options};
-use oracle::{script, stripbook};
+use oracle::{media, script, stripbook};
 use std::io::{Read, Write};
 use std::path::Path;
 use std::process::ExitCode;
@@ -37,6 +37,8 @@ oracle relief expect           what it must print for the rooms of standard inpu
 oracle relief same PROGRAM --seeds A-B    compares the program with that
 oracle striproom [--spoilt NAME] FILE [FD]    the stand-in for striproom
 oracle disk same|kill|faults|spoilt PROGRAM LAUNCHER    tests of striproom
+oracle media slots FILE        what an opening finds in the medium's slots
+oracle media probe FILE        a script that opens and reads it
 oracle profiles                lists the profiles, by the seeds that take them";
 
 struct Arguments(Vec<String>);
@@ -95,6 +97,7 @@ fn main() -> ExitCode {
         "damage" => run_damage(&arguments),
         "relief" => run_relief(&arguments),
         "disk" => command::run(&arguments.0).and_then(|text| print(format!("{text}\n").as_bytes())),
+        "media" => run_media(&arguments.0),
         "profiles" => list_profiles(),
         _ => Err(USAGE.into()),
     };
@@ -260,6 +263,18 @@ fn tally_relief(arguments: &Arguments) -> Result<freed::Tally, String> {
         }
     }
     Ok(all)
+}
+
+fn run_media(words: &[String]) -> Result<(), String> {
+    let [what, file] = words else {
+        return Err(USAGE.into());
+    };
+    let medium = std::fs::read(file).map_err(|error| format!("{file}: {error}"))?;
+    match what.as_str() {
+        "slots" => print(media::slots(medium).as_bytes()),
+        "probe" => print(&media::probe(medium)),
+        _ => Err(USAGE.into()),
+    }
 }
 
 fn list_profiles() -> Result<(), String> {
