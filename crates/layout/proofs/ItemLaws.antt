@@ -11,7 +11,8 @@ use lib.Dec.{eqb, leb, ltb}
 use borrow.Author.Tests.{ne-eqb, eq-eqb, le-ltb, le-leb, leb-true, ltb-false, eqb-true}
 use Rattle.fields.specs.Field.{enc, dec}
 use Rattle.fields.specs.Part.{part}
-use Rattle.layout.specs.Item.{itemBytes, itemOf, byTag, ofLength, headOf, pairOf, versionItem, commitItem, numberItem}
+use Rattle.layout.specs.Item.{bytesOf, tagOf, itemBytes, itemOf, byTag, ofLength, headOf, pairOf, versionItem, commitItem, numberItem}
+use Rattle.layout.specs.declared.item.Width.the-variants.{One, Two}
 use Rattle.layout.specs.declared.item.VersionHead.{VersionHead}
 use Rattle.layout.specs.declared.item.Pair.{Pair}
 use Rattle.layout.specs.declared.item.Area.{Area}
@@ -43,7 +44,7 @@ widthOf tag = cond (leb tag 2) 2 8
 
 abbrev pub Told : Area → List ℕ → Item → Type 0
 Told a bs End = bs ≡ []
-Told a bs (Version h) = Holds bs 1 30 × (h ≡ headOf (drop 3 bs))
+Told a bs (Version h) = Holds bs (tagOf (h .width)) (29 + bytesOf (h .width)) × (h ≡ headOf (h .width) (drop 3 bs))
 Told a bs (Commit p) = Holds bs 2 16 × (p ≡ pairOf (drop 3 bs))
 Told a bs (Number t n) = (t ≤ 5) × Holds bs t (widthOf t) × (n ≡ dec (part bs 3 (widthOf t)))
 Told a bs Damaged = Unit {0}
@@ -64,13 +65,13 @@ of-length bs a tag want i s t f =
     })) (λ _. tt)) (λ _. tt)
 
 pub told : (a : Area) (bs : List ℕ) → Told a bs (itemOf a bs)
-unfolding itemOf byTag versionItem commitItem numberItem
+unfolding itemOf byTag versionItem commitItem numberItem headOf bytesOf tagOf
 told Journal bs =
     let P = Told Journal bs in
     cond-elim P (eqb (length bs) 0) (λ t. empty-is bs (eqb-true (length bs) 0 t)) (λ _. cond-elim P (ltb (length bs) 3) (λ _. tt) (λ s.
-    cond-elim P (eqb (getD bs 0 0) 1) (λ t. of-length bs Journal 1 30 (Version (headOf (drop 3 bs))) s t (λ h. (h, refl))) (λ _.
+    cond-elim P (eqb (getD bs 0 0) 1) (λ t. of-length bs Journal 1 30 (Version (headOf One (drop 3 bs))) s t (λ h. (h, refl))) (λ _.
     cond-elim P (eqb (getD bs 0 0) 2) (λ t. of-length bs Journal 2 16 (Commit (pairOf (drop 3 bs))) s t (λ h. (h, refl))) (λ _.
-    cond-elim P (eqb (getD bs 0 0) 3) (λ _. tt) (λ _.
+    cond-elim P (eqb (getD bs 0 0) 3) (λ t. of-length bs Journal 3 31 (Version (headOf Two (drop 3 bs))) s t (λ h. (h, refl))) (λ _.
     cond-elim P (eqb (getD bs 0 0) 4) (λ _. tt) (λ _.
     cond-elim P (eqb (getD bs 0 0) 5) (λ _. tt) (λ _. tt)))))))
 told Master bs =
@@ -85,7 +86,7 @@ told Master bs =
 -- the bytes that an item takes lie within the bytes
 abbrev pub sizeOf : Item → ℕ
 sizeOf End = 0
-sizeOf (Version h) = 33
+sizeOf (Version h) = 32 + bytesOf (h .width)
 sizeOf (Commit p) = 19
 sizeOf (Number t n) = 3 + widthOf t
 sizeOf Damaged = 0
@@ -95,12 +96,13 @@ item-fits a bs = fits (itemOf a bs) (told a bs)
   where
     fits : (i : Item) → Told a bs i → sizeOf i ≤ length bs
     fits End t = omega arith
-    fits (Version h) t = t .0 .room
+    fits (Version h) t = omega (arith, t .0 .room)
     fits (Commit p) t = t .0 .room
     fits (Number n v) t = t .1 .room
     fits Damaged t = omega arith
 
-pub version-told : (a : Area) (bs : List ℕ) (h : VersionHead) → itemOf a bs ≡ Version h → Holds bs 1 30 × (h ≡ headOf (drop 3 bs))
+pub version-told : (a : Area) (bs : List ℕ) (h : VersionHead) → itemOf a bs ≡ Version h
+    → Holds bs (tagOf (h .width)) (29 + bytesOf (h .width)) × (h ≡ headOf (h .width) (drop 3 bs))
 version-told a bs h e = rw e at (told a bs)
 
 pub commit-told : (a : Area) (bs : List ℕ) (p : Pair) → itemOf a bs ≡ Commit p → Holds bs 2 16 × (p ≡ pairOf (drop 3 bs))

@@ -328,6 +328,7 @@ unfolding pageCells
 sized-pageCells p n b u =
     each-from SlotSized p 0 (pageUsed p) (λ j h. cell-sized (pageSlot p j) (length-pageSlot p j n (omega arith)) (bytes-pageSlot p j b))
 
-pub holds-pageCells : (p : List ℕ) → PageForm p → Each SlotHolds (pageCells p)
+pub holds-pageCells : (p : List ℕ) → Bytes p → PageForm p → Each SlotHolds (pageCells p)
 unfolding pageCells
-holds-pageCells p f = each-from SlotHolds p 0 (pageUsed p) (λ j h. cell-holds (pageSlot p j) (f .holds j (omega arith)))
+holds-pageCells p b f =
+    each-from SlotHolds p 0 (pageUsed p) (λ j h. cell-holds (pageSlot p j) (bytes-pageSlot p j b) (f .holds j (omega arith)))

@@ -1,6 +1,6 @@
 -- The records of a row of bytes: each step of `parse`, that enough fuel is enough, that what was written is read back, and
 -- that what is read whole and written again is the same bytes. By induction on the fuel. Assumes nothing.
-use mathlib.Core.Path.{_≡_, refl, sym, ap, _∙_}
+use mathlib.Core.Path.{_≡_, refl, sym, ap, _∙_, subst}
 use mathlib.Core.Bool.{true}
 use Prim.Native.Nat.{ℕ, zero, suc, _+_, _-_, _≤_, _<_}
 use native.Mathlib.Omega.{arith}
@@ -8,8 +8,9 @@ use mathlib.Core.List.{List, [], _∷_, _++_}
 use lib.ListN.{length, take, drop, length-append, length-drop, take-append-drop}
 use lib.Seq.{drop-drop, drop-at}
 use Rattle.fields.specs.Cells.{flat}
-use Rattle.layout.specs.Item.{itemOf, headOf, pairOf, valueOf}
+use Rattle.layout.specs.Item.{bytesOf, tagOf, itemBytes, itemOf, headOf, pairOf, valueOf}
 use Rattle.layout.specs.Journal.{Record, version, commit, versionBody, recordBytes, recordSize, Parsed, onward, parseMore, parse}
+use Rattle.layout.specs.declared.item.VersionHead.{VersionHead}
 use Rattle.layout.specs.declared.item.Area.the-variants.{Journal}
 use Rattle.layout.specs.declared.item.Item.{Item}
 use Rattle.layout.specs.declared.item.Item.the-variants.{End, Version, Commit, Number, Damaged}
@@ -31,7 +32,8 @@ parse-at bs k at e h g r =
 -- fuel above the length is enough
 more-same : (bs : List ℕ) (i : Item) (f g : ℕ → Parsed) → Told Journal bs i → ((n : ℕ) → 0 < n → n ≤ length bs → f n ≡ g n) → parseMore i bs f ≡ parseMore i bs g
 more-same bs End f g t e = refl
-more-same bs (Version h) f g t e = ap (onward (version h (valueOf (drop 3 bs)))) (e 33 (omega arith) (t .0 .room))
+more-same bs (Version h) f g t e =
+    ap (onward (version h (valueOf (h .width) (drop 3 bs)))) (e (32 + bytesOf (h .width)) (omega arith) (omega (arith, t .0 .room)))
 more-same bs (Commit p) f g t e = ap (onward (commit p)) (e 19 (omega arith) (t .0 .room))
 more-same bs (Number n v) f g t e = refl
 more-same bs Damaged f g t e = refl
@@ -53,9 +55,10 @@ value-fits (commit p) s = tt
 pub parse-cons : (k : ℕ) (r : Record) (z : List ℕ) → RecordSized r → parse (suc k) (recordBytes r ++ z) ≡ onward r (parse k z)
 unfolding parse recordBytes recordSize
 parse-cons k (version h v) z s =
-    let n : length (recordBytes (version h v)) ≡ 33 = length-recordBytes (version h v) (s .size) in
-    let w : valueOf (drop 3 (recordBytes (version h v) ++ z)) ≡ v = ap valueOf (content-back 1 (versionBody h v) z) ∙ value-back h v z s in
-    rw (version-back h v z s, w, drop-at (recordBytes (version h v)) z 33 n)
+    let n : length (recordBytes (version h v)) ≡ 32 + bytesOf (h .width) = length-recordBytes (version h v) (s .size) in
+    let w : valueOf (h .width) (drop 3 (recordBytes (version h v) ++ z)) ≡ v =
+    ap (valueOf (h .width)) (content-back (tagOf (h .width)) (versionBody h v) z) ∙ value-back h v z s in
+    rw (version-back h v z s, w, drop-at (recordBytes (version h v)) z (32 + bytesOf (h .width)) n)
 parse-cons k (commit p) z s = rw (commit-back p z s, drop-at (recordBytes (commit p)) z 19 (length-recordBytes (commit p) tt))
 
 size-some : (r : Record) → 0 < recordSize r
@@ -81,8 +84,13 @@ again : (bs : List ℕ) (i : Item) (f : ℕ → Parsed) → Bytes bs → Told Jo
 unfolding flat recordBytes
 again bs End f b t e w = sym t
 again bs (Version h) f b t e w =
-    let l : 30 ≤ length (drop 3 bs) = omega (arith, t .0 .room, length-drop 3 bs) in
-    rw (t .1, version-again (drop 3 bs) (bytes-drop 3 bs b) l, item-again bs 1 30 b (t .0), e 33 w) (take-append-drop 33 bs)
+    let n = 29 + bytesOf (h .width) in
+    let l : n ≤ length (drop 3 bs) = omega (arith, t .0 .room, length-drop 3 bs) in
+    let k : 3 + n ≡ 32 + bytesOf (h .width) = omega arith in
+    let r : itemBytes (tagOf (h .width)) (versionBody h (valueOf (h .width) (drop 3 bs))) ≡ take (32 + bytesOf (h .width)) bs =
+    ap (λ (x : VersionHead). itemBytes (tagOf (h .width)) (versionBody x (valueOf (h .width) (drop 3 bs)))) (t .1)
+    ∙ rw (version-again (h .width) (drop 3 bs) (bytes-drop 3 bs b) l) (item-again bs (tagOf (h .width)) n b (t .0) ∙ ap (λ (j : ℕ). take j bs) k) in
+    rw (r, e (32 + bytesOf (h .width)) w) (take-append-drop (32 + bytesOf (h .width)) bs)
 again bs (Commit p) f b t e w =
     let l : 16 ≤ length (drop 3 bs) = omega (arith, t .0 .room, length-drop 3 bs) in
     rw (t .1, commit-again (drop 3 bs) (bytes-drop 3 bs b) l, item-again bs 2 16 b (t .0), e 19 w) (take-append-drop 19 bs)
@@ -100,8 +108,9 @@ all-sized : (bs : List ℕ) (i : Item) (f : ℕ → Parsed) → Bytes bs → Tol
     → ((n : ℕ) → Each RecordSized (f n .records)) → Each RecordSized (parseMore i bs f .records)
 all-sized bs End f b t e = tt
 all-sized bs (Version h) f b t e =
-    let s : VersionSized (headOf (drop 3 bs)) (valueOf (drop 3 bs)) = version-sized (drop 3 bs) (bytes-drop 3 bs b) (omega (arith, t .0 .room, length-drop 3 bs)) in
-    (rw (t .1) s, e 33)
+    let v = valueOf (h .width) (drop 3 bs) in
+    let s : VersionSized (headOf (h .width) (drop 3 bs)) v = version-sized (h .width) (drop 3 bs) (bytes-drop 3 bs b) (omega (arith, t .0 .room, length-drop 3 bs)) in
+    (subst (λ (x : VersionHead). VersionSized x v) (sym (t .1)) s, e (32 + bytesOf (h .width)))
 all-sized bs (Commit p) f b t e =
     let s : PairSized (pairOf (drop 3 bs)) = pair-sized (drop 3 bs) (bytes-drop 3 bs b) (omega (arith, t .0 .room, length-drop 3 bs)) in
     (rw (t .1) s, e 19)

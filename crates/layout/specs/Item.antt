@@ -6,6 +6,8 @@ use lib.ListN.{length, getD, drop}
 use lib.Dec.{eqb, leb, ltb}
 use Rattle.fields.specs.Field.{enc, dec}
 use Rattle.fields.specs.Part.{part}
+use Rattle.layout.specs.declared.item.Width.{Width}
+use Rattle.layout.specs.declared.item.Width.the-variants.{One, Two}
 use Rattle.layout.specs.declared.item.VersionHead.{VersionHead}
 use Rattle.layout.specs.declared.item.Pair.{Pair}
 use Rattle.layout.specs.declared.item.Area.{Area}
@@ -17,18 +19,30 @@ use Rattle.layout.specs.declared.item.Item.the-variants.{End, Version, C
 unfoldable pub itemBytes : ℕ → List ℕ → List ℕ
 itemBytes tag content = tag ∷ (enc 2 (length content) ++ content)
 
--- 01: "version, body 30 bytes: slot (2), record number (1), kind (1), earlier slot (2), transaction number (8), value (16)"
-unfoldable pub headOf : List ℕ → VersionHead
-headOf b = record {
+-- 01: "record number (1)"; 02, #104: "log tag 3 is a version record with a two-byte record number": the bytes of the number
+unfoldable pub bytesOf : Width → ℕ
+bytesOf One = 1
+bytesOf Two = 2
+
+-- 01: "Tag 1, version"; 02, #104: "log tag 3 is a version record with a two-byte record number"
+unfoldable pub tagOf : Width → ℕ
+tagOf One = 1
+tagOf Two = 3
+
+-- 01: "version, body 30 bytes: slot (2), record number (1), kind (1), earlier slot (2), transaction number (8), value (16)";
+-- 02, #104: "a two-byte record number (body 31)"
+unfoldable pub headOf : Width → List ℕ → VersionHead
+headOf w b = record {
+  width = w;
   slot = dec (part b 0 2);
-  key = getD b 2 0;
-  kind = getD b 3 0;
-  earlier = dec (part b 4 2);
-  number = record { 0 = dec (part b 6 8) };
+  key = dec (part b 2 (bytesOf w));
+  kind = getD b (2 + bytesOf w) 0;
+  earlier = dec (part b (3 + bytesOf w) 2);
+  number = record { 0 = dec (part b (5 + bytesOf w) 8) };
 }
 
-unfoldable pub valueOf : List ℕ → List ℕ
-valueOf b = part b 14 16
+unfoldable pub valueOf : Width → List ℕ → List ℕ
+valueOf w b = part b (13 + bytesOf w) 16
 
 -- 01: "commit, body 16: number, time"
 unfoldable pub pairOf : List ℕ → Pair
@@ -45,18 +59,19 @@ byArea Master j m = m
 unfoldable pub numberItem : ℕ → ℕ → ℕ → List ℕ → Item
 numberItem tag want len body = ofLength want len body (Number tag (dec (part body 0 want)))
 
-unfoldable pub versionItem : ℕ → List ℕ → Item
-versionItem len body = ofLength 30 len body (Version (headOf body))
+unfoldable pub versionItem : Width → ℕ → List ℕ → Item
+versionItem w len body = ofLength (29 + bytesOf w) len body (Version (headOf w body))
 
 unfoldable pub commitItem : ℕ → List ℕ → Item
 commitItem len body = ofLength 16 len body (Commit (pairOf body))
 
--- 01: log tags 1 version, 2 commit; master tags 1: L, 2 bytes, 2: D, 2 bytes, 3, 4 and 5: 8 bytes; any other is damage
+-- 01: log tags 1 version, 2 commit; master tags 1: L, 2 bytes, 2: D, 2 bytes, 3, 4 and 5: 8 bytes; any other is damage;
+-- 02, #104: log tag 3 version
 unfoldable pub byTag : Area → ℕ → ℕ → List ℕ → Item
 byTag a tag len body =
-    cond (eqb tag 1) (byArea a (versionItem len body) (numberItem 1 2 len body))
+    cond (eqb tag 1) (byArea a (versionItem One len body) (numberItem 1 2 len body))
     (cond (eqb tag 2) (byArea a (commitItem len body) (numberItem 2 2 len body))
-    (cond (eqb tag 3) (byArea a Damaged (numberItem 3 8 len body))
+    (cond (eqb tag 3) (byArea a (versionItem Two len body) (numberItem 3 8 len body))
     (cond (eqb tag 4) (byArea a Damaged (numberItem 4 8 len body))
     (cond (eqb tag 5) (byArea a Damaged (numberItem 5 8 len body))
     Damaged))))

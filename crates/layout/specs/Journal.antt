@@ -9,8 +9,8 @@ use Rattle.fields.specs.Part.{part, splice}
 use Rattle.fields.specs.Equal.{allZero}
 use Rattle.fields.specs.Block.{zeros}
 use Rattle.fields.specs.Cells.{flat}
-use Rattle.layout.specs.Slot.{kindForm}
-use Rattle.layout.specs.Item.{itemBytes, itemOf, valueOf}
+use Rattle.layout.specs.Slot.{keyForm, kindForm}
+use Rattle.layout.specs.Item.{bytesOf, tagOf, itemBytes, itemOf, valueOf}
 use Rattle.layout.specs.Table.{pairBytes}
 use Rattle.layout.specs.declared.item.VersionHead.{VersionHead}
 use Rattle.layout.specs.declared.item.Pair.{Pair}
@@ -24,16 +24,17 @@ pub data Record : Type 0 where
   commit : Pair → Record
 
 unfoldable pub versionBody : VersionHead → List ℕ → List ℕ
-versionBody h v = enc 2 (h .slot) ++ (h .key ∷ h .kind ∷ (enc 2 (h .earlier) ++ (enc 8 (h .number .0) ++ v)))
+versionBody h v =
+    enc 2 (h .slot) ++ (enc (bytesOf (h .width)) (h .key) ++ (h .kind ∷ (enc 2 (h .earlier) ++ (enc 8 (h .number .0) ++ v))))
 
--- 01: "Tag 1, version", "Tag 2, commit"
+-- 01: "Tag 1, version", "Tag 2, commit"; 02, #104: tag 3, version
 unfoldable pub recordBytes : Record → List ℕ
-recordBytes (version h v) = itemBytes 1 (versionBody h v)
+recordBytes (version h v) = itemBytes (tagOf (h .width)) (versionBody h v)
 recordBytes (commit p) = itemBytes 2 (pairBytes p)
 
--- 01: "A record is tag, length, body": 3 + 30 bytes, 3 + 16 bytes
+-- 01: "A record is tag, length, body": 3 + 30 bytes, 3 + 16 bytes; 02, #104: "records of 34 bytes"
 unfoldable pub recordSize : Record → ℕ
-recordSize (version h v) = 33
+recordSize (version h v) = 32 + bytesOf (h .width)
 recordSize (commit p) = 19
 
 -- 01: "sequence (8 bytes), used bytes counted from the block's start (2, from 10 to 512), records, zeros"
@@ -58,7 +59,8 @@ onward r p = record { records = r ∷ p .records; whole = p .whole }
 
 abbrev pub parseMore : Item → List ℕ → (ℕ → Parsed) → Parsed
 parseMore End bs rest = record { records = []; whole = true }
-parseMore (Version h) bs rest = onward (version h (valueOf (drop 3 bs))) (rest 33)
+parseMore (Version h) bs rest =
+    onward (version h (valueOf (h .width) (drop 3 bs))) (rest (32 + bytesOf (h .width)))
 parseMore (Commit p) bs rest = onward (commit p) (rest 19)
 parseMore (Number t n) bs rest = record { records = []; whole = false }
 parseMore Damaged bs rest = record { records = []; whole = false }
@@ -87,7 +89,7 @@ addRecord b r = splice (splice b (usedOf b) (recordBytes r)) 8 (enc 2 (usedOf b 
 unfoldable pub usedForm : List ℕ → Bool
 usedForm b = leb 10 (usedOf b) && (leb (usedOf b) 512 && allZero (drop (usedOf b) b))
 
--- kind and erased value of a version record
+-- kind and erased value of a version record; 02, #104: "Record numbers become two bytes, 0 to 1,023"
 unfoldable pub recordForm : Record → Bool
-recordForm (version h v) = kindForm (h .kind) v
+recordForm (version h v) = keyForm (h .key) && kindForm (h .kind) v
 recordForm (commit p) = true

@@ -2,14 +2,21 @@
 use crate::CommitTime;
 use crate::TxNumber;
 ghost use mathlib.Core.Path.{_≡_};
-ghost use Prim.Native.Nat.{_≤_, _<_};
+ghost use Prim.Native.Nat.{_+_, _≤_, _<_};
 ghost use lib.ListN.{length};
-ghost use Rattle.layout.specs.Item.{headOf, pairOf, itemOf, numberItem, versionItem, commitItem};
+ghost use Rattle.layout.specs.Item.{bytesOf, tagOf, headOf, pairOf, itemOf, numberItem, versionItem, commitItem};
+
+// How many bytes the record number takes in a version record: one under tag 1, two under tag 3.
+pub enum Width {
+    One,
+    Two,
+}
 
 // The fields of a version record but for its value, which stays where it lies. A key is a record number.
 pub struct VersionHead {
+    pub width: Width,
     pub slot: u64,
-    pub key: u8,
+    pub key: u16,
     pub kind: u8,
     pub earlier: u64,
     pub number: TxNumber,
@@ -35,17 +42,39 @@ pub enum Item {
     Damaged,
 }
 
-// The fields of a version record's body.
-pub fn version_head(body: &[u8]) -> VersionHead
-    requires { ⌜ 30 ≤ length (now body) ⌝ }
-    ensures { λ r. ⌜ r ≡ headOf (now (body .entry)) ⌝ }
+// The bytes of a record number.
+pub fn bytes(width: Width) -> usize
+    ensures { λ r. ⌜ r ≡ bytesOf width ⌝ }
 {
+    match width {
+        Width::One => 1,
+        Width::Two => 2,
+    }
+}
+
+// The tag of a version record.
+pub(crate) fn tag(width: Width) -> u8
+    ensures { λ r. ⌜ r ≡ tagOf width ⌝ }
+{
+    match width {
+        Width::One => 1,
+        Width::Two => 3,
+    }
+}
+
+// The fields of a version record's body.
+fn version_head(width: Width, body: &[u8]) -> VersionHead
+    requires { ⌜ 29 + bytesOf width ≤ length (now body) ⌝ }
+    ensures { λ r. ⌜ r ≡ headOf width (now (body .entry)) ⌝ }
+{
+    let n = bytes(width);
     VersionHead {
+        width: width,
         slot: fields::field::get2(body, 0),
-        key: body[2],
-        kind: body[3],
-        earlier: fields::field::get2(body, 4),
-        number: TxNumber(fields::field::get8(body, 6)),
+        key: fields::field::get(&body[2..2 + n]) as u16,
+        kind: body[2 + n],
+        earlier: fields::field::get2(body, 3 + n),
+        number: TxNumber(fields::field::get8(body, 5 + n)),
     }
 }
 
@@ -60,16 +89,17 @@ pub fn read_pair(body: &[u8]) -> Pair
     }
 }
 
-fn version_item(len: u64, body: &[u8]) -> Item
-    ensures { λ r. ⌜ r ≡ versionItem len (now (body .entry)) ⌝ }
+fn version_item(width: Width, len: u64, body: &[u8]) -> Item
+    ensures { λ r. ⌜ r ≡ versionItem width len (now (body .entry)) ⌝ }
 {
-    if len != 30 {
+    let want = 29 + bytes(width);
+    if len != want as u64 {
         return Item::Damaged;
     }
-    if body.len() < 30 {
+    if body.len() < want {
         return Item::Damaged;
     }
-    Item::Version(version_head(body))
+    Item::Version(version_head(width, body))
 }
 
 fn commit_item(len: u64, body: &[u8]) -> Item
@@ -113,7 +143,7 @@ pub fn read(area: Area, bytes: &[u8]) -> Item
     let body = &bytes[3..];
     match tag {
         1 => match area {
-            Area::Journal => version_item(len, body),
+            Area::Journal => version_item(Width::One, len, body),
             Area::Master => number_item(1, 2, len, body),
         },
         2 => match area {
@@ -121,7 +151,7 @@ pub fn read(area: Area, bytes: &[u8]) -> Item
             Area::Master => number_item(2, 2, len, body),
         },
         3 => match area {
-            Area::Journal => Item::Damaged,
+            Area::Journal => version_item(Width::Two, len, body),
             Area::Master => number_item(3, 8, len, body),
         },
         4 => match area {

@@ -3,7 +3,7 @@ use crate::CommitTime;
 use crate::TxNumber;
 ghost use mathlib.Core.Path.{_≡_};
 ghost use lib.ListN.{length};
-ghost use Rattle.layout.specs.Slot.{slotState, slotBytes, stamped, kindForm, slotForm};
+ghost use Rattle.layout.specs.Slot.{slotState, slotKey, slotBytes, stamped, kindForm, slotForm};
 ghost use Rattle.layout.specs.declared.slot.Slot.the-variants.{Waiting};
 
 pub enum Slot {
@@ -25,11 +25,19 @@ pub fn read(slot: &[u8]) -> Slot
     }
 }
 
+// The record number of a slot, of which byte 3 is the high byte.
+pub fn key(slot: &[u8]) -> u16
+    requires { ⌜ length (now slot) ≡ 32 ⌝ }
+    ensures { λ r. ⌜ r ≡ slotKey (now (slot .entry)) ⌝ }
+{
+    slot[1] as u16 + 256 * slot[3] as u16
+}
+
 // Writes a version that waits under a number.
 pub fn write_waiting(
     slot: &mut [u8],
     number: TxNumber,
-    key: u8,
+    key: u16,
     kind: u8,
     earlier: u64,
     value: &[u8],
@@ -39,9 +47,9 @@ pub fn write_waiting(
     ensures { λ _. ⌜ now (slot .exit) ≡ slotBytes (record { state = Waiting number; key = key; kind = kind; earlier = earlier; value = now (value .entry) }) ⌝ }
 {
     slot[0] = 1;
-    slot[1] = key;
+    slot[1] = (key % 256) as u8;
     slot[2] = kind;
-    slot[3] = 0;
+    slot[3] = (key / 256) as u8;
     fields::field::put2(slot, 4, earlier);
     slot[6] = 0;
     slot[7] = 0;
@@ -79,7 +87,7 @@ pub fn in_form(slot: &[u8]) -> bool
     if slot[0] != 1 && slot[0] != 2 {
         return false;
     }
-    if slot[3] != 0 {
+    if 3 < slot[3] {
         return false;
     }
     if !fields::block::all_zero(&slot[6..8]) {

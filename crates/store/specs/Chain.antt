@@ -28,7 +28,8 @@ isVersion Empty = false
 isVersion (Waiting n) = true
 isVersion (Stamped t) = true
 
--- 01: "Slot bytes: 0 state, 1 record number": does slot n hold a version with this key?
+-- 01: "Slot bytes: 0 state, 1 record number"; 02, #104: "slot byte 3 is the high byte": does slot n hold a version with this
+-- key?
 unfoldable pub versionOf : List ℕ → ℕ → ℕ → Bool
 versionOf c key n = isVersion (cellAt c n .state) && eqb (cellAt c n .key) key
 

@@ -10,9 +10,9 @@ use Rattle.fields.specs.Part.{splice}
 use Rattle.fields.specs.Equal.{eqList}
 use Rattle.fields.specs.Block.{zeros}
 use Rattle.fields.specs.Cells.{flat}
-use Rattle.layout.specs.Slot.{Cell}
+use Rattle.layout.specs.Slot.{Cell, keyForm}
 use Rattle.store.specs.declared.Refusal.{Refusal}
-use Rattle.store.specs.declared.Refusal.the-variants.{Unfit, NotYet, ShortBuffer}
+use Rattle.store.specs.declared.Refusal.the-variants.{Unfit, NoRecord, NotYet, ShortBuffer}
 use Rattle.store.specs.declared.Answer.the-variants.{Refused, Listed}
 use Rattle.store.specs.declared.Found.{Found}
 use Rattle.store.specs.declared.Timing.{Timing}
@@ -70,10 +70,12 @@ unfoldable pub changeLines : State → List ℕ → ℕ → ℕ → ℕ → List
 changeLines s c key t1 t2 = linesBelow c (timeUnder (s .places)) (newest c key (s .slots)) t1 (suc (suc t2)) (suc t2)
 
 -- 01: "state and buffers fit .. ? 16", "t (t2) not above the last commit time? 10", "answer buffer at least 32 bytes
--- per line listed? 14"; 02, #102: "compare their time with the last stored commit time"
+-- per line listed? 14"; 02, #102: "compare their time with the last stored commit time"; 02, #104: "18, is the record number
+-- below 1,024? It comes .. before 10"
 abbrev pub changesAsks : State → List ℕ → List ℕ → ℕ → ℕ → ℕ → ℕ → List (Bool × Refusal)
 changesAsks s m c key t1 t2 room =
     (fits s (length m) (length c), Unfit)
+    ∷ (keyForm key, NoRecord)
     ∷ (leb t2 (s .saved .0), NotYet)
     ∷ (leb (32 * length (changeLines s c key t1 t2)) room, ShortBuffer)
     ∷ []

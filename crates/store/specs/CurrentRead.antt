@@ -6,9 +6,9 @@ use mathlib.Core.List.{List, [], _∷_}
 use lib.ListN.{length}
 use lib.Dec.{eqb}
 use Rattle.fields.specs.Block.{zeros}
-use Rattle.layout.specs.Slot.{Cell}
+use Rattle.layout.specs.Slot.{Cell, keyForm}
 use Rattle.store.specs.declared.Refusal.{Refusal}
-use Rattle.store.specs.declared.Refusal.the-variants.{Unfit, NotActive, Held}
+use Rattle.store.specs.declared.Refusal.the-variants.{Unfit, NoRecord, NotActive, Held}
 use Rattle.store.specs.declared.Answer.{Answer}
 use Rattle.store.specs.declared.Answer.the-variants.{Missing, Erased, Present}
 use Rattle.store.specs.declared.Found.{Found}
@@ -19,10 +19,12 @@ use Rattle.store.specs.Places.{isAt, findActive, timeUnder}
 use Rattle.store.specs.State.{fits}
 use Rattle.store.specs.Chain.{newest, held, cellAt, visibleOf}
 
--- 01: "state and buffers fit .. ? 16", "number active? 5", "not held by another? 6"
+-- 01: "state and buffers fit .. ? 16", "number active? 5", "not held by another? 6"; 02, #104: "18, is the record number below
+-- 1,024? It comes before 5"
 abbrev pub currentAsks : State → List ℕ → List ℕ → ℕ → ℕ → List (Bool × Refusal)
 currentAsks s m c n key =
     (fits s (length m) (length c), Unfit)
+    ∷ (keyForm key, NoRecord)
     ∷ (isAt (findActive (s .places) n), NotActive)
     ∷ (not (held c (s .places) (s .slots) key n), Held)
     ∷ []

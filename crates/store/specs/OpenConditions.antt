@@ -68,7 +68,7 @@ abbrev pub sizesAre : MasterFound → ℕ → ℕ → Bool
 sizesAre (Whole f) l d = eqb (f .blocks) l && eqb (f .pages) d
 sizesAre Broken l d = false
 
--- 01: "Fields as above": is every record in form (kind 0 or 1, an erased value zeros)?
+-- 01: "Fields as above": is every record in form (kind 0 or 1, an erased value zeros; 02, #104: a record number of "0 to 1,023")?
 unfoldable pub formsOf : List Record → Bool
 formsOf [] = true
 formsOf (r ∷ rs) = recordForm r && formsOf rs

@@ -6,13 +6,14 @@ use mathlib.Core.List.{List, [], _∷_}
 use lib.ListN.{length, getD, set}
 use lib.Dec.{eqb, ltb}
 use Rattle.fields.specs.Block.{pageOf}
-use Rattle.layout.specs.Slot.{Cell}
+use Rattle.layout.specs.Slot.{Cell, keyForm}
 use Rattle.layout.specs.Page.{putVersion}
 use Rattle.layout.specs.Journal.{version, sequenceOf}
 use Rattle.layout.specs.declared.slot.Slot.the-variants.{Waiting}
+use Rattle.layout.specs.declared.item.Width.the-variants.{Two}
 use Rattle.layout.specs.declared.item.VersionHead.{VersionHead}
 use Rattle.store.specs.declared.Refusal.{Refusal}
-use Rattle.store.specs.declared.Refusal.the-variants.{Unfit, NotActive, Held, NoSlot, LogFull}
+use Rattle.store.specs.declared.Refusal.the-variants.{Unfit, NoRecord, NotActive, Held, NoSlot, LogFull}
 use Rattle.store.specs.declared.Answer.the-variants.{Written}
 use Rattle.store.specs.declared.Found.{Found}
 use Rattle.store.specs.declared.Found.the-variants.{At, Nothing}
@@ -24,14 +25,15 @@ use Rattle.store.specs.Tail.{mayLog, logged, Logged, tailEnd}
 use Rattle.store.specs.Chain.{newest, held}
 
 -- 01: "state and buffers fit .. ? 16", "number active? 5", "not held by another? 6", "next slot below 15 × D? 7", "may
--- the log take it? 8" (a version record takes 33 bytes)
+-- the log take it? 8"; 02, #104: "18, is the record number below 1,024? It comes before 5", "records of 34 bytes"
 abbrev pub writeAsks : State → List ℕ → List ℕ → ℕ → ℕ → List (Bool × Refusal)
 writeAsks s m c n key =
     (fits s (length m) (length c), Unfit)
+    ∷ (keyForm key, NoRecord)
     ∷ (isAt (findActive (s .places) n), NotActive)
     ∷ (not (held c (s .places) (s .slots) key n), Held)
     ∷ (ltb (s .slots) (15 * s .pages), NoSlot)
-    ∷ (mayLog s m 33, LogFull)
+    ∷ (mayLog s m 34, LogFull)
     ∷ []
 
 -- 01: "earlier slot of that record (65535: none)"
@@ -39,9 +41,10 @@ abbrev pub orNone : Found → ℕ
 orNone (At s) = s
 orNone Nothing = 65535
 
--- 01: "A write or erase takes the next slot and a version record"
+-- 01: "A write or erase takes the next slot and a version record"; 02, #104: "new versions use tag 3 only"
 unfoldable pub newHead : State → List ℕ → ℕ → ℕ → ℕ → VersionHead
 newHead s c n key kind = record {
+  width = Two;
   slot = s .slots;
   key = key;
   kind = kind;

@@ -3,6 +3,9 @@ use layout::CommitTime;
 use layout::EndPlace;
 use layout::TxNumber;
 
+// Record numbers are below this.
+pub const RECORDS: u16 = 1024;
+
 // What a place for a live transaction holds: nothing; an active transaction with its clock at begin; or a committed
 // one with its time and the end place of its commit record (0: known from the pair table alone).
 pub enum Life {
@@ -66,6 +69,7 @@ pub enum Refusal {
     ShortBuffer,
     NoNumber,
     Unfit,
+    NoRecord,
 }
 
 // What a call answers; `answerNumber` and `answerValue` of specs/ give the numbers of each.

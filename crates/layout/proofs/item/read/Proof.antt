@@ -70,6 +70,9 @@ number-item-requires-2 c κs = search needs
 enum-told-5 : tie.Need-enum-told-5
 enum-told-5 c = search needs
 
+version-item-requires-2 : tie.Need-version-item-requires-2
+version-item-requires-2 c κs = search needs
+
 enum-told-6 : tie.Need-enum-told-6
 enum-told-6 c = search needs
 
@@ -112,7 +115,7 @@ returns-6 c = sym (enter (c .before .before .before .before) ∙ simp (c .before
 
 returns-7 : tie.Need-returns-7
 unfolding byTag
-returns-7 c = sym (enter (c .before .before .before) ∙ simp (c .before .before .match .keys3, c .enum-told5 .given .1))
+returns-7 c = sym (enter (c .before .before .before .before) ∙ simp (c .before .before .before .match .keys3, c .before .enum-told5 .given .1, c .version-item2 .ensures))
 
 returns-8 : tie.Need-returns-8
 unfolding byTag
@@ -158,6 +161,7 @@ read-spec =
     enum-told-4
     number-item-requires-2
     enum-told-5
+    version-item-requires-2
     enum-told-6
     number-item-requires-3
     enum-told-7

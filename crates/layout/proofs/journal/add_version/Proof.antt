@@ -14,11 +14,22 @@ use Rattle.layout.proofs.journal.add_version.Tie as tie
 use Rattle.layout.proofs.journal.add_version.Reads as reads
 use Rattle.layout.proofs.journal.add_version.Lts as lts
 use Rattle.fields.proofs.field.put2.Reads as put2-reads
+use Rattle.layout.proofs.item.bytes.Reads as bytes-reads
+use Rattle.layout.proofs.item.tag.Reads as tag-reads
 use Rattle.layout.proofs.journal.used.Reads as used-reads
 use Rattle.layout.proofs.journal.write_version.Reads as write-version-reads
 
 used-requires : tie.Need-used-requires
 used-requires c κs = search needs
+
+bytes-requires : tie.Need-bytes-requires
+bytes-requires c κs = search needs
+
+add-n : tie.Need-add-n
+add-n c = search needs
+
+tag-requires : tie.Need-tag-requires
+tag-requires c κs = search needs
 
 slice-write-block : tie.Need-slice-write-block
 slice-write-block c = search needs
@@ -58,17 +69,26 @@ same-length c = c .before .before .put22 .kept .0 ∙ c .before .before .before 
 
 returns : tie.Need-returns
 returns c =
-    let h = simp length-set at (c .before .before .before .before .before .before .before .before .before .before .put2 .kept .0) in
-    let at = c .before .before .before .before .before .before .before .before .before .before .before .before .used .result in
+    let w = c .before .before .before .before .before .before in
+    let p = w .before .before .before .before in
+    let b = p .before .before .before in
+    let u = b .before in
+    let a = u .before .before .before .before in
+    let h = simp length-set at (p .put2 .kept .0) in
+    let at = u .used .result in
+    let n = 29 + b .bytes .result in
     c .before .before .put22 .ensures
-    ∙ ap (λ (l : List ℕ). splice l 8 (enc 2 (at + 33))) (lent-back _ _ (at + 3) 30 (omega arith) (c .before .before .before .before .before .before .write-version .kept .0))
-    ∙ version-added _ _ _ _ _ _ (c .before .before .before .before .before .before .before .before .before .before .before .before .used .ensures) (c .before .before .before .before .before .before .before .before .before .before .before .before .before .before .before .before .pre .1 .1) (c .before .before .before .before .before .before .before .before .before .before .put2 .ensures) (c .before .before .before .before .before .before .write-version .ensures)
+    ∙ ap (λ (l : List ℕ). splice l 8 (enc 2 (at + 3 + n))) (lent-back _ _ (at + 3) n (omega arith) (w .write-version .kept .0))
+    ∙ version-added _ _ _ _ (a .args .head) at n (ap (λ (k : ℕ). 29 + k) (b .bytes .ensures)) (u .used .ensures) (a .pre .1 .1) (rw (← p .before .before .tag .ensures) (p .put2 .ensures)) (w .write-version .ensures)
 
 pub add-version-spec : {M : Type 1} → statement M
 add-version-spec =
     tie.close
     (tie.spec
     used-requires
+    bytes-requires
+    add-n
+    tag-requires
     slice-write-block
     add-put2
     put2-requires

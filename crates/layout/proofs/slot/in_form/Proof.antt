@@ -4,7 +4,7 @@ use mathlib.Core.Bool.{true, _||_}
 use mathlib.Core.Logic.{⊎-elim}
 use lib.Dec.{eqb}
 use lib.ListN.{getD}
-use borrow.Author.Tests.{eq-eqb, ne-eqb, not-true, not-false}
+use borrow.Author.Tests.{eq-eqb, ne-eqb, le-leb, lt-leb, not-true, not-false}
 use Rattle.layout.specs.Slot.{slotForm}
 use borrow.Author.Needs.{needs}
 use Rattle.layout.proofs.slot.in_form.Statement.{statement}
@@ -39,7 +39,7 @@ shared-slice-read-if3 c = search needs
 
 returns-2 : tie.Need-returns-2
 unfolding slotForm
-returns-2 c = simp (code (c .before), ne-eqb _ _ (c .if3 .taken))
+returns-2 c = simp (code (c .before), lt-leb _ _ (c .if3 .taken))
 
 sub-all-zero : tie.Need-sub-all-zero
 sub-all-zero c = search needs
@@ -57,7 +57,7 @@ returns-3 : tie.Need-returns-3
 unfolding slotForm
 returns-3 c =
     let k = c .before .before .before in
-    simp (code (k .before), eq-eqb _ _ (k .if3 .left), ← c .before .all-zero .ensures, not-true (c .before .all-zero .result) (c .if4 .taken))
+    simp (code (k .before), le-leb _ _ (k .if3 .left), ← c .before .all-zero .ensures, not-true (c .before .all-zero .result) (c .if4 .taken))
 
 shared-slice-read-kind-in-form : tie.Need-shared-slice-read-kind-in-form
 shared-slice-read-kind-in-form c = search needs
@@ -79,7 +79,7 @@ unfolding slotForm
 returns-4 c =
     let b = c .before .before .before in
     let k = b .before .before .before in
-    simp (code (k .before), eq-eqb _ _ (k .if3 .left), ← b .before .all-zero .ensures, not-false (b .before .all-zero .result) (b .if4 .left), c .kind-in-form .ensures)
+    simp (code (k .before), le-leb _ _ (k .if3 .left), ← b .before .all-zero .ensures, not-false (b .before .all-zero .result) (b .if4 .left), c .kind-in-form .ensures)
 
 pub in-form-spec : {M : Type 1} → statement M
 in-form-spec =

@@ -17,11 +17,17 @@ use Rattle.fields.proofs.field.put8.Reads as put8-reads
 slice-write-slot : tie.Need-slice-write-slot
 slice-write-slot c = search needs
 
+cast-slot : tie.Need-cast-slot
+cast-slot c = search needs
+
 slice-write-slot-2 : tie.Need-slice-write-slot-2
 slice-write-slot-2 c = search needs
 
 slice-write-slot-3 : tie.Need-slice-write-slot-3
 slice-write-slot-3 c = search needs
+
+cast-slot-2 : tie.Need-cast-slot-2
+cast-slot-2 c = search needs
 
 slice-write-slot-4 : tie.Need-slice-write-slot-4
 slice-write-slot-4 c = search needs
@@ -65,15 +71,17 @@ returns c =
     let r = room (k .before .before) in
     lent-back _ _ 16 16 (omega (arith, r)) (k .copy .kept .0)
     ∙ ap (splice _ 16) (k .copy .ensures)
-    ∙ written (a .args .slot .now) _ _ _ _ _ _ _ (a .pre .0) (a .pre .1) (q .put2 .ensures) (p .put8 .ensures)
+    ∙ written (a .args .slot .now) _ _ _ _ _ _ _ (a .pre .0) (a .pre .1) (a .fits .key .fits) (q .put2 .ensures) (p .put8 .ensures)
 
 pub write-waiting-spec : {M : Type 1} → statement M
 write-waiting-spec =
     tie.close
     (tie.spec
     slice-write-slot
+    cast-slot
     slice-write-slot-2
     slice-write-slot-3
+    cast-slot-2
     slice-write-slot-4
     put2-requires
     slice-write-slot-5
