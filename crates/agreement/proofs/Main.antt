@@ -11,8 +11,7 @@ use borrow.Author.Tests.{eqb-true, eqb-false, eq-eqb, ltb-true}
 use Rattle.fields.specs.Block.{mediumLength, cacheLength, zeros}
 use Rattle.layout.specs.Slot.{kindForm}
 use Rattle.layout.specs.Journal.{Record}
-use Rattle.fields.proofs.FieldLaws.{Bytes}
-use Rattle.fields.proofs.CellLaws.{bytes-cons, bytes-zeros}
+use Rattle.fields.proofs.CellLaws.{bytes-zeros}
 use Rattle.fields.proofs.EqualLaws.{zero-zeros}
 use Rattle.fields.proofs.Choose.{and-0, and-1}
 use Rattle.store.specs.declared.Answer.the-variants.{Opened}
@@ -31,10 +30,11 @@ use Rattle.store.specs.Open.{openedState, refusedCache, openIf, openOf}
 use Rattle.store.specs.OpenLog.{lastTime}
 use Rattle.store.specs.OpenConditions.{redone}
 use Rattle.store.proofs.FitLaws.{range-is}
-use Rattle.runs.specs.Event.{Call, Event, opening, cut, call, begin, write, erase, current-read, commit, abort, as-of, changes, store-log, store-page, checkpoint, areBytes, callTyped, typed}
+use Rattle.runs.specs.Event.{Call, Event, opening, cut, call, begin, write, erase, current-read, commit, abort, as-of, changes, store-log, store-page, checkpoint, areBytes, isRecord, callTyped, typed}
 use Rattle.runs.specs.Book.{Book, blank, committed, add, fall, close, entered, unlessRefused, feed, Fits}
 use Rattle.runs.specs.Machine.{World, up, down, mediumOf, called, seenOf, after, opens, step, allowed, isRun, formatted, logChanged}
 use Rattle.runs.specs.Demand.{Agrees, Demand3}
+use Rattle.runs.proofs.EarlierReads.{bytes-of}
 use Rattle.runs.proofs.Asks.{isReading, Way, refused, begins, writes, erases, looks, commits as commits-way, ends, aborts, logs, pages, checks, way}
 use Rattle.runs.proofs.Refusals.{isQuiet, quiet-leaves, reading-leaves}
 use Rattle.agreement.proofs.history.Ghost.{Disk}
@@ -63,11 +63,6 @@ pub same-book : (n : ℕ) (b : Book) → unlessRefused n b b ≡ b
 same-book zero b = refl
 same-book (suc n) b = refl
 
-bytes-of : (v : List ℕ) → areBytes v ≡ true → Bytes v
-unfolding areBytes
-bytes-of [] e = bytes-zeros 0
-bytes-of (x ∷ v) e = bytes-cons x v (ltb-true x 256 (and-0 (ltb x 256) (areBytes v) e)) (bytes-of v (and-1 (ltb x 256) (areBytes v) e))
-
 -- ---- a call on a running store
 
 abbrev Keeps : ℕ → ℕ → List ℕ → Book → Call → Outcome → Type 0
@@ -87,14 +82,14 @@ module _ {l d : ℕ} {m c : List ℕ} {s : State} {b : Book} {disk : Disk} {clos
   kept q t (begins clock i p w) = (λ e. (not-open u, not-used u), began u clock i (ltb-true clock (2 ^ 64) t) p w)
   kept q t (writes n key i v p w) =
       let t1 = and-1 (ltb n (2 ^ 64)) _ t in
-      let t2 = and-1 (ltb key 256) _ t1 in (
+      let t2 = and-1 (isRecord key) _ t1 in (
         λ e. slot-row u,
-        wrote u n key 0 i v (ltb-true key 256 (and-0 (ltb key 256) _ t1)) (omega arith) (eqb-true (length v) 16 (and-0 (eqb (length v) 16) (areBytes v) t2))
+        wrote u n key 0 i v (omega arith) (eqb-true (length v) 16 (and-0 (eqb (length v) 16) (areBytes v) t2))
             (bytes-of v (and-1 (eqb (length v) 16) (areBytes v) t2)) refl p w,
       )
   kept q t (erases n key i p w) = (
     λ e. slot-row u,
-    wrote u n key 1 i (zeros 16) (ltb-true key 256 (and-1 (ltb n (2 ^ 64)) (ltb key 256) t)) (omega arith) refl (bytes-zeros 16) (zero-zeros 16) p w,
+    wrote u n key 1 i (zeros 16) (omega arith) refl (bytes-zeros 16) (zero-zeros 16) p w,
   )
   kept q t (looks x a v y r p n w) = absurd (false≢true (sym q ∙ r))
   kept q t (commits-way n clock i p w z) =
@@ -198,9 +193,9 @@ keeps l d (down m) b (opening y) (fallen x) a t = opening-kept x (down m) b refl
 keeps l d (down m) b cut (fallen x) a t = (tt, rw (fall-down x) (fallen x))
 keeps l d (down m) b (call x) (fallen z) a t = absurd (false≢true a)
 
--- ---- a run
+-- ---- a run, from any world that the invariant holds of
 
-runs : (l d : ℕ) (es : List Event) (w : World) (b : Book) → Inv l d w b → isRun l d w es ≡ true → Agrees l d w b es
+pub runs : (l d : ℕ) (es : List Event) (w : World) (b : Book) → Inv l d w b → isRun l d w es ≡ true → Agrees l d w b es
 unfolding isRun
 runs l d [] w b i r = tt
 runs l d (e ∷ es) w b i r =

@@ -99,7 +99,7 @@ asks m c s (erase n key) = writeAsks s m c n key
 asks m c s (current-read n key) = currentAsks s m c n key
 asks m c s (commit n k) = commitAsks s m c n
 asks m c s (abort n) = abortAsks s m c n
-asks m c s (as-of key t) = asOfAsks s m c t
+asks m c s (as-of key t) = asOfAsks s m c key t
 asks m c s (changes key t1 t2 b) = changesAsks s m c key t1 t2 (length b)
 asks m c s store-log = storeLogAsks s m c
 asks m c s (store-page p) = storePageAsks s m c p
@@ -175,7 +175,7 @@ module _ (m c : List ℕ) (s : State) where
       asked (λ (a : Option Refusal). Way m c s (write n key v) (writeIf a s m c n key 0 v))
       (writeAsks s m c n key) (refused (write n key v)) (λ p.
       found (λ (f : Found). Way m c s (write n key v) (writeAt f s m c (newHead s c n key 0) v))
-      (findActive (s .places) n) (p .1 .0) (λ i e.
+      (findActive (s .places) n) (p .1 .1 .0) (λ i e.
       writes n key i v p e))
 
   erase-way : (n key : ℕ) → Way m c s (erase n key) (eraseOf s m c n key)
@@ -184,7 +184,7 @@ module _ (m c : List ℕ) (s : State) where
       asked (λ (a : Option Refusal). Way m c s (erase n key) (writeIf a s m c n key 1 (zeros 16)))
       (writeAsks s m c n key) (refused (erase n key)) (λ p.
       found (λ (f : Found). Way m c s (erase n key) (writeAt f s m c (newHead s c n key 1) (zeros 16)))
-      (findActive (s .places) n) (p .1 .0) (λ i e.
+      (findActive (s .places) n) (p .1 .1 .0) (λ i e.
       erases n key i p e))
 
   -- a version that is read, of either kind
@@ -209,10 +209,10 @@ module _ (m c : List ℕ) (s : State) where
   unfolding asOfOf asOfIf
   as-of-way key t =
       asked (λ (a : Option Refusal). Way m c s (as-of key t) (asOfIf a s m c key t))
-      (asOfAsks s m c t) (refused (as-of key t)) (λ p.
+      (asOfAsks s m c key t) (refused (as-of key t)) (λ p.
       at (bestOf (newest c key (s .slots)) c (timeUnder (s .places)) t) p)
     where
-      at : (f : Best) → Passed (asOfAsks s m c t) → Way m c s (as-of key t) (asOfAt f s m c)
+      at : (f : Best) → Passed (asOfAsks s m c key t) → Way m c s (as-of key t) (asOfAt f s m c)
       at Neither p = looks (as-of key t) Missing (zeros 16) [] refl p refl refl
       at (Version n u) p = cell-way (as-of key t) (cellAt c n) refl refl p
 

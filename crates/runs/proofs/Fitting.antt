@@ -10,6 +10,7 @@ use lib.ListN.{length, drop, length-set}
 use lib.Dec.{leb, ltb}
 use borrow.Author.Tests.{ltb-true, leb-true}
 use Rattle.fields.specs.Block.{zeros, put}
+use Rattle.layout.specs.Item.{bytesOf}
 use Rattle.layout.specs.Journal.{Record, version, commit, recordSize, sequenceOf, usedOf, emptyBlock, addRecord}
 use Rattle.layout.specs.Master.{oldestOn}
 use Rattle.layout.specs.declared.item.VersionHead.{VersionHead}
@@ -18,6 +19,7 @@ use Rattle.layout.specs.declared.slot.Slot.the-variants.{Empty, Waiting, Stampe
 use Rattle.fields.proofs.Choose.{and-1}
 use Rattle.fields.proofs.BlockLaws.{length-put}
 use Rattle.layout.proofs.CacheLaws.{length-putVersion}
+use Rattle.layout.proofs.RecordLaws.{bytes-few}
 use Rattle.layout.proofs.JournalLaws.{length-emptyBlock, sequence-emptyBlock, used-emptyBlock, length-addRecord, sequence-addRecord, used-addRecord}
 use Rattle.store.specs.declared.Place.{Place}
 use Rattle.store.specs.declared.Phase.{Phase}
@@ -35,7 +37,7 @@ use Rattle.store.specs.Places.{freePlace, findCommitted}
 use Rattle.store.specs.State.{fits, withPlace, withPhase}
 use Rattle.store.specs.Tail.{tailFits, mayLog, storedTail, loggedIf, logged}
 use Rattle.store.specs.Begin.{begun}
-use Rattle.store.specs.Write.{touched, written, writeStep}
+use Rattle.store.specs.Write.{newHead, touched, written, writeStep}
 use Rattle.store.specs.Commit.{committed, commitStep}
 use Rattle.store.specs.StoreLog.{logStored, storeLogIf}
 use Rattle.store.specs.StorePage.{stampTime, lowerAt, settleWith, settleFrom, settled, pageStored, storePageIf}
@@ -71,9 +73,9 @@ added-fits b r f h =
       size = length-addRecord b r ∙ f .size;
     }
 
-small : (r : Record) → recordSize r ≤ 33
+small : (r : Record) → recordSize r ≤ 34
 unfolding recordSize
-small (version h v) = omega arith
+small (version h v) = omega (arith, bytes-few (h .width))
 small (commit p) = omega arith
 
 -- question 8 keeps the next block's sequence below 2^48
@@ -180,8 +182,8 @@ Leaves o = Fit (o .state) (length (o .medium)) (length (o .cache))
 
 -- 7 leaves a slot, and 8 room in the log
 write-fits : (m c : List ℕ) (s : State) (i : ℕ) (h : VersionHead) (v : List ℕ) → Fitting m c s → s .slots < 15 * s .pages
-    → mayLog s m 33 ≡ true → Leaves (writeStep s m c i h v)
-unfolding writeStep written touched recordSize
+    → mayLog s m (recordSize (version h v)) ≡ true → Leaves (writeStep s m c i h v)
+unfolding writeStep written touched
 write-fits m c s i h v k a b = record {
   range = k .range;
   medium = logged-length s m (version h v) ∙ k .medium;
@@ -193,7 +195,7 @@ write-fits m c s i h v k a b = record {
 }
 
 leaves-way : {m c : List ℕ} {s : State} {k : Call} {o : Outcome} → Way m c s k o → (o .answer ≡ Refused Unfit → ⊥) → Leaves o
-unfolding begun commitStep committed storeLogIf logStored storedTail storePageIf pageStored settled checkpointStep recordSize
+unfolding begun commitStep committed storeLogIf logStored storedTail storePageIf pageStored settled checkpointStep recordSize newHead bytesOf
 leaves-way {m} {c} {s} (refused k r w) h = refused-fit m c s k r w h
 leaves-way {m} {c} {s} (begins clock i p w) h =
     let k : Fitting m c s = fit-of s _ _ (p .0) in
@@ -207,9 +209,9 @@ leaves-way {m} {c} {s} (begins clock i p w) h =
       first = k .first;
     }
 leaves-way {m} {c} {s} (writes n key i v p w) h =
-    write-fits m c s i _ v (fit-of s _ _ (p .0)) (ltb-true _ _ (p .1 .1 .1 .0)) (p .1 .1 .1 .1 .0)
+    write-fits m c s i _ v (fit-of s _ _ (p .0)) (ltb-true _ _ (p .1 .1 .1 .1 .0)) (p .1 .1 .1 .1 .1 .0)
 leaves-way {m} {c} {s} (erases n key i p w) h =
-    write-fits m c s i _ (zeros 16) (fit-of s _ _ (p .0)) (ltb-true _ _ (p .1 .1 .1 .0)) (p .1 .1 .1 .1 .0)
+    write-fits m c s i _ (zeros 16) (fit-of s _ _ (p .0)) (ltb-true _ _ (p .1 .1 .1 .1 .0)) (p .1 .1 .1 .1 .1 .0)
 leaves-way {m} {c} {s} (looks k a v b q p n w) h = passed-fit m c s k p
 leaves-way {m} {c} {s} (commits n clock i p w z) h =
     let k : Fitting m c s = fit-of s _ _ (p .0) in

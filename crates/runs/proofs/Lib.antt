@@ -6,3 +6,5 @@ pub mod OneBlock
 pub mod OneEach
 pub mod Named
 pub mod Lengths
+pub mod EarlierReads
+pub mod Earlier

@@ -58,16 +58,20 @@ areBytes (b ∷ bs) = ltb b 256 && areBytes bs
 abbrev pub isWord : ℕ → Bool
 isWord n = ltb n (2 ^ 64)
 
--- 01: "record number (1)", "transaction number (8), value (16)": are a call's arguments of these sizes?
+-- 02, #104: "Record numbers become two bytes": a record number that a call can be given
+abbrev pub isRecord : ℕ → Bool
+isRecord key = ltb key 65536
+
+-- 01: "transaction number (8), value (16)"; 02, #104: a record number of two bytes: are a call's arguments of these sizes?
 unfoldable pub callTyped : Call → Bool
 callTyped (begin k) = isWord k
-callTyped (write n key v) = isWord n && (ltb key 256 && (eqb (length v) 16 && areBytes v))
-callTyped (erase n key) = isWord n && ltb key 256
-callTyped (current-read n key) = isWord n && ltb key 256
+callTyped (write n key v) = isWord n && (isRecord key && (eqb (length v) 16 && areBytes v))
+callTyped (erase n key) = isWord n && isRecord key
+callTyped (current-read n key) = isWord n && isRecord key
 callTyped (commit n k) = isWord n && isWord k
 callTyped (abort n) = isWord n
-callTyped (as-of key t) = ltb key 256 && isWord t
-callTyped (changes key t1 t2 b) = ltb key 256 && (isWord t1 && (isWord t2 && areBytes b))
+callTyped (as-of key t) = isRecord key && isWord t
+callTyped (changes key t1 t2 b) = isRecord key && (isWord t1 && (isWord t2 && areBytes b))
 callTyped store-log = true
 callTyped (store-page p) = isWord p
 callTyped checkpoint = true

@@ -6,6 +6,7 @@ use mathlib.Core.Bool.{cond}
 use mathlib.Core.List.{List, [], _∷_, _++_}
 use lib.ListN.{length, take}
 use lib.Dec.{leb}
+use Rattle.layout.specs.Slot.{keyForm}
 use Rattle.runs.specs.Event.{Event, call, as-of, changes, Observation}
 use Rattle.runs.specs.Book.{lastTime, linesOf}
 use Rattle.runs.specs.Moments.{Run, bookAt, seenAt, Accepted}
@@ -18,12 +19,12 @@ abbrev pub storedTime : ℕ → ℕ → List Event → ℕ
 storedTime l d es = lastTime (rowsFound l d es)
 
 -- 02, #102: "reads as of .. compare their time with the last stored commit time": in a run a read as of t is answered if t is
--- not above it, and refused 10 otherwise
+-- not above it, and refused 10 otherwise; 02, #104: 18 "comes .. before 10"
 unfoldable pub ReadsStored : Type 0
 ReadsStored =
     (l d : ℕ) (es : List Event) (key t : ℕ)
     → Run l d (es ++ (call (as-of key t) ∷ []))
-    → seenAt l d es (call (as-of key t)) .refusal ≡ cond (leb t (storedTime l d es)) 0 10
+    → seenAt l d es (call (as-of key t)) .refusal ≡ cond (keyForm key) (cond (leb t (storedTime l d es)) 0 10) 18
 
 -- 02, #102: "change lists compare their time with the last stored commit time": so with a list up to t2, which is refused 14
 -- if its buffer is too short
@@ -32,7 +33,8 @@ ListsStored =
     (l d : ℕ) (es : List Event) (key t1 t2 : ℕ) (buffer : List ℕ)
     → Run l d (es ++ (call (changes key t1 t2 buffer) ∷ []))
     → seenAt l d es (call (changes key t1 t2 buffer)) .refusal
-    ≡ cond (leb t2 (storedTime l d es)) (cond (leb (32 * length (linesOf (bookAt l d es .rows) key t1 t2)) (length buffer)) 0 14) 10
+    ≡ cond (keyForm key)
+    (cond (leb t2 (storedTime l d es)) (cond (leb (32 * length (linesOf (bookAt l d es .rows) key t1 t2)) (length buffer)) 0 14) 10) 18
 
 -- ---- what was answered is answered again
 

@@ -4,6 +4,7 @@ use Prim.Native.Nat.{ℕ, _+_, _-_, _*_, _^_, _≤_, _<_}
 use mathlib.Core.Path.{_≡_}
 use mathlib.Core.Bool.{true}
 use mathlib.Core.List.{List, [], _∷_, _++_}
+use Rattle.layout.specs.Slot.{keyForm}
 use Rattle.store.specs.declared.Life.{Life}
 use Rattle.store.specs.declared.Life.the-variants.{Free, Active, Committed}
 use Rattle.store.specs.declared.Place.{Place}
@@ -43,12 +44,12 @@ transaction n clock key value end = call (begin clock) ∷ call (write n key val
 -- ---- what they need
 
 -- 01: "next number below 2^64 - 1", "next slot below 15 × D", "last time below 2^64 - 1", "its sequence 1 to below 2^48": there
--- is a number, a slot, a time, and log for a version record of 33 bytes and a commit record of 19
+-- is a number, a slot, a time, and log for a version record of 34 bytes and a commit record of 19
 pub record Left (d : ℕ) (s : State) : Type 0 where
   pub numbers : s .next .0 < 2 ^ 64 - 1
   pub slots : s .slots < 15 * d
   pub times : s .last .0 < 2 ^ 64 - 1
-  pub log : tailEnd (s .tail) .0 + 52 ≤ 512 * 2 ^ 48
+  pub log : tailEnd (s .tail) .0 + 53 ≤ 512 * 2 ^ 48
 
 -- 02, #114: "8 is not the end of an exercise": after the calls a transaction is begun under the number n, writes and commits;
 -- none of all these calls is refused
@@ -57,7 +58,8 @@ pub record Restarts (l d : ℕ) (w : World) (n clock key : ℕ) (value : List �
   pub accepted : AllAccepted (trace l d w (freshStart l d w ++ transaction n clock key value end))
   pub number : step l d (worldAfter l d w (freshStart l d w)) (call (begin clock)) .seen .result ≡ n  -- begin answers n
 
--- 02, #114: "8 is not the end of an exercise": so from every running store of a run, unless something is used up
+-- 02, #114: "8 is not the end of an exercise": so from every running store of a run, unless something is used up; 02, #104: the
+-- record number is "below 1,024"
 unfoldable pub Unstuck : Type 0
 Unstuck =
     (l d : ℕ) (es : List Event) (m c : List ℕ) (s : State)
@@ -65,6 +67,7 @@ Unstuck =
     → worldAfter l d (formatted l d) es ≡ up m c s
     → Left d s
     → (clock key : ℕ) (value : List ℕ) (end : ℕ)
+    → keyForm key ≡ true
     → callTyped (begin clock) ≡ true → callTyped (write (s .next .0) key value) ≡ true → callTyped (commit (s .next .0) end) ≡ true
     → Restarts l d (up m c s) (s .next .0) clock key value end
 

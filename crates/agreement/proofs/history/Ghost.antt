@@ -37,7 +37,7 @@ Placeable d (commit p) = 1 ≤ p .time .0
 -- a record that a call may log
 pub record Sound (d : ℕ) (r : Record) : Type 0 where
   pub sized : RecordSized r  -- its fields fit their widths
-  pub form : recordForm r ≡ true  -- kind 0 or 1, an erased value zeros
+  pub form : recordForm r ≡ true  -- a record number below 1,024, kind 0 or 1, an erased value zeros
   pub low : 1 ≤ numberIn r
   pub high : numberIn r < 2 ^ 64 - 1
   pub placeable : Placeable d r

@@ -9,7 +9,7 @@ use mathlib.Core.Logic.{_⊎_, inl, inr}
 use mathlib.Core.Path.{_≡_, refl, sym, ap, _∙_}
 use lib.ListN.{length, take, drop, getD, length-append, List·getD-append, length-take, length-drop}
 use lib.Seq.{take-all, take-suc}
-use borrow.Author.Tests.{eqb-true, eq-eqb}
+use borrow.Author.Tests.{eqb-true, eq-eqb, ltb-true}
 use Rattle.fields.proofs.CellLaws.{each-map, each-at, Each}
 use Rattle.fields.specs.Block.{blk, pageOf}
 use Rattle.layout.specs.Page.{pageSlot}
@@ -17,8 +17,9 @@ use Rattle.fields.specs.Field.{dec}
 use Rattle.fields.specs.Part.{part}
 use Rattle.layout.specs.Journal.{Record, version, commit, recordForm}
 use Rattle.layout.specs.Master.{masterBytes, oldestOn}
-use Rattle.layout.specs.Slot.{kindForm, codeOf, sharedField, cellOf, slotState, stateOf, Cell}
+use Rattle.layout.specs.Slot.{keyForm, kindForm, codeOf, sharedField, cellOf, slotState, stateOf, Cell}
 use Rattle.fields.proofs.BlockLaws.{part-blk}
+use Rattle.fields.proofs.Choose.{and-0, and-1}
 use Rattle.fields.proofs.FieldLaws.{Bytes}
 use Rattle.layout.proofs.MasterLaws.{FieldsSized, MasterParts, master-parts, master-back, oldestOn-is}
 use Rattle.layout.proofs.PageLaws.{noCell, free-pageBytes}
@@ -39,7 +40,7 @@ use Rattle.agreement.proofs.invariant.Invariant.{masterFields, OnMedium
 
 pub record VersionSound (d : ℕ) (v : LoggedVersion) : Type 0 where
   pub slot : v .slot < 15 * d
-  pub key : v .key < 256
+  pub key : v .key < 1024
   pub kind : v .kind < 256
   pub earlier : v .earlier < 65536
   pub size : length (v .value) ≡ 16
@@ -54,6 +55,11 @@ pub record CommitSound (c : LoggedCommit) : Type 0 where
   pub time-low : 1 ≤ c .time
   pub time-high : c .time < 2 ^ 64
 
+-- question 18
+pub key-below : (key : ℕ) → keyForm key ≡ true → key < 1024
+unfolding keyForm
+key-below key e = ltb-true key 1024 e
+
 pub versions-sound : (d : ℕ) (bs : List (List Record)) → Each (BlockSound d) bs → Each (VersionSound d) (versionsOf bs)
 unfolding recordForm
 versions-sound d bs f = each-versions (λ (x : Placed). Sound d (x .rec)) (VersionSound d) (λ x h. go (x .rec) (x .seq) (x .end) h) (records bs) (sound-all d 0 bs f)
@@ -62,12 +68,12 @@ versions-sound d bs f = each-versions (λ (x : Placed). Sound d (x .rec)) (Versi
     go (version h v) q e s = (
       record {
         slot = s .placeable;
-        key = s .sized .key;
+        key = key-below (h .key) (and-0 (keyForm (h .key)) (kindForm (h .kind) v) (s .form));
         kind = s .sized .kind;
         earlier = s .sized .earlier;
         size = s .sized .size;
         bytes = s .sized .bytes;
-        form = s .form;
+        form = and-1 (keyForm (h .key)) (kindForm (h .kind) v) (s .form);
         low = s .low;
         high = s .high;
       },
@@ -134,10 +140,10 @@ module _ {l d : ℕ} {m : List ℕ} {disk : Disk} {history : List (List Record)}
       each-from SlotSized cells noCell (λ i h. go (at (versionsOf history) i) (cell cells i) (sound-at i (omega arith)) (match i (omega arith)))
     where
       go : (v : LoggedVersion) (x : Cell) → VersionSound d v → Match (commitsOf (disk .stored)) v x → SlotSized x
-      go v x f still = record { shared = omega (arith, f .high); key = f .key; kind = f .kind; earlier = f .earlier; size = f .size; bytes = f .bytes }
+      go v x f still = record { shared = omega (arith, f .high); key = omega (arith, f .key); kind = f .kind; earlier = f .earlier; size = f .size; bytes = f .bytes }
       go v x f (marked t z e) = record {
         shared = omega (arith, e, find-each (v .num) CommitSound (commitsOf (disk .stored)) (commits-sound d (disk .stored) (medium .log .shape .stored-sound)) (omega arith) .time-high);
-        key = f .key;
+        key = omega (arith, f .key);
         kind = f .kind;
         earlier = f .earlier;
         size = f .size;
@@ -152,8 +158,8 @@ module _ {l d : ℕ} {m : List ℕ} {disk : Disk} {history : List (List Record)}
   cells-hold = each-from SlotHolds (disk .cells) noCell (λ i h. go (at (versionsOf history) i) (cell (disk .cells) i) (sound-at i (rw (medium .pages .slots .count) at h)) (medium .pages .slots .match i (rw (medium .pages .slots .count) at h)))
     where
       go : (v : LoggedVersion) (x : Cell) → VersionSound d v → Match (commitsOf (disk .stored)) v x → SlotHolds x
-      go v x f still = record { held = omega arith; form = f .form }
-      go v x f (marked t z e) = record { held = omega arith; form = f .form }
+      go v x f still = record { held = omega arith; key = f .key; form = f .form }
+      go v x f (marked t z e) = record { held = omega arith; key = f .key; form = f .form }
 
   -- a stored commit is the same in the whole history
   pub find-stored : (n : ℕ) → 0 < find (commitsOf (disk .stored)) n .time → find (commitsOf history) n ≡ find (commitsOf (disk .stored)) n

@@ -18,6 +18,7 @@ use Rattle.layout.specs.declared.item.Pair.{Pair}
 use Rattle.fields.proofs.CellLaws.{Each, each-append}
 use Rattle.layout.proofs.JournalLaws.{length-logBytes, sequence-logBytes, used-logBytes}
 use Rattle.layout.proofs.PlaceLaws.{log-in-medium}
+use Rattle.layout.proofs.RecordLaws.{bytes-few}
 use Rattle.store.specs.declared.State.{State}
 use Rattle.store.specs.OpenLog.{Placed}
 use Rattle.store.specs.State.{fits}
@@ -87,12 +88,12 @@ zero-size = omega arith
 
 pub record-high : (r : Record) → 10 + sizeOf [] + recordSize r ≤ 512
 unfolding sizeOf recordSize
-record-high (version h v) = omega arith
+record-high (version h v) = omega (arith, bytes-few (h .width))
 record-high (commit p) = omega arith
 
 pub empty-room : (r : Record) → 10 + length (flat recordBytes []) + recordSize r ≤ 512
 unfolding flat recordSize
-empty-room (version h v) = omega arith
+empty-room (version h v) = omega (arith, bytes-few (h .width))
 empty-room (commit p) = omega arith
 
 pub next-end : (q q′ n : ℕ) → q′ ≡ q + 1 → n ≤ 502 → endPlace q (10 + n) ≤ endPlace q′ 10

@@ -51,7 +51,7 @@ module _ {l d : ℕ} {m c : List ℕ} {s : State} {b : Book} {disk : Disk} {clos
       looked (erase a key) r p e = absurd (false≢true r)
       looked (current-read a key) r p e =
           let q : a ≡ n = cc in
-          found (λ (f : Found). findActive (s .places) a ≡ f → isOpen (b .opened) n ≡ true) (findActive (s .places) a) (p .1 .0) (λ i g h. rw q at (active-open a i h)) refl
+          found (λ (f : Found). findActive (s .places) a ≡ f → isOpen (b .opened) n ≡ true) (findActive (s .places) a) (p .1 .1 .0) (λ i g h. rw q at (active-open a i h)) refl
       looked (commit a k) r p e = absurd (false≢true r)
       looked (abort a) r p e = absurd (false≢true r)
       looked (as-of key t) r p e = absurd (none-some e)

@@ -42,7 +42,7 @@ module _ {l d : ℕ} {m c : List ℕ} {s : State} {b : Book} {disk : Disk} {clos
   unfolding asOfOf asOfIf answerNumber asOf
   as-of-answers key t =
       asked (λ (a : Option Refusal). answerNumber (asOfIf a s m c key t .answer) ≡ 0 → stripOf (asOfIf a s m c key t .answer) (asOfIf a s m c key t .value) ≡ asOf (b .rows) key t)
-      (asOfAsks s m c t) (λ r q e. absurd (omega (arith, positive r)))
+      (asOfAsks s m c key t) (λ r q e. absurd (omega (arith, positive r)))
       (λ p e. best-strip u (bestOf (newest c key (s .slots)) c (timeUnder (s .places)) t) (lastBelow (b .rows) key (suc t)) (best-found u key t))
 
   -- question 14: the lines fit the buffer
@@ -55,5 +55,5 @@ module _ {l d : ℕ} {m c : List ℕ} {s : State} {b : Book} {disk : Disk} {clos
       (changesAsks s m c key t1 t2 (length buffer)) (λ r q e. absurd (omega (arith, positive r)))
       (λ p e. record {
         count = alike-length (lines-are u key t1 t2);
-        bytes = alike-laid buffer (lines-are u key t1 t2) (leb-true (32 * length (changeLines s c key t1 t2)) (length buffer) (p .1 .1 .0));
+        bytes = alike-laid buffer (lines-are u key t1 t2) (leb-true (32 * length (changeLines s c key t1 t2)) (length buffer) (p .1 .1 .1 .0));
       })

@@ -9,7 +9,7 @@ use lib.Seq.{take-suc, take-all}
 use Rattle.layout.specs.Journal.{Record}
 use Rattle.layout.specs.Slot.{Cell}
 use Rattle.store.specs.declared.Refusal.{Refusal}
-use Rattle.store.specs.declared.Refusal.the-variants.{BadSizes, BadCache, Malformed, NoPlace, NotActive, Held, NoSlot, LogFull, NoTime, NotYet, NoPage, NotLogged, Unchanged, ShortBuffer, NoNumber, Unfit}
+use Rattle.store.specs.declared.Refusal.the-variants.{BadSizes, BadCache, Malformed, NoPlace, NotActive, Held, NoSlot, LogFull, NoTime, NotYet, NoPage, NotLogged, Unchanged, ShortBuffer, NoNumber, Unfit, NoRecord}
 use Rattle.store.specs.declared.State.{State}
 use Rattle.store.specs.Answer.{refusalNumber}
 use Rattle.store.specs.Chain.{cellAt}
@@ -39,6 +39,7 @@ positive Unchanged = omega arith
 positive ShortBuffer = omega arith
 positive NoNumber = omega arith
 positive Unfit = omega arith
+positive NoRecord = omega arith
 
 -- ---- rows, one more
 

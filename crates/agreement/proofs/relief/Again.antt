@@ -11,7 +11,7 @@ use lib.ListN.{length}
 use lib.Dec.{eqb, ltb}
 use Rattle.fields.proofs.CellLaws.{Each}
 use Rattle.layout.specs.Journal.{Record}
-use Rattle.layout.specs.Slot.{Cell}
+use Rattle.layout.specs.Slot.{Cell, keyForm}
 use Rattle.store.specs.declared.Answer.{Answer}
 use Rattle.store.specs.declared.Answer.the-variants.{Refused, Done, Begun, Written, Committed, Opened, Missing, Erased, Present, Listed}
 use Rattle.store.specs.declared.Found.{Found}
@@ -19,7 +19,7 @@ use Rattle.store.specs.declared.Found.the-variants.{At, Nothing}
 use Rattle.store.specs.declared.Phase.the-variants.{Idle, FirstStored, SecondStored}
 use Rattle.store.specs.declared.Place.{Place}
 use Rattle.store.specs.declared.Refusal.{Refusal}
-use Rattle.store.specs.declared.Refusal.the-variants.{BadSizes, BadCache, Malformed, NoPlace, NotActive, Held, NoSlot, LogFull, NoTime, NotYet, NoPage, NotLogged, Unchanged, ShortBuffer, NoNumber, Unfit}
+use Rattle.store.specs.declared.Refusal.the-variants.{BadSizes, BadCache, Malformed, NoPlace, NotActive, Held, NoSlot, LogFull, NoTime, NotYet, NoPage, NotLogged, Unchanged, ShortBuffer, NoNumber, Unfit, NoRecord}
 use Rattle.store.specs.declared.State.{State}
 use Rattle.store.specs.Answer.{Outcome, ask, answerNumber, refusalNumber}
 use Rattle.store.specs.Places.{isAt, findActive, placeAt, activeAs}
@@ -66,6 +66,7 @@ full-of Unchanged e = absurd (omega arith)
 full-of ShortBuffer e = absurd (omega arith)
 full-of NoNumber e = absurd (omega arith)
 full-of Unfit e = absurd (omega arith)
+full-of NoRecord e = absurd (omega arith)
 
 done-number : (a : Answer) → isRefused a ≡ false → answerNumber a ≡ 0
 unfolding answerNumber
@@ -118,13 +119,14 @@ done-way (checks (FirstStored n t) p w) e = refl
 done-way (checks (SecondStored n t) p w) e = refl
 
 -- those before question 8 were answered "yes"
-before-write : (v w x y z : Bool) → ask ((v, Unfit) ∷ (w, NotActive) ∷ (x, Held) ∷ (y, NoSlot) ∷ (z, LogFull) ∷ []) ≡ some LogFull
-    → (w ≡ true) × (x ≡ true) × (y ≡ true)
-before-write true true true true z e = (refl, refl, refl)
-before-write true true true false z e = let o : _≡_ {A = ℕ} 0 1 = cc in absurd (omega arith)
-before-write true true false y z e = let o : _≡_ {A = ℕ} 0 1 = cc in absurd (omega arith)
-before-write true false x y z e = let o : _≡_ {A = ℕ} 0 1 = cc in absurd (omega arith)
-before-write false w x y z e = let o : _≡_ {A = ℕ} 0 1 = cc in absurd (omega arith)
+before-write : (v k w x y z : Bool) → ask ((v, Unfit) ∷ (k, NoRecord) ∷ (w, NotActive) ∷ (x, Held) ∷ (y, NoSlot) ∷ (z, LogFull) ∷ []) ≡ some LogFull
+    → (k ≡ true) × (w ≡ true) × (x ≡ true) × (y ≡ true)
+before-write true true true true true z e = (refl, refl, refl, refl)
+before-write true true true true false z e = let o : _≡_ {A = ℕ} 0 1 = cc in absurd (omega arith)
+before-write true true true false y z e = let o : _≡_ {A = ℕ} 0 1 = cc in absurd (omega arith)
+before-write true true false x y z e = let o : _≡_ {A = ℕ} 0 1 = cc in absurd (omega arith)
+before-write true false w x y z e = let o : _≡_ {A = ℕ} 0 1 = cc in absurd (omega arith)
+before-write false k w x y z e = let o : _≡_ {A = ℕ} 0 1 = cc in absurd (omega arith)
 
 before-commit : (v w x z : Bool) → ask ((v, Unfit) ∷ (w, NotActive) ∷ (x, NoTime) ∷ (z, LogFull) ∷ []) ≡ some LogFull → (w ≡ true) × (x ≡ true)
 before-commit true true true z e = (refl, refl)
@@ -150,6 +152,7 @@ isFull Unchanged = false
 isFull ShortBuffer = false
 isFull NoNumber = false
 isFull Unfit = false
+isFull NoRecord = false
 
 never : (qs : List (Bool × Refusal)) → Each (λ (q : Bool × Refusal). isFull (q .1) ≡ false) qs → ask qs ≡ some LogFull → ⊥
 never [] h e = let o : _≡_ {A = ℕ} 0 1 = cc in omega arith
@@ -221,9 +224,9 @@ module _ {l d : ℕ} {m c n a : List ℕ} {s t : State} {b b′ : Book} {disk di
 
   write-passes : (x key : ℕ) → ask (writeAsks s m c x key) ≡ some LogFull → Passed (writeAsks t n a x key)
   write-passes x key e =
-      let p = before-write (fits s (length m) (length c)) (isAt (findActive (s .places) x)) (not (held c (s .places) (s .slots) key x)) (ltb (s .slots) (15 * s .pages)) (mayLog s m 33) e in (
+      let p = before-write (fits s (length m) (length c)) (keyForm key) (isAt (findActive (s .places) x)) (not (held c (s .places) (s .slots) key x)) (ltb (s .slots) (15 * s .pages)) (mayLog s m 34) e in (
         fits-up w,
-        (rw (same .active x) (p .0), (rw (held-same key x) (p .1), (rw (slots-same, pages-same) (p .2), (room 33, tt)))),
+        (p .0, (rw (same .active x) (p .1), (rw (held-same key x) (p .2), (rw (slots-same, pages-same) (p .3), (room 34, tt))))),
       )
 
   commit-passes : (x : ℕ) → ask (commitAsks s m c x) ≡ some LogFull → Passed (commitAsks t n a x)
@@ -237,11 +240,11 @@ module _ {l d : ℕ} {m c n a : List ℕ} {s t : State} {b b′ : Book} {disk di
   passes-again (begin y) e = absurd (never (asks m c s (begin y)) (refl, (refl, (refl, tt))) e)
   passes-again (write y key v) e = write-passes y key e
   passes-again (erase y key) e = write-passes y key e
-  passes-again (current-read y key) e = absurd (never (asks m c s (current-read y key)) (refl, (refl, (refl, tt))) e)
+  passes-again (current-read y key) e = absurd (never (asks m c s (current-read y key)) (refl, (refl, (refl, (refl, tt)))) e)
   passes-again (commit y clock) e = commit-passes y e
   passes-again (abort y) e = absurd (never (asks m c s (abort y)) (refl, (refl, tt)) e)
-  passes-again (as-of key y) e = absurd (never (asks m c s (as-of key y)) (refl, (refl, tt)) e)
-  passes-again (changes key y z v) e = absurd (never (asks m c s (changes key y z v)) (refl, (refl, (refl, tt))) e)
+  passes-again (as-of key y) e = absurd (never (asks m c s (as-of key y)) (refl, (refl, (refl, tt))) e)
+  passes-again (changes key y z v) e = absurd (never (asks m c s (changes key y z v)) (refl, (refl, (refl, (refl, tt)))) e)
   passes-again store-log e = absurd (never (asks m c s store-log) (refl, (refl, tt)) e)
   passes-again (store-page p) e = absurd (never (asks m c s (store-page p)) (refl, (refl, (refl, (refl, tt)))) e)
   passes-again checkpoint e = absurd (never (asks m c s checkpoint) (refl, tt) e)

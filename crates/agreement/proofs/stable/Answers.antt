@@ -9,6 +9,7 @@ use lib.Dec.{leb}
 use lib.ListN.{length, take, drop, length-take, take-append-drop}
 use lib.Seq.{take-all, take-append-le}
 use borrow.Author.Tests.{leb-true, le-leb}
+use Rattle.layout.specs.Slot.{keyForm}
 use Rattle.runs.specs.Event.{Event, call, as-of, changes, Observation}
 use Rattle.runs.specs.Book.{Row, Book, lastTime, fall, asOf, Dated, linesOf, listing, laid, ListsAs}
 use Rattle.runs.specs.Machine.{World, up, down, called, seenOf, step, allowed, formatted}
@@ -27,13 +28,14 @@ use Rattle.agreement.proofs.stable.Stored.{read-refusal, list-refusal, 
 
 module _ (l d : ℕ) where
   read-at : (key t : ℕ) (w : World) (b : Book) → Inv l d w b → allowed l d w (call (as-of key t)) ≡ true
-      → step l d w (call (as-of key t)) .seen .refusal ≡ cond (leb t (lastTime (fall b .rows))) 0 10
+      → step l d w (call (as-of key t)) .seen .refusal ≡ cond (keyForm key) (cond (leb t (lastTime (fall b .rows))) 0 10) 18
   unfolding step seenOf called
   read-at key t (up m c s) b (running u) a = read-refusal u key t
   read-at key t (down m) b (fallen x) a = absurd (false≢true a)
 
   list-at : (key t1 t2 : ℕ) (buffer : List ℕ) (w : World) (b : Book) → Inv l d w b → allowed l d w (call (changes key t1 t2 buffer)) ≡ true
-      → (step l d w (call (changes key t1 t2 buffer)) .seen .refusal ≡ cond (leb t2 (lastTime (fall b .rows))) (cond (leb (32 * length (linesOf (b .rows) key t1 t2)) (length buffer)) 0 14) 10)
+      → (step l d w (call (changes key t1 t2 buffer)) .seen .refusal
+      ≡ cond (keyForm key) (cond (leb t2 (lastTime (fall b .rows))) (cond (leb (32 * length (linesOf (b .rows) key t1 t2)) (length buffer)) 0 14) 10) 18)
       × (length (listing (linesOf (b .rows) key t1 t2)) ≡ 32 * length (linesOf (b .rows) key t1 t2))
   unfolding step seenOf called
   list-at key t1 t2 buffer (up m c s) b (running u) a = (list-refusal u key t1 t2 buffer, list-size u key t1 t2)
@@ -46,7 +48,8 @@ reads-stored l d es key t r =
     read-at l d key t (worldAfter l d (formatted l d) es) (bookAt l d es) (held es e r) (may es e r)
 
 lists-at : (l d : ℕ) (es : List Event) (key t1 t2 : ℕ) (buffer : List ℕ) → Run l d (es ++ (call (changes key t1 t2 buffer) ∷ []))
-    → (seenAt l d es (call (changes key t1 t2 buffer)) .refusal ≡ cond (leb t2 (storedTime l d es)) (cond (leb (32 * length (linesOf (bookAt l d es .rows) key t1 t2)) (length buffer)) 0 14) 10)
+    → (seenAt l d es (call (changes key t1 t2 buffer)) .refusal
+    ≡ cond (keyForm key) (cond (leb t2 (storedTime l d es)) (cond (leb (32 * length (linesOf (bookAt l d es .rows) key t1 t2)) (length buffer)) 0 14) 10) 18)
     × (length (listing (linesOf (bookAt l d es .rows) key t1 t2)) ≡ 32 * length (linesOf (bookAt l d es .rows) key t1 t2))
 lists-at l d es key t1 t2 buffer r =
     let e : Event = call (changes key t1 t2 buffer) in
@@ -103,19 +106,24 @@ module _ {l d : ℕ} {es fs : List Event} {e e′ : Event} (x : Again l d es e f
       since es (e ∷ fs) later-run (λ e o. false) (λ b hs. Front (rowsFound l d es) b) (λ b b′ hs rs e o z. front-turn (rowsFound l d es) b b′ hs rs e o)
       (never (e ∷ fs) (traceAt l d es (e ∷ fs))) (front-now (bookAt l d es))
 
--- question 10 was passed
-passed : (x : Bool) (a n : ℕ) → n ≡ cond x a 10 → n ≡ 0 → x ≡ true
-passed true a n e z = refl
-passed false a n e z = absurd (omega arith)
+-- questions 18 and 10: passed if the call was answered, and only then the rest decides
+passed : (k x : Bool) (a n : ℕ) → n ≡ cond k (cond x a 10) 18 → n ≡ 0 → (k ≡ true) × (x ≡ true)
+passed true true a n e z = (refl, refl)
+passed true false a n e z = absurd (omega arith)
+passed false x a n e z = absurd (omega arith)
+
+decided : (k x : Bool) (a n : ℕ) → n ≡ cond k (cond x a 10) 18 → k ≡ true → x ≡ true → n ≡ a
+decided k x a n e p q = e ∙ rw (p, q)
 
 stable-reads : StableReads
 unfolding StableReads ReadsStored
 stable-reads l d es fs key t x =
     let e : Event = call (as-of key t) in
-    let h : t ≤ storedTime l d es = leb-true t (storedTime l d es) (passed (leb t (storedTime l d es)) 0 _ (reads-stored l d es key t (first-run x)) (x .first)) in
+    let q = passed (keyForm key) (leb t (storedTime l d es)) 0 _ (reads-stored l d es key t (first-run x)) (x .first) in
+    let h : t ≤ storedTime l d es = leb-true t (storedTime l d es) (q .1) in
     let g : t ≤ storedTime l d (es ++ (e ∷ fs)) = omega (arith, time-first (later-run x) (kept x)) in
     let again : seenAt l d (es ++ (e ∷ fs)) e .refusal ≡ 0 =
-    reads-stored l d (es ++ (e ∷ fs)) key t (x .run) ∙ ap (λ (y : Bool). cond y 0 10) (le-leb t (storedTime l d (es ++ (e ∷ fs))) g) in
+    decided (keyForm key) (leb t (storedTime l d (es ++ (e ∷ fs)))) 0 _ (reads-stored l d (es ++ (e ∷ fs)) key t (x .run)) (q .0) (le-leb t (storedTime l d (es ++ (e ∷ fs))) g) in
     record {
       answered = again;
       strip = next-fits (es ++ (e ∷ fs)) e (x .run) again
@@ -140,7 +148,8 @@ stable-lists l d es fs key t1 t2 buffer buffer′ x =
     let gs : List Event = es ++ (e ∷ fs) in
     let ls : List Dated = linesOf (rowsFound l d es) key t1 t2 in
     let at = lists-at l d es key t1 t2 buffer (first-run x) in
-    let h : t2 ≤ storedTime l d es = leb-true t2 (storedTime l d es) (passed (leb t2 (storedTime l d es)) _ _ (at .0) (x .first)) in
+    let q = passed (keyForm key) (leb t2 (storedTime l d es)) _ _ (at .0) (x .first) in
+    let h : t2 ≤ storedTime l d es = leb-true t2 (storedTime l d es) (q .1) in
     let then = list-first (front-run es (e ∷ []) (first-run x)) (front-now (bookAt l d es)) key t1 t2 h in
     let now = list-first (later-run x) (kept x) key t1 t2 h in
     let first : ListsAs ls buffer (seenAt l d es e) = rw then at (next-fits es e (first-run x) (x .first)) in
@@ -148,8 +157,7 @@ stable-lists l d es fs key t1 t2 buffer buffer′ x =
     let later : seenAt l d gs e′ .refusal ≡ 0 → ListsAs ls buffer′ (seenAt l d gs e′) = rw now at (next-fits gs e′ (x .run)) in
     record {
       answered = λ room.
-          lists-at l d gs key t1 t2 buffer′ (x .run) .0
-          ∙ ap (λ (y : Bool). cond y (cond (leb (32 * length (linesOf (bookAt l d gs .rows) key t1 t2)) (length buffer′)) 0 14) 10)
+          decided (keyForm key) (leb t2 (storedTime l d gs)) _ _ (lists-at l d gs key t1 t2 buffer′ (x .run) .0) (q .0)
           (le-leb t2 (storedTime l d gs) (omega (arith, time-first (later-run x) (kept x))))
           ∙ ap (λ (y : Bool). cond y 0 14) (le-leb (32 * length (linesOf (bookAt l d gs .rows) key t1 t2)) (length buffer′) (omega (arith, ap length now, first .count)));
       count = λ z. later z .count ∙ sym (first .count);

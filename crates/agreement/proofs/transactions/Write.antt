@@ -1,24 +1,28 @@
 -- Write and erase: a running store goes on to the book with one version row more. The log grows by the version, which
 -- waits in the next slot of its page; its number's place waits for one more, and no other active number wrote the record.
-use Prim.Native.Nat.{ℕ, _+_, _*_, _/_, _%_, _≤_, _<_}
+use Prim.Native.Nat.{ℕ, _+_, _*_, _/_, _%_, _^_, _≤_, _<_}
 use native.Mathlib.Omega.{arith}
 use mathlib.Core.Bool.{Bool, true, false, not, false≢true}
 use mathlib.Core.List.{List, [], _∷_, _++_}
 use mathlib.Core.Logic.{_⊎_, inl, inr, _≢_}
 use mathlib.Core.Path.{_≡_, refl, sym, ap, _∙_, subst}
+use lib.Dec.{ltb}
 use lib.ListN.{length, set, length-append, List·getD-append}
 use lib.Seq.{getD-append-seam}
 use borrow.Author.Tests.{ltb-true}
 use Rattle.fields.specs.Block.{pageOf}
 use Rattle.layout.specs.Page.{putVersion}
-use Rattle.layout.specs.Slot.{Cell, kindForm}
+use Rattle.layout.specs.Item.{bytesOf}
+use Rattle.layout.specs.Slot.{Cell, keyForm, kindForm}
 use Rattle.layout.specs.Journal.{Record, recordForm, recordSize, sequenceOf, version as versionRecord}
 use Rattle.layout.specs.declared.item.VersionHead.{VersionHead}
+use Rattle.layout.specs.declared.item.Width.{Width}
+use Rattle.layout.specs.declared.item.Width.the-variants.{Two}
 use Rattle.fields.proofs.FieldLaws.{Bytes}
 use Rattle.fields.proofs.CellLaws.{each-append}
 use Rattle.layout.proofs.JournalLaws.{sequence-logBytes}
 use Rattle.store.specs.declared.Place.{Place}
-use Rattle.store.specs.Tail.{Logged, logged, tailEnd}
+use Rattle.store.specs.Tail.{Logged, logged, mayLog, tailEnd}
 use Rattle.store.specs.OpenLog.{Placed, numberIn}
 use Rattle.store.specs.Chain.{held, newest}
 use Rattle.store.specs.declared.Found.the-variants.{At, Nothing}
@@ -36,7 +40,7 @@ use Rattle.agreement.proofs.history.VersionLaws.{commits-append, newest
 use Rattle.agreement.proofs.history.CommitLaws.{last-append}
 use Rattle.agreement.proofs.history.SlotLaws.{count-small}
 use Rattle.agreement.proofs.history.RowLaws.{versions-are, length-rowsFor, rows-append, length-rows}
-use Rattle.agreement.proofs.invariant.MediumFacts.{cells-sized, fewer-stored}
+use Rattle.agreement.proofs.invariant.MediumFacts.{key-below, cells-sized, fewer-stored}
 use Rattle.agreement.proofs.transactions.ActiveLaws.{active-place, active-low, active-num, active-next, active-high, active-waits, uncommitted, elsewhere, unpaired}
 use Rattle.agreement.proofs.transactions.WriteLaws.{count-other, count-same, touch-low, firsts-more, cache-more, newest-is, not-held}
 use Rattle.agreement.proofs.invariant.PlaceSet.{placeAt-same, placeAt-other, living-set, phase-map}
@@ -44,14 +48,19 @@ use Rattle.agreement.proofs.invariant.Invariant.{numAt, timeAt, tableNu
 use Rattle.agreement.proofs.logging.GrowthLaws.{new-ver, old-commits}
 use Rattle.agreement.proofs.logging.Grown.{withCell, grow-version}
 
+-- the head of the record that a write logs, under either tag: only its width differs
+abbrev pub headAs : Width → State → List ℕ → ℕ → ℕ → ℕ → VersionHead
+headAs width s c n key kind =
+    record { width = width; slot = s .slots; key = key; kind = kind; earlier = orNone (newest c key (s .slots)); number = record { 0 = n } }
+
 -- ---- the version record is taken: g is how the log grows by it
 
 module _ {l d : ℕ} {m c : List ℕ} {s : State} {b : Book} {disk : Disk} {closed : List (List Record)} {tail : List Record} (u : Up l d m c s b disk closed tail)
-    (n i : ℕ) (f : findActive (s .places) n ≡ At i) (key kind earlier : ℕ) (v : List ℕ) (room : s .slots < 15 * d)
+    (n i : ℕ) (f : findActive (s .places) n ≡ At i) (width : Width) (key kind earlier : ℕ) (v : List ℕ) (room : s .slots < 15 * d)
     (chained : earlier ≡ orNone (newest c key (s .slots))) (free : held c (s .places) (s .slots) key n ≡ false)
-    (lg : Logged) (g : Grows l d m disk closed tail (versionRecord (record { slot = s .slots; key = key; kind = kind; earlier = earlier; number = record { 0 = n } }) v) lg) where
+    (lg : Logged) (g : Grows l d m disk closed tail (versionRecord (record { width = width; slot = s .slots; key = key; kind = kind; earlier = earlier; number = record { 0 = n } }) v) lg) where
   head : VersionHead
-  head = record { slot = s .slots; key = key; kind = kind; earlier = earlier; number = record { 0 = n } }
+  head = record { width = width; slot = s .slots; key = key; kind = kind; earlier = earlier; number = record { 0 = n } }
 
   -- the version, and its place
   me : LoggedVersion
@@ -229,10 +238,10 @@ module _ {l d : ℕ} {m c : List ℕ} {s : State} {b : Book} {disk : Disk} {clos
   not-true false e = refl
 
   -- the record that the call takes is sound by the questions and the types
-  taken : (n key kind i : ℕ) (v : List ℕ) → key < 256 → kind < 2 → length v ≡ 16 → Bytes v → kindForm kind v ≡ true → findActive (s .places) n ≡ At i
-      → s .slots < 15 * d → Sound d (versionRecord (newHead s c n key kind) v)
-  unfolding newHead recordForm
-  taken n key kind i v hk hd size bytes form f room = record {
+  taken : (width : Width) (n key kind i : ℕ) (v : List ℕ) → key < 256 ^ bytesOf width → keyForm key ≡ true → kind < 2 → length v ≡ 16 → Bytes v → kindForm kind v ≡ true
+      → findActive (s .places) n ≡ At i → s .slots < 15 * d → Sound d (versionRecord (headAs width s c n key kind) v)
+  unfolding recordForm
+  taken width n key kind i v hk low hd size bytes form f room = record {
     sized = record {
       slot = omega (arith, u .medium .sizes .range .pages-high);
       key = hk;
@@ -242,20 +251,30 @@ module _ {l d : ℕ} {m c : List ℕ} {s : State} {b : Book} {disk : Disk} {clos
       size = size;
       bytes = bytes;
     };
-    form = form;
+    form = rw low form;
     low = active-low u n i f;
     high = active-high u n i f;
     placeable = room;
   }
 
-  pub wrote : (n key kind i : ℕ) (v : List ℕ) → key < 256 → kind < 2 → length v ≡ 16 → Bytes v → kindForm kind v ≡ true
+  -- under either tag
+  pub wrote-as : (width : Width) (n key kind i : ℕ) (v : List ℕ) → key < 256 ^ bytesOf width → keyForm key ≡ true → kind < 2 → length v ≡ 16 → Bytes v → kindForm kind v ≡ true
+      → findActive (s .places) n ≡ At i → not (held c (s .places) (s .slots) key n) ≡ true → ltb (s .slots) (15 * s .pages) ≡ true → mayLog s m (32 + bytesOf width) ≡ true
+      → Inv l d (after (writeStep s m c i (headAs width s c n key kind) v))
+      (add b (version (record { number = n; key = key; kind = kind; value = v }))
+      (logChanged l m (writeStep s m c i (headAs width s c n key kind) v .medium)) (b .opened))
+  unfolding writeStep cellFor recordSize me
+  wrote-as width n key kind i v hk low hd size bytes form f free next may =
+      let room : s .slots < 15 * d = omega (arith, ltb-true (s .slots) (15 * s .pages) next, u .state .pages) in
+      let r : Record = versionRecord (headAs width s c n key kind) v in
+      running (write-up u n i f width key kind (orNone (newest c key (s .slots))) v room refl (not-true (held c (s .places) (s .slots) key n) free) (logged s m r)
+      (grows u r (taken width n key kind i v hk low hd size bytes form f room) may))
+
+  pub wrote : (n key kind i : ℕ) (v : List ℕ) → kind < 2 → length v ≡ 16 → Bytes v → kindForm kind v ≡ true
       → Passed (writeAsks s m c n key) → findActive (s .places) n ≡ At i
       → Inv l d (after (writeStep s m c i (newHead s c n key kind) v))
       (add b (version (record { number = n; key = key; kind = kind; value = v }))
       (logChanged l m (writeStep s m c i (newHead s c n key kind) v .medium)) (b .opened))
-  unfolding writeStep newHead cellFor recordSize me
-  wrote n key kind i v hk hd size bytes form p f =
-      let room : s .slots < 15 * d = omega (arith, ltb-true (s .slots) (15 * s .pages) (p .1 .1 .1 .0), u .state .pages) in
-      let r : Record = versionRecord (newHead s c n key kind) v in
-      running (write-up u n i f key kind (orNone (newest c key (s .slots))) v room refl (not-true (held c (s .places) (s .slots) key n) (p .1 .1 .0)) (logged s m r)
-      (grows u r (taken n key kind i v hk hd size bytes form f room) (p .1 .1 .1 .1 .0)))
+  unfolding newHead bytesOf
+  wrote n key kind i v hd size bytes form p f =
+      wrote-as Two n key kind i v (omega (arith, key-below key (p .1 .0))) (p .1 .0) hd size bytes form f (p .1 .1 .1 .0) (p .1 .1 .1 .1 .0) (p .1 .1 .1 .1 .1 .0)

@@ -10,6 +10,7 @@ use lib.ListN.{length}
 use lib.Dec.{eqb, ltb}
 use borrow.Author.Tests.{ltb-true}
 use Rattle.fields.specs.Block.{zeros, endPlace}
+use Rattle.layout.specs.Item.{bytesOf}
 use Rattle.layout.specs.Journal.{Record, recordSize}
 use Rattle.layout.specs.Journal.{version as versionRecord, commit as commitRecord}
 use Rattle.fields.proofs.Choose.{and-0, and-1}
@@ -60,14 +61,14 @@ module _ {l d : ℕ} {m c : List ℕ} {s : State} {b : Book} {disk : Disk} {clos
   fit = fit-of s (length m) (length c) (fits-up u) .tail
 
   -- the log's end moves on by a record's size
-  moves : (r : Record) → recordSize r ≤ 33 → tailEnd (s .tail) .0 + recordSize r ≤ tailEnd (logged s m r .tail) .0
+  moves : (r : Record) → recordSize r ≤ 34 → tailEnd (s .tail) .0 + recordSize r ≤ tailEnd (logged s m r .tail) .0
   moves r h = takes-end s m (recordSize r) (logged s m r) (fit .used-high) (takes s m r fit (omega arith))
 
   still : Onward s s
   still = record { next = omega arith; slots = omega arith; last = omega arith; log = omega arith }
 
   onward : {x : Call} {o : Outcome} → Way m c s x o → Onward s (o .state)
-  unfolding begun writeStep written commitStep committed commitTime withPlace withPhase storeLogIf logStored storePageIf pageStored checkpointStep recordSize
+  unfolding begun writeStep written commitStep committed commitTime withPlace withPhase storeLogIf logStored storePageIf pageStored checkpointStep recordSize newHead bytesOf
   onward (refused x r w) = still
   onward (begins clock i p w) = record { next = omega arith; slots = omega arith; last = omega arith; log = omega arith }
   onward (writes n key i v p w) = record { next = omega arith; slots = omega arith; last = omega arith; log = omega (arith, moves (versionRecord (newHead s c n key 0) v) (omega arith)) }
@@ -96,15 +97,15 @@ module _ {l d : ℕ} {m c : List ℕ} {s : State} {b : Book} {disk : Disk} {clos
       (λ r e z. absurd (omega (arith, positive r))) (λ p z. ltb-true (s .next .0) (2 ^ 64 - 1) (p .1 .0))
 
   abbrev Wrote : ℕ → Outcome → Type 0
-  Wrote n o = (s .slots < 15 * d) × (tailEnd (s .tail) .0 + 33 ≤ tailEnd (o .state .tail) .0) × (noVersions (findActive (o .state .places) n) (o .state) ≡ false)
+  Wrote n o = (s .slots < 15 * d) × (tailEnd (s .tail) .0 + 34 ≤ tailEnd (o .state .tail) .0) × (noVersions (findActive (o .state .places) n) (o .state) ≡ false)
 
   write-needs : (n key : ℕ) (v : List ℕ) → answerNumber (called m c s (write n key v) .answer) ≡ 0 → Wrote n (called m c s (write n key v))
-  unfolding called writeOf addOf writeIf writeStep written answerNumber recordSize
+  unfolding called writeOf addOf writeIf writeStep written answerNumber recordSize newHead bytesOf
   write-needs n key v =
       asked (λ (a : Option Refusal). answerNumber (writeIf a s m c n key 0 v .answer) ≡ 0 → Wrote n (writeIf a s m c n key 0 v)) (writeAsks s m c n key)
       (λ r e z. absurd (omega (arith, positive r)))
-      (λ p. found (λ (f : Found). answerNumber (writeAt f s m c (newHead s c n key 0) v .answer) ≡ 0 → Wrote n (writeAt f s m c (newHead s c n key 0) v)) (findActive (s .places) n) (p .1 .0)
-      (λ i f z. by i f (ltb-true (s .slots) (15 * s .pages) (p .1 .1 .1 .0))))
+      (λ p. found (λ (f : Found). answerNumber (writeAt f s m c (newHead s c n key 0) v .answer) ≡ 0 → Wrote n (writeAt f s m c (newHead s c n key 0) v)) (findActive (s .places) n) (p .1 .1 .0)
+      (λ i f z. by i f (ltb-true (s .slots) (15 * s .pages) (p .1 .1 .1 .1 .0))))
     where
       by : (i : ℕ) → findActive (s .places) n ≡ At i → s .slots < 15 * s .pages → Wrote n (writeStep s m c i (newHead s c n key 0) v)
       by i f h =
@@ -155,23 +156,23 @@ module _ (l d : ℕ) (r : State) where
     -- the version is logged
     record Waits (m : List ℕ) (s : State) : Type 0 where
       last : r .last .0 ≤ s .last .0
-      log : tailEnd (r .tail) .0 + 33 ≤ tailEnd (s .tail) .0
+      log : tailEnd (r .tail) .0 + 34 ≤ tailEnd (s .tail) .0
       waits : noVersions (findActive (s .places) n) s ≡ false
 
-    after-commit : (w : World) → Standing l d (λ m s. tailEnd (r .tail) .0 + 52 ≤ tailEnd (s .tail) .0) w → tailEnd (r .tail) .0 + 52 ≤ 512 * 2 ^ 48
+    after-commit : (w : World) → Standing l d (λ m s. tailEnd (r .tail) .0 + 53 ≤ tailEnd (s .tail) .0) w → tailEnd (r .tail) .0 + 53 ≤ 512 * 2 ^ 48
     after-commit w (stands m c s b disk closed tail u p) = omega (arith, p, log-high u)
 
     third : (w : World) → Standing l d Waits w → isRun l d w (call (commit n end) ∷ []) ≡ true → AllAccepted (trace l d w (call (commit n end) ∷ []))
-        → (r .last .0 < 2 ^ 64 - 1) × (tailEnd (r .tail) .0 + 52 ≤ 512 * 2 ^ 48)
+        → (r .last .0 < 2 ^ 64 - 1) × (tailEnd (r .tail) .0 + 53 ≤ 512 * 2 ^ 48)
     unfolding isRun trace typed step seenOf
     third w (stands m c s b disk closed tail u p) h a =
         let q = commit-needs u n end (p .waits) (a .0) in (
           omega (arith, p .last, q),
-          after-commit _ (called-on l d (λ m s. tailEnd (r .tail) .0 + 52 ≤ tailEnd (s .tail) .0) m c s b (running u) (commit n end) (and-0 (callTyped (commit n end)) _ h) (called m c s (commit n end)) refl (omega (arith, p .log, q))),
+          after-commit _ (called-on l d (λ m s. tailEnd (r .tail) .0 + 53 ≤ tailEnd (s .tail) .0) m c s b (running u) (commit n end) (and-0 (callTyped (commit n end)) _ h) (called m c s (commit n end)) refl (omega (arith, p .log, q))),
         )
 
     second : (w : World) → Later w → isRun l d w (call (write n key value) ∷ call (commit n end) ∷ []) ≡ true → AllAccepted (trace l d w (call (write n key value) ∷ call (commit n end) ∷ []))
-        → (r .slots < 15 * d) × (r .last .0 < 2 ^ 64 - 1) × (tailEnd (r .tail) .0 + 52 ≤ 512 * 2 ^ 48)
+        → (r .slots < 15 * d) × (r .last .0 < 2 ^ 64 - 1) × (tailEnd (r .tail) .0 + 53 ≤ 512 * 2 ^ 48)
     unfolding isRun trace typed step seenOf
     second w (stands m c s b disk closed tail u o) h a =
         let q = write-needs u n key value (a .0) in

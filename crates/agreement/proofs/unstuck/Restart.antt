@@ -14,7 +14,9 @@ use borrow.Author.Tests.{eq-eqb, lt-ltb, le-leb}
 use Rattle.layout.specs.Journal.{Record, sequenceOf, usedOf, recordSize}
 use Rattle.layout.specs.Journal.{version as versionRecord}
 use Rattle.fields.specs.Block.{endPlace}
+use Rattle.layout.specs.Item.{bytesOf}
 use Rattle.layout.specs.Master.{oldestOn}
+use Rattle.layout.specs.Slot.{keyForm}
 use Rattle.layout.specs.declared.TxNumber.{TxNumber}
 use Rattle.store.specs.declared.Answer.the-variants.{Begun}
 use Rattle.store.specs.declared.Found.{Found}
@@ -150,39 +152,39 @@ module _ {l d : ℕ} {m c : List ℕ} {s : State} {b : Book} {disk : Disk} {clos
         lt-ltb (sequenceOf (s .tail) + 1) (2 ^ 48) h,
       ) (or-true (leb (usedOf (s .tail) + size) 512))
 
-  room : (usedOf (s .tail) + 33 ≤ 512) ⊎ (sequenceOf (s .tail) + 1 < 2 ^ 48)
+  room : (usedOf (s .tail) + 34 ≤ 512) ⊎ (sequenceOf (s .tail) + 1 < 2 ^ 48)
   unfolding tailEnd endPlace
-  room = go (split 512 (usedOf (s .tail) + 33))
+  room = go (split 512 (usedOf (s .tail) + 34))
     where
-      end-is : 512 * sequenceOf (s .tail) + usedOf (s .tail) + 52 ≤ 512 * 2 ^ 48
+      end-is : 512 * sequenceOf (s .tail) + usedOf (s .tail) + 53 ≤ 512 * 2 ^ 48
       end-is = rw (a .tail) (left .log)
 
-      go : (512 < usedOf (s .tail) + 33) ⊎ (usedOf (s .tail) + 33 ≤ 512) → (usedOf (s .tail) + 33 ≤ 512) ⊎ (sequenceOf (s .tail) + 1 < 2 ^ 48)
+      go : (512 < usedOf (s .tail) + 34) ⊎ (usedOf (s .tail) + 34 ≤ 512) → (usedOf (s .tail) + 34 ≤ 512) ⊎ (sequenceOf (s .tail) + 1 < 2 ^ 48)
       go (inr h) = inl h
       go (inl h) = inr (omega (arith, end-is))
 
-  write-passed : (key : ℕ) → Passed (writeAsks s m c (r .next .0) key)
-  write-passed key = (
+  write-passed : (key : ℕ) → keyForm key ≡ true → Passed (writeAsks s m c (r .next .0) key)
+  write-passed key k = (
     fits-up u,
-    (rw mine-found, (rw (not-held key), (lt-ltb (s .slots) (15 * s .pages) (omega (arith, a .slots, left .slots, u .state .pages)), (may-log 33 room, tt)))),
+    (k, (rw mine-found, (rw (not-held key), (lt-ltb (s .slots) (15 * s .pages) (omega (arith, a .slots, left .slots, u .state .pages)), (may-log 34 room, tt))))),
   )
 
   -- the version's record, and what the log makes of it
   record-of : ℕ → List ℕ → Record
   record-of key value = versionRecord (newHead s c (r .next .0) key 0) value
 
-  write-done : (key : ℕ) (value : List ℕ) → called m c s (write (r .next .0) key value) ≡ writeStep s m c (a .place) (newHead s c (r .next .0) key 0) value
+  write-done : (key : ℕ) → keyForm key ≡ true → (value : List ℕ) → called m c s (write (r .next .0) key value) ≡ writeStep s m c (a .place) (newHead s c (r .next .0) key 0) value
   unfolding called writeOf addOf writeIf
-  write-done key value = rw (passes (writeAsks s m c (r .next .0) key) (write-passed key)) (rw mine-found)
+  write-done key k value = rw (passes (writeAsks s m c (r .next .0) key) (write-passed key k)) (rw mine-found)
 
   -- ---- commit
 
-  log-then : (i : ℕ) (g : Logged) → Takes s m 33 g → mayLog (written s i g) (g .medium) 19 ≡ true
+  log-then : (i : ℕ) (g : Logged) → Takes s m 34 g → mayLog (written s i g) (g .medium) 19 ≡ true
   unfolding mayLog tailFits written tailEnd endPlace
   log-then i g (next x y z) = rw (le-leb (usedOf (g .tail) + 19) 512 (omega arith))
   log-then i g (behind x y z w) = go (split 512 (usedOf (g .tail) + 19))
     where
-      end-is : 512 * sequenceOf (s .tail) + usedOf (s .tail) + 52 ≤ 512 * 2 ^ 48
+      end-is : 512 * sequenceOf (s .tail) + usedOf (s .tail) + 53 ≤ 512 * 2 ^ 48
       end-is = rw (a .tail) (left .log)
 
       go : (512 < usedOf (g .tail) + 19) ⊎ (usedOf (g .tail) + 19 ≤ 512)
@@ -199,7 +201,7 @@ module _ {l d : ℕ} {m c : List ℕ} {s : State} {b : Book} {disk : Disk} {clos
   last-stays i g = refl
 
   written-ready : (key : ℕ) (value : List ℕ) → Ready (r .next .0) (logged s m (record-of key value) .medium) (written s (a .place) (logged s m (record-of key value)))
-  unfolding recordSize record-of
+  unfolding recordSize record-of newHead bytesOf
   written-ready key value =
       let g = logged s m (record-of key value) in
       record {
@@ -218,7 +220,7 @@ refusal-is l d m c s x e = e
 abbrev Anywhere : World → Type 0
 Anywhere w = Unit {0}
 
-module _ (l d : ℕ) (r : State) (left : Left d r) (clock key : ℕ) (value : List ℕ) (end : ℕ) where
+module _ (l d : ℕ) (r : State) (left : Left d r) (clock key : ℕ) (form : keyForm key ≡ true) (value : List ℕ) (end : ℕ) where
   commit-leads : callTyped (commit (r .next .0) end) ≡ true → (w : World) → Standing l d (Ready (r .next .0)) w → Leads l d w (call (commit (r .next .0) end) ∷ []) Anywhere
   commit-leads t w (stands m c s b disk closed tail u a) =
       leads-call l d m c s (commit (r .next .0) end) [] Anywhere t (refusal-is l d m c s (commit (r .next .0) end) (done-way (way m c s (commit (r .next .0) end)) passed))
@@ -232,8 +234,8 @@ module _ (l d : ℕ) (r : State) (left : Left d r) (clock key : ℕ) (value : Li
   unfolding writeStep record-of
   write-leads t z w (stands m c s b disk closed tail u a) =
       leads-call l d m c s (write (r .next .0) key value) (call (commit (r .next .0) end) ∷ []) Anywhere t
-      (refusal-is l d m c s (write (r .next .0) key value) (done-way (way m c s (write (r .next .0) key value)) (write-passed u r a left key)))
-      (commit-leads z _ (called-on l d (Ready (r .next .0)) m c s b (running u) (write (r .next .0) key value) t _ (write-done u r a left key value) (written-ready u r a left key value)))
+      (refusal-is l d m c s (write (r .next .0) key value) (done-way (way m c s (write (r .next .0) key value)) (write-passed u r a left key form)))
+      (commit-leads z _ (called-on l d (Ready (r .next .0)) m c s b (running u) (write (r .next .0) key value) t _ (write-done u r a left key form value) (written-ready u r a left key value)))
 
   begin-leads : callTyped (begin clock) ≡ true → callTyped (write (r .next .0) key value) ≡ true → callTyped (commit (r .next .0) end) ≡ true → (w : World) → Standing l d (Emptied r 64) w
       → Leads l d w (transaction (r .next .0) clock key value end) Anywhere
@@ -267,7 +269,7 @@ emptying u w (runs n a t b′ disk′ x f) = stands n a t b′ disk′ _ _ x (re
 
 pub unstuck : Unstuck
 unfolding Unstuck freshStart
-unstuck l d es m c s r e left clock key value end x y z =
+unstuck l d es m c s r e left clock key value end k x y z =
     go (subst (λ (w : World). Inv l d w (bookAt l d es)) e (inv-after l d es (formatted l d) blank (started r) (r .run)))
   where
     go : {b : Book} → Inv l d (up m c s) b → Restarts l d (up m c s) (s .next .0) clock key value end
@@ -277,5 +279,5 @@ unstuck l d es m c s r e left clock key value end x y z =
         (λ v a. aborts-lead l d s (s .places) 0 (omega (arith, u .living .size)) (λ j. ap (placeAt (s .places)) (zero-add j)) v (emptying u v a)) in
         let q : Leads l d (up m c s) ((relief l d (up m c s) ++ abortsOf (s .places)) ++ transaction (s .next .0) clock key value end) Anywhere =
         leads-then l d (up m c s) (relief l d (up m c s) ++ abortsOf (s .places)) (transaction (s .next .0) clock key value end) (Standing l d (Emptied s 64)) Anywhere p
-        (begin-leads l d s left clock key value end x y z) in
+        (begin-leads l d s left clock key k value end x y z) in
         record { goes-on = q .run; accepted = q .accepted; number = begin-number l d s left clock (worldAfter l d (up m c s) (relief l d (up m c s) ++ abortsOf (s .places))) (p .there) }
