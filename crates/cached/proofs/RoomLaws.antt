@@ -11,7 +11,7 @@ use Rattle.fields.specs.Field.{dec}
 use Rattle.fields.specs.Part.{part}
 use Rattle.fields.specs.Block.{slotAt, cacheLength}
 use Rattle.layout.specs.Page.{cacheSlot}
-use Rattle.layout.specs.Slot.{slotState, cellOf}
+use Rattle.layout.specs.Slot.{slotState, slotKey, cellOf}
 use Rattle.layout.specs.declared.slot.Slot.{Slot}
 use Rattle.fields.proofs.PartLaws.{lent-part, part-part}
 use Rattle.store.specs.declared.Found.{Found}
@@ -46,6 +46,10 @@ pub state-read : (c : List ℕ) (n a : ℕ) (v : Slot) → a ≡ slotAt n → v 
 unfolding cellAt cellOf cacheSlot
 state-read c n a v e h = rw (lent-part c a 32, e) at h
 
+pub key-read : (c : List ℕ) (n a v : ℕ) → a ≡ slotAt n → v ≡ slotKey (take (a + 32 - a) (drop a c)) → v ≡ cellAt c n .key
+unfolding cellAt cellOf cacheSlot
+key-read c n a v e h = rw (lent-part c a 32, e) at h
+
 byte-read : (c : List ℕ) (n a i : ℕ) → a ≡ slotAt n → i < 32 → getD c (a + i) 0 ≡ getD (cacheSlot c n) i 0
 unfolding cacheSlot
 byte-read c n a i e h = rw (e, getD-take 32 (drop (slotAt n) c) i 0 h, getD-drop (slotAt n) c i 0)
@@ -53,10 +57,6 @@ byte-read c n a i e h = rw (e, getD-take 32 (drop (slotAt n) c) i 0 h, getD-drop
 part-read : (c : List ℕ) (n a i m : ℕ) → a ≡ slotAt n → i + m ≤ 32 → part c (a + i) m ≡ part (cacheSlot c n) i m
 unfolding cacheSlot
 part-read c n a i m e h = rw (e, part-part c (slotAt n) 32 i m h)
-
-pub key-read : (c : List ℕ) (n a : ℕ) → a ≡ slotAt n → getD c (a + 1) 0 ≡ cellAt c n .key
-unfolding cellAt cellOf
-key-read c n a e = byte-read c n a 1 e (omega arith)
 
 pub kind-read : (c : List ℕ) (n a : ℕ) → a ≡ slotAt n → getD c (a + 2) 0 ≡ cellAt c n .kind
 unfolding cellAt cellOf

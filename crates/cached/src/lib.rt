@@ -16,12 +16,12 @@ pub fn state_at(cache: &[u8], n: u64) -> Slot
 }
 
 // The record number of a slot.
-pub fn key_at(cache: &[u8], n: u64) -> u8
+pub fn key_at(cache: &[u8], n: u64) -> u16
     requires { ⌜ Room (length (now cache)) (suc n) ⌝ }
     ensures { λ r. ⌜ r ≡ cellAt (now (cache .entry)) n .key ⌝ }
 {
     let a = layout::place::slot_at(n);
-    cache[a + 1]
+    layout::slot::key(&cache[a..a + 32])
 }
 
 // The earlier slot that a slot names.

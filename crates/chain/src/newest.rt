@@ -9,7 +9,7 @@ ghost use Rattle.memory.specs.Memory.{placesOf};
 ghost use Rattle.cached.specs.Room.{Room, Head};
 
 // Does a slot hold a version of the record?
-pub fn holds(cache: &[u8], key: u8, n: u64) -> bool
+pub fn holds(cache: &[u8], key: u16, n: u64) -> bool
     requires { ⌜ Room (length (now cache)) (suc n) ⌝ }
     ensures { λ r. ⌜ r ≡ versionOf (now (cache .entry)) key n ⌝ }
 {
@@ -20,7 +20,7 @@ pub fn holds(cache: &[u8], key: u8, n: u64) -> bool
 }
 
 // The highest slot below n that holds a version of the record.
-pub fn find(cache: &[u8], key: u8, n: u64) -> Found
+pub fn find(cache: &[u8], key: u16, n: u64) -> Found
     requires { ⌜ Room (length (now cache)) n ⌝ }
     ensures { λ r. ⌜ r ≡ newest (now (cache .entry)) key n ⌝ }
 {

@@ -14,15 +14,17 @@ use borrow.Author.Tests.{lt-ltb, le-ltb, le-leb, lt-leb}
 use Rattle.fields.specs.Part.{part}
 use Rattle.fields.specs.Block.{blk, pageBlockAt}
 use Rattle.layout.specs.Page.{pageForm, pageEnd}
-use Rattle.layout.specs.Item.{itemOf, valueOf}
-use Rattle.layout.specs.Slot.{kindForm}
+use Rattle.layout.specs.Item.{bytesOf, itemOf, valueOf}
+use Rattle.layout.specs.Slot.{keyForm, kindForm}
 use Rattle.layout.specs.Journal.{Record, version, commit, Parsed, onward, usedOf, bodyOf, parse, parseMore, parsed, usedForm, recordForm}
 use Rattle.layout.specs.declared.item.Area.the-variants.{Journal}
+use Rattle.layout.specs.declared.item.Width.{Width}
 use Rattle.layout.specs.declared.item.VersionHead.{VersionHead}
 use Rattle.layout.specs.declared.item.Pair.{Pair}
 use Rattle.layout.specs.declared.item.Item.{Item}
 use Rattle.layout.specs.declared.item.Item.the-variants.{End, Version, Commit, Number, Damaged}
 use Rattle.fields.proofs.Choose.{and-0, and-1}
+use Rattle.fields.proofs.FieldLaws.{Bytes, bytes-take, bytes-drop}
 use Rattle.fields.proofs.PartLaws.{part-part, lent-part, lent-rest}
 use Rattle.layout.proofs.ItemLaws.{Told, told}
 use Rattle.layout.proofs.ParseLaws.{parse-fuel}
@@ -32,6 +34,10 @@ use Rattle.conditions.specs.Lookup.{slotBelow, slotsBelow}
 use Rattle.conditions.specs.Passes.{recordsOk, blocksOk, pageOk}
 
 -- ---- the bytes of a block's records
+
+pub bytes-blk : (m : List ℕ) (k : ℕ) → Bytes m → Bytes (blk m k)
+unfolding blk
+bytes-blk m k h = bytes-take 512 (drop (512 * k) m) (bytes-drop (512 * k) m h)
 
 pub body-short : (b : List ℕ) → length b ≤ 512 → length (bodyOf b) ≤ 502
 unfolding bodyOf
@@ -68,16 +74,20 @@ item-end bs at h = ap (itemOf Journal) (drop-of-length-le bs h)
 pub record-in : (b : List ℕ) (at n : ℕ) → length b ≤ 512 → 10 ≤ at → n ≤ length (drop (at - 10) (bodyOf b)) → 0 < n → at + n ≤ 512
 record-in b at n h g r z = omega (arith, body-short b h, length-drop (at - 10) (bodyOf b))
 
--- the value of a version record, where it lies in the block
-pub value-in : (b : List ℕ) (at : ℕ) → 10 ≤ at → 33 ≤ length (drop (at - 10) (bodyOf b)) → valueOf (drop 3 (drop (at - 10) (bodyOf b))) ≡ part b (at + 17) 16
+-- the value of a version record, where it lies in the block: in front of the record's end
+pub value-in : (b : List ℕ) (at end : ℕ) (w : Width) → 10 ≤ at → 32 + bytesOf w ≤ length (drop (at - 10) (bodyOf b)) → end ≡ at + (32 + bytesOf w)
+    → valueOf w (drop 3 (drop (at - 10) (bodyOf b))) ≡ part b (end - 16) 16
 unfolding valueOf bodyOf
-value-in b at h r =
+value-in b at end w h r q =
     let p = part b 10 (usedOf b - 10) in
+    let k = bytesOf w in
     let u : length p ≤ usedOf b - 10 = body-used b in
-    let d : 33 ≤ length p - (at - 10) = rw length-drop at r in
-    let e : at - 10 + 17 ≡ at + 7 = omega arith in
-    let f : 10 + (at + 7) ≡ at + 17 = omega arith in
-    rw (drop-drop 14 3 (drop (at - 10) p), drop-drop 17 (at - 10) p, e, part-part b 10 (usedOf b - 10) (at + 7) 16 (omega arith), f)
+    let d : 32 + k ≤ length p - (at - 10) = rw length-drop at r in
+    let e : at - 10 + (3 + (13 + k)) ≡ end - 16 - 10 = omega arith in
+    let f : 10 + (end - 16 - 10) ≡ end - 16 = omega arith in
+    let a : drop (13 + k) (drop 3 (drop (at - 10) p)) ≡ drop (end - 16 - 10) p =
+    drop-drop (13 + k) 3 (drop (at - 10) p) ∙ drop-drop (3 + (13 + k)) (at - 10) p ∙ ap (λ (j : ℕ). drop j p) e in
+    ap (take 16) a ∙ part-part b 10 (usedOf b - 10) (end - 16 - 10) 16 (omega arith) ∙ rw f
 
 -- ---- the records from an offset on
 
@@ -117,22 +127,23 @@ module _ (b : List ℕ) (at : ℕ) (low : 10 ≤ at) (i : Item) (read : i ≡ it
   pub left-damaged : i ≡ Damaged → leftOf b at ≡ record { records = []; whole = false }
   left-damaged e = left-is ∙ rw e
 
-  version-room : (h : VersionHead) → i ≡ Version h → 33 ≤ length (drop (at - 10) (bodyOf b))
-  version-room h e = let t : Told Journal (drop (at - 10) (bodyOf b)) (Version h) = rw e at told-here in t .0 .room
+  version-room : (h : VersionHead) → i ≡ Version h → 32 + bytesOf (h .width) ≤ length (drop (at - 10) (bodyOf b))
+  version-room h e = let t : Told Journal (drop (at - 10) (bodyOf b)) (Version h) = rw e at told-here in omega (arith, t .0 .room)
 
   commit-room : (p : Pair) → i ≡ Commit p → 19 ≤ length (drop (at - 10) (bodyOf b))
   commit-room p e = let t : Told Journal (drop (at - 10) (bodyOf b)) (Commit p) = rw e at told-here in t .0 .room
 
-  pub version-in : (h : VersionHead) → length b ≤ 512 → i ≡ Version h → at + 33 ≤ 512
-  version-in h n e = record-in b at 33 n low (version-room h e) (omega arith)
+  pub version-in : (h : VersionHead) → length b ≤ 512 → i ≡ Version h → at + (32 + bytesOf (h .width)) ≤ 512
+  version-in h n e = record-in b at (32 + bytesOf (h .width)) n low (version-room h e) (omega arith)
 
   pub commit-in : (p : Pair) → length b ≤ 512 → i ≡ Commit p → at + 19 ≤ 512
   commit-in p n e = record-in b at 19 n low (commit-room p e) (omega arith)
 
-  pub left-version : (h : VersionHead) → i ≡ Version h → leftOf b at ≡ onward (version h (part b (at + 17) 16)) (leftOf b (at + 33))
-  left-version h e =
+  pub left-version : (h : VersionHead) (end : ℕ) → i ≡ Version h → end ≡ at + (32 + bytesOf (h .width))
+      → leftOf b at ≡ onward (version h (part b (end - 16) 16)) (leftOf b end)
+  left-version h end e q =
       let r = version-room h e in
-      left-is ∙ rw (e, value-in b at low r, left-behind b at 33 low (omega arith) r)
+      left-is ∙ rw (e, value-in b at end (h .width) low r q, left-behind b at (32 + bytesOf (h .width)) low (omega arith) r, ← q)
 
   pub left-commit : (p : Pair) → i ≡ Commit p → leftOf b at ≡ onward (commit p) (leftOf b (at + 19))
   left-commit p e = left-is ∙ rw (e, left-behind b at 19 low (omega arith) (commit-room p e))
@@ -168,21 +179,20 @@ module _ {d low start : ℕ} {p r q : Parsed} (x : Record) (s : Same d low p sta
   unfolding recordsOk
   same-stop g = rw (e, sym f ∙ g) at (s .ok)
 
--- at the item that was read; a version's value is lent as `&block[v..v + 16]`
+-- at the item that was read; a version's value is lent as `&block[v..v + 16]`, where v is `end - 16`
 module _ (b : List ℕ) (at : ℕ) (from : 10 ≤ at) (i : Item) (read : i ≡ itemOf Journal (drop (at - 10) (bodyOf b))) {d low start : ℕ} {q : Parsed}
     (s : Same d low (leftOf b at) start q) (t : Bool) where
-  abbrev VersionFound : VersionHead → Type 0
-  VersionFound h = t ≡ kindForm (h .kind) (take (at + 17 + 16 - (at + 17)) (drop (at + 17) b)) && ltb (h .slot) (15 * d)
+  module _ (h : VersionHead) (end : ℕ) (is-version : i ≡ Version h) (is-end : end ≡ at + (32 + bytesOf (h .width)))
+      (judged : t ≡ (keyForm (h .key) && kindForm (h .kind) (take (end - 16 + 16 - (end - 16)) (drop (end - 16) b))) && ltb (h .slot) (15 * d)) where
+    found : t ≡ recordForm (version h (part b (end - 16) 16)) && recordFits d low (version h (part b (end - 16) 16))
+    unfolding recordForm
+    found = rw (lent-part b (end - 16) 16) at judged
 
-  found : (h : VersionHead) → VersionFound h → t ≡ recordForm (version h (part b (at + 17) 16)) && recordFits d low (version h (part b (at + 17) 16))
-  unfolding recordForm
-  found h f = rw (lent-part b (at + 17) 16) at f
+    pub version-turn : t ≡ true → Same d low (leftOf b end) start q
+    version-turn g = same-turn (version h (part b (end - 16) 16)) s (left-version b at from i read h end is-version is-end) t found g
 
-  pub version-turn : (h : VersionHead) → i ≡ Version h → VersionFound h → t ≡ true → Same d low (leftOf b (at + 33)) start q
-  version-turn h e f g = same-turn (version h (part b (at + 17) 16)) s (left-version b at from i read h e) t (found h f) g
-
-  pub version-stop : (h : VersionHead) → i ≡ Version h → VersionFound h → t ≡ false → false ≡ recordsOk d start (q .records) && q .whole
-  version-stop h e f g = same-stop (version h (part b (at + 17) 16)) s (left-version b at from i read h e) t (found h f) g
+    pub version-stop : t ≡ false → false ≡ recordsOk d start (q .records) && q .whole
+    version-stop g = same-stop (version h (part b (end - 16) 16)) s (left-version b at from i read h end is-version is-end) t found g
 
   pub commit-turn : (p : Pair) → i ≡ Commit p → t ≡ leb low (p .time .0) → t ≡ true → Same d (p .time .0 + 1) (leftOf b (at + 19)) start q
   unfolding recordForm

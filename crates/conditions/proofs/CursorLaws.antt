@@ -13,10 +13,11 @@ use lib.Dec.{eqb}
 use borrow.Author.Tests.{eq-eqb, ne-eqb}
 use Rattle.fields.specs.Part.{part}
 use Rattle.fields.specs.Block.{blk, logBlockAt, endPlace}
-use Rattle.layout.specs.Item.{itemOf, valueOf}
+use Rattle.layout.specs.Item.{bytesOf, itemOf, valueOf}
 use Rattle.layout.specs.Journal.{Record, version, commit, recordSize, Parsed, sequenceOf, bodyOf, parse, parseMore, parsed}
 use Rattle.layout.specs.declared.EndPlace.{EndPlace}
 use Rattle.layout.specs.declared.item.Area.the-variants.{Journal}
+use Rattle.layout.specs.declared.item.Width.{Width}
 use Rattle.layout.specs.declared.item.VersionHead.{VersionHead}
 use Rattle.layout.specs.declared.item.Pair.{Pair}
 use Rattle.layout.specs.declared.item.Item.{Item}
@@ -58,9 +59,9 @@ module _ (m : List ℕ) (l : ℕ) (c : Cursor) (start : ℕ) (i : Item) (some-le
       → d ≡ record { sequence = c .sequence + 1; at = 10; left = c .left - 1 } → Skip d ≡ stepOf m l c
   makes-skip d f e = ap Skip e ∙ sym f ∙ sym step-is
 
-  pub makes-written : (h : VersionHead) (e : EndPlace) → i ≡ Version h → e ≡ record { 0 = endPlace (c .sequence) (c .at + 33) }
-      → Written h (start + c .at + 17) e (record { sequence = c .sequence; at = c .at + 33; left = c .left }) ≡ stepOf m l c
-  makes-written h e f g = sym (step-is ∙ rw (f, g, at-start, ← left-is))
+  pub makes-written : (h : VersionHead) (n : ℕ) (e : EndPlace) → i ≡ Version h → n ≡ bytesOf (h .width) → e ≡ record { 0 = endPlace (c .sequence) (c .at + (32 + n)) }
+      → Written h (start + c .at + (32 + n - 16)) e (record { sequence = c .sequence; at = c .at + (32 + n); left = c .left }) ≡ stepOf m l c
+  makes-written h n e f q g = sym (step-is ∙ rw (f, g, at-start, ← left-is, q))
     where
       left-is : c .left ≡ suc (c .left - 1)
       left-is = omega arith
@@ -86,13 +87,14 @@ module _ (m : List ℕ) (l : ℕ) where
   rest-block s (suc k) = refl
 
   -- the value of a version record, where it lies on the medium
-  value-at : (s at : ℕ) → 10 ≤ at → 33 ≤ length (drop (at - 10) (bodyOf (blockOf m l s)))
-      → valueOf (drop 3 (drop (at - 10) (bodyOf (blockOf m l s)))) ≡ part m (512 * logBlockAt l s + at + 17) 16
+  value-at : (s at : ℕ) (w : Width) → 10 ≤ at → 32 + bytesOf w ≤ length (drop (at - 10) (bodyOf (blockOf m l s)))
+      → valueOf w (drop 3 (drop (at - 10) (bodyOf (blockOf m l s)))) ≡ part m (512 * logBlockAt l s + at + (32 + bytesOf w - 16)) 16
   unfolding blockOf
-  value-at s at h r =
-      let g : 512 * logBlockAt l s + (at + 17) ≡ 512 * logBlockAt l s + at + 17 = omega arith in
-      let w : at + 33 ≤ 512 = record-in (blockOf m l s) at 33 (block-short s) h r (omega arith) in
-      value-in (blockOf m l s) at h r ∙ part-blk m (logBlockAt l s) (at + 17) 16 (omega arith) ∙ rw g
+  value-at s at w h r =
+      let n = 32 + bytesOf w in
+      let g : 512 * logBlockAt l s + (at + n - 16) ≡ 512 * logBlockAt l s + at + (n - 16) = omega arith in
+      let u : at + n ≤ 512 = record-in (blockOf m l s) at n (block-short s) h r (omega arith) in
+      value-in (blockOf m l s) at (at + n) w h r refl ∙ part-blk m (logBlockAt l s) (at + n - 16) 16 (omega arith) ∙ rw g
 
   -- by the item at the cursor: `rest` is what is left of its block behind it
   item-shown : (s at k : ℕ) (i : Item) (f : ℕ → Parsed) → 10 ≤ at → Told Journal (drop (at - 10) (bodyOf (blockOf m l s))) i
@@ -101,7 +103,9 @@ module _ (m : List ℕ) (l : ℕ) where
       ≡ shown m l (stepAt m l i s at k) s (restOf m l)
   unfolding restOf restFrom placeFrom recordSize
   item-shown s at k End f h t e = sym (rest-block (s + 1) k)
-  item-shown s at k (Version x) f h t e = rw (e 33 (omega arith) (t .0 .room), value-at s at h (t .0 .room))
+  item-shown s at k (Version x) f h t e =
+      let r : 32 + bytesOf (x .width) ≤ length (drop (at - 10) (bodyOf (blockOf m l s))) = omega (arith, t .0 .room) in
+      rw (e (32 + bytesOf (x .width)) (omega arith) r, value-at s at (x .width) h r)
   item-shown s at k (Commit p) f h t e = rw (e 19 (omega arith) (t .0 .room))
   item-shown s at k (Number n v) f h t e = sym (rest-block (s + 1) k)
   item-shown s at k Damaged f h t e = sym (rest-block (s + 1) k)
@@ -172,8 +176,9 @@ module _ (m : List ℕ) (l : ℕ) (ready : Ready l (length m)) where
       go : (i : Item) → Told Journal (drop (at - 10) b) i → Leads m (onward m l s at (suc k)) (stepAt m l i s at k)
       go End t = skip
       go (Version h) t =
-          let r : at + 33 ≤ 512 = room 33 (t .0 .room) (omega arith) in
-          let w = within 33 (omega arith) r in
+          let n = 32 + bytesOf (h .width) in
+          let r : at + n ≤ 512 = room n (omega (arith, t .0 .room)) (omega arith) in
+          let w = within n (omega arith) r in
           (w .0, omega (arith, w .1), omega (arith, block-in s))
       go (Commit p) t = within 19 (omega arith) (room 19 (t .0 .room) (omega arith))
       go (Number n x) t = skip
@@ -272,7 +277,7 @@ rise-item : (s at : ℕ) (bs : List ℕ) (rest : List Placed) (i : Item) (f : �
     → Rising (endPlace s at) (placeFrom s at (parseMore i bs f .records) ++ rest)
 unfolding Rising placeFrom recordSize endPlace
 rise-item s at bs rest End f h t r e = rising-from (endPlace s at) (endPlace s 512) rest (omega arith) r
-rise-item s at bs rest (Version x) f h t r e = (omega arith, e 33 (t .0 .room))
+rise-item s at bs rest (Version x) f h t r e = (omega arith, e (32 + bytesOf (x .width)) (omega (arith, t .0 .room)))
 rise-item s at bs rest (Commit p) f h t r e = (omega arith, e 19 (t .0 .room))
 rise-item s at bs rest (Number n v) f h t r e = rising-from (endPlace s at) (endPlace s 512) rest (omega arith) r
 rise-item s at bs rest Damaged f h t r e = rising-from (endPlace s at) (endPlace s 512) rest (omega arith) r

@@ -7,3 +7,4 @@ pub mod RecordsLaws
 pub mod SlotsLaws
 pub mod ChecksLaws
 pub mod FormedLaws
+pub mod KeyLaws

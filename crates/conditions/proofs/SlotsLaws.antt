@@ -72,9 +72,9 @@ fits-as Untimed Untimed times key e = refl
 -- ---- slot n of a cache: s and t are the newest slots and times below it
 
 module _ (m : List ℕ) (l d : ℕ) (c : List ℕ) where
-  pub tracks-start : Tracks m l d c 0 (replicate 256 65535) (replicate 256 0)
+  pub tracks-start : Tracks m l d c 0 (replicate 1024 65535) (replicate 1024 0)
   unfolding newest timeBelow
-  tracks-start = record { newestSlot = λ k h. getD-replicate 256 k 65535 0 h; newestTime = λ k h. getD-replicate 256 k 0 0 h }
+  tracks-start = record { newestSlot = λ k h. getD-replicate 1024 k 65535 0 h; newestTime = λ k h. getD-replicate 1024 k 0 0 h }
 
   pub tracks-empty : (n : ℕ) (s t : List ℕ) → isVersion (cellAt c n .state) ≡ false → Tracks m l d c n s t → Tracks m l d c (suc n) s t
   unfolding newest timeBelow versionOf
@@ -93,7 +93,7 @@ module _ (m : List ℕ) (l d : ℕ) (c : List ℕ) where
   timed-other (Timed x) t key k h = getD-set-other t key k (x .0) 0 h
 
   pub tracks-version : (n key : ℕ) (u : Timing) (s t : List ℕ) → isVersion (cellAt c n .state) ≡ true → key ≡ cellAt c n .key
-      → u ≡ versionTime (pairTime m (readLog m l)) (cellAt c n .state) → length s ≡ 256 → length t ≡ 256 → key < 256
+      → u ≡ versionTime (pairTime m (readLog m l)) (cellAt c n .state) → length s ≡ 1024 → length t ≡ 1024 → key < 1024
       → Tracks m l d c n s t → Tracks m l d c (suc n) (set s key n) (timesAfter t key u)
   unfolding newest timeBelow versionOf
   tracks-version n key u s t v ek eu ls lt hk w = record {
@@ -101,11 +101,11 @@ module _ (m : List ℕ) (l d : ℕ) (c : List ℕ) where
     newestTime = λ k h. time k h (ℕ-discrete k key);
   }
     where
-      slot : (k : ℕ) → k < 256 → Dec (k ≡ key) → getD (set s key n) k 0 ≡ orNone (newest c k (suc n))
+      slot : (k : ℕ) → k < 1024 → Dec (k ≡ key) → getD (set s key n) k 0 ≡ orNone (newest c k (suc n))
       slot k h (yes e) = simp (v, ← ek, e, eq-eqb key key refl, getD-set-same s key n 0 (omega arith))
       slot k h (no e) = simp (v, ← ek, ne-eqb key k (λ q. e (sym q)), getD-set-other s key k n 0 e) (w .newestSlot k h)
 
-      time : (k : ℕ) → k < 256 → Dec (k ≡ key) → getD (timesAfter t key u) k 0 ≡ timeOrZero (timeBelow m l d c k (suc n))
+      time : (k : ℕ) → k < 1024 → Dec (k ≡ key) → getD (timesAfter t key u) k 0 ≡ timeOrZero (timeBelow m l d c k (suc n))
       time k h (yes e) =
           simp (v, ← ek, ← eu, e, eq-eqb key key refl) (timed-same u (timeBelow m l d c key n) t key (omega arith) (w .newestTime key hk))
       time k h (no e) = simp (v, ← ek, ne-eqb key k (λ q. e (sym q)), timed-other u t key k e) (w .newestTime k h)
@@ -115,14 +115,14 @@ module _ (m : List ℕ) (l d : ℕ) (c : List ℕ) where
   ok-empty n e = simp (e, empty-one (cellAt c n .state) e)
 
   -- the earlier slot is another, the time falls, or the bounds decide
-  pub ok-earlier : (n key e : ℕ) (s t : List ℕ) → isVersion (cellAt c n .state) ≡ true → key ≡ cellAt c n .key → e ≡ cellAt c n .earlier → key < 256
+  pub ok-earlier : (n key e : ℕ) (s t : List ℕ) → isVersion (cellAt c n .state) ≡ true → key ≡ cellAt c n .key → e ≡ cellAt c n .earlier → key < 1024
       → Tracks m l d c n s t → (getD s key 0 ≡ e → ⊥) → false ≡ slotOk m l d c n
   unfolding slotOk slotTrue earlierTrue
   ok-earlier n key e s t v ek ee hk w h =
       simp (v, ← ek, ← ee, ← w .newestSlot key hk, ne-eqb e (getD s key 0) (λ q. h (sym q)))
 
   module _ (n key e : ℕ) (u : Timing) (s t : List ℕ) (b : Bool) (v : isVersion (cellAt c n .state) ≡ true) (ek : key ≡ cellAt c n .key) (ee : e ≡ cellAt c n .earlier)
-      (eu : u ≡ versionTime (pairTime m (readLog m l)) (cellAt c n .state)) (hk : key < 256) (w : Tracks m l d c n s t) (h : getD s key 0 ≡ e) (eb : b ≡ timeFits t key u) where
+      (eu : u ≡ versionTime (pairTime m (readLog m l)) (cellAt c n .state)) (hk : key < 1024) (w : Tracks m l d c n s t) (h : getD s key 0 ≡ e) (eb : b ≡ timeFits t key u) where
     falls : b ≡ notFalling m l d c n
     unfolding notFalling
     falls = simp (← ek, ← eu) (eb ∙ fits-as (timeBelow m l d c key n) u t key (w .newestTime key hk))

@@ -5,7 +5,7 @@ use mathlib.Core.List.{List, [], _∷_, _++_}
 use lib.ListN.{length, drop}
 use Rattle.fields.specs.Part.{part}
 use Rattle.fields.specs.Block.{mediumLength, logBlockAt, endPlace}
-use Rattle.layout.specs.Item.{itemOf}
+use Rattle.layout.specs.Item.{bytesOf, itemOf}
 use Rattle.layout.specs.Journal.{version, commit, bodyOf, parse}
 use Rattle.layout.specs.declared.item.Area.the-variants.{Journal}
 use Rattle.layout.specs.declared.item.Item.{Item}
@@ -36,7 +36,8 @@ module _ (m : List ℕ) (l : ℕ) where
   abbrev pub stepAt : Item → ℕ → ℕ → ℕ → Step
   stepAt End s at k = Skip (onward (s + 1) 10 k)
   stepAt (Version h) s at k =
-      Written h (512 * logBlockAt l s + at + 17) (record { 0 = endPlace s (at + 33) }) (onward s (at + 33) (suc k))
+      let n = 32 + bytesOf (h .width) in
+      Written h (512 * logBlockAt l s + at + (n - 16)) (record { 0 = endPlace s (at + n) }) (onward s (at + n) (suc k))
   stepAt (Commit p) s at k = Committed p (record { 0 = endPlace s (at + 19) }) (onward s (at + 19) (suc k))
   stepAt (Number t n) s at k = Skip (onward (s + 1) 10 k)
   stepAt Damaged s at k = Skip (onward (s + 1) 10 k)

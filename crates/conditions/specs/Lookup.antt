@@ -11,7 +11,7 @@ use Rattle.layout.specs.Table.{tablePair}
 use Rattle.store.specs.declared.Timing.{Timing}
 use Rattle.store.specs.declared.Timing.the-variants.{Timed, Untimed}
 use Rattle.store.specs.Write.{orNone}
-use Rattle.store.specs.Chain.{newest}
+use Rattle.store.specs.Chain.{cellAt, newest}
 use Rattle.store.specs.OpenLog.{Placed, Commitment, readLog}
 use Rattle.store.specs.OpenConditions.{timeBelow}
 use Rattle.conditions.specs.declared.log.Match.{Match}
@@ -66,10 +66,14 @@ unfoldable pub slotsBelow : ℕ → List Placed → Bool
 slotsBelow d [] = true
 slotsBelow d (x ∷ xs) = slotBelow d (x .rec) && slotsBelow d xs
 
+-- every slot of d pages has a record number below 1,024
+abbrev pub KeysBelow : List ℕ → ℕ → Type 0
+KeysBelow c d = (n : ℕ) → n < 15 * d → cellAt c n .key < 1024
+
 -- the newest version and the newest time of each record below slot n, as arrays over the record number
 pub record Tracks (m : List ℕ) (l d : ℕ) (c : List ℕ) (n : ℕ) (slots times : List ℕ) : Type 0 where
-  pub newestSlot : (k : ℕ) → k < 256 → getD slots k 0 ≡ orNone (newest c k n)
-  pub newestTime : (k : ℕ) → k < 256 → getD times k 0 ≡ timeOrZero (timeBelow m l d c k n)
+  pub newestSlot : (k : ℕ) → k < 1024 → getD slots k 0 ≡ orNone (newest c k n)
+  pub newestTime : (k : ℕ) → k < 1024 → getD times k 0 ≡ timeOrZero (timeBelow m l d c k n)
 
 -- is a time not below the record's newest one, and the newest times with it
 abbrev pub timeFits : List ℕ → ℕ → Timing → Bool

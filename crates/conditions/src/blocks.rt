@@ -8,7 +8,7 @@ ghost use mathlib.Core.Bool.{true, _&&_};
 ghost use Prim.Native.Nat.{_+_, _*_, _<_, _≤_, _^_};
 ghost use lib.ListN.{length};
 ghost use lib.Dec.{ltb, leb};
-ghost use Rattle.layout.specs.Slot.{kindForm};
+ghost use Rattle.layout.specs.Slot.{keyForm, kindForm};
 ghost use Rattle.layout.specs.Journal.{parsed};
 ghost use Rattle.store.specs.OpenLog.{logEnd};
 ghost use Rattle.store.specs.OpenConditions.{lowAfterAll};
@@ -22,11 +22,14 @@ pub struct Checked {
     pub last: Timing,
 }
 
-// Has a version record a kind and a value in form, and a slot in range?
+// Has a version record a key, a kind and a value in form, and a slot in range?
 fn version_ok(h: VersionHead, value: &[u8], pages: u64) -> bool
     requires { ⌜ pages ≤ 64 ⌝ }
-    ensures { λ r. ⌜ r ≡ kindForm (h .kind) (now (value .entry)) && ltb (h .slot) (15 * pages) ⌝ }
+    ensures { λ r. ⌜ r ≡ (keyForm (h .key) && kindForm (h .kind) (now (value .entry))) && ltb (h .slot) (15 * pages) ⌝ }
 {
+    if 1024 <= h.key {
+        return false;
+    }
     if !layout::slot::kind_in_form(h.kind, value) {
         return false;
     }
@@ -61,14 +64,16 @@ pub fn records_ok(block: &[u8], pages: u64, before: Timing) -> Checked
                 };
             }
             Item::Version(h) => {
-                let v = at + 17;
+                let width = h.width;
+                let end = at + 32 + layout::item::bytes(width);
+                let v = end - 16;
                 if !version_ok(h, &block[v..v + 16], pages) {
                     return Checked {
                         ok: false,
                         last: last,
                     };
                 }
-                at = at + 33;
+                at = end;
             }
             Item::Commit(p) => {
                 let time = p.time;

@@ -81,16 +81,20 @@ pub fn next(medium: &[u8], blocks: u64, c: Cursor) -> Step
     let item = item_at(&medium[start..start + 512], at as usize);
     match item {
         Item::End => Step::Skip(skip(s, left)),
-        Item::Version(h) => Step::Written(
-            h,
-            start as u64 + at + 17,
-            end_behind(s, at + 33),
-            Cursor {
-                sequence: s,
-                at: at + 33,
-                left: left,
-            },
-        ),
+        Item::Version(h) => {
+            let width = h.width;
+            let n = 32 + layout::item::bytes(width) as u64;
+            Step::Written(
+                h,
+                start as u64 + at + (n - 16),
+                end_behind(s, at + n),
+                Cursor {
+                    sequence: s,
+                    at: at + n,
+                    left: left,
+                },
+            )
+        }
         Item::Commit(p) => Step::Committed(
             p,
             end_behind(s, at + 19),

@@ -6,13 +6,13 @@ ghost use mathlib.Core.Bool.{true, _&&_};
 ghost use mathlib.Core.List.{[]};
 ghost use Prim.Native.Nat.{suc, _+_, _*_, _<_, _≤_};
 ghost use lib.ListN.{length};
-ghost use Rattle.store.specs.Chain.{versionTime};
+ghost use Rattle.store.specs.Chain.{cellAt, versionTime};
 ghost use Rattle.store.specs.OpenLog.{readLog, nextNumber, lastTime};
 ghost use Rattle.store.specs.OpenPairs.{pairTime};
 ghost use Rattle.store.specs.OpenConditions.{slotInBounds, slotAtLeastOne, fullBefore};
 ghost use Rattle.cached.specs.Room.{Room};
 ghost use Rattle.conditions.specs.Cursor.{Ready};
-ghost use Rattle.conditions.specs.Lookup.{Known, Tracks, timeFits, timesAfter};
+ghost use Rattle.conditions.specs.Lookup.{Known, KeysBelow, Tracks, timeFits, timesAfter};
 ghost use Rattle.conditions.specs.Passes.{allOf, slotOk};
 
 // Is the page full, the last one, or the one behind it unused?
@@ -83,8 +83,9 @@ fn time_of(medium: &[u8], blocks: u64, used: usize, commits: &[u64], slot: Slot)
 }
 
 // Is the time not below the record's newest one before it? It is then the newest.
-fn follows(times: &mut [u64], key: u8, time: Timing) -> bool
-    requires { ⌜ length (now times) ≡ 256 ⌝ }
+fn follows(times: &mut [u64], key: u16, time: Timing) -> bool
+    requires { ⌜ length (now times) ≡ 1024 ⌝ }
+    requires { ⌜ key < 1024 ⌝ }
     ensures { λ r. ⌜ (r ≡ timeFits (now (times .entry)) key time) × (now (times .exit) ≡ timesAfter (now (times .entry)) key time) ⌝ }
 {
     let k = key as usize;
@@ -115,7 +116,8 @@ fn slot_ok(
     requires { ⌜ Ready blocks (length (now medium)) ⌝ }
     requires { ⌜ Known (now medium) blocks used (now commits) ⌝ }
     requires { ⌜ Room (length (now cache)) (suc n) ⌝ }
-    requires { ⌜ (length (now newest) ≡ 256) × (length (now times) ≡ 256) ⌝ }
+    requires { ⌜ (length (now newest) ≡ 1024) × (length (now times) ≡ 1024) ⌝ }
+    requires { ⌜ cellAt (now cache) n .key < 1024 ⌝ }
     requires { ⌜ (next ≡ nextNumber (now medium) blocks) × (last ≡ lastTime (now medium) blocks) ⌝ }
     requires { ⌜ Tracks (now medium) blocks pages (now cache) n (now newest) (now times) ⌝ }
     ensures { λ r. ⌜ (r ≡ slotOk (now (medium .entry)) blocks pages (now (cache .entry)) n) × (r ≡ true → Tracks (now (medium .entry)) blocks pages (now (cache .entry)) (suc n) (now (newest .exit)) (now (times .exit))) ⌝ }
@@ -151,11 +153,12 @@ pub fn all_ok(
     requires { ⌜ Ready blocks (length (now medium)) ⌝ }
     requires { ⌜ Known (now medium) blocks used (now commits) ⌝ }
     requires { ⌜ (pages ≤ 64) × (length (now cache) ≡ 512 * pages) ⌝ }
+    requires { ⌜ KeysBelow (now cache) pages ⌝ }
     requires { ⌜ (next ≡ nextNumber (now medium) blocks) × (last ≡ lastTime (now medium) blocks) ⌝ }
     ensures { λ r. ⌜ r ≡ allOf (slotOk (now (medium .entry)) blocks pages (now (cache .entry))) 0 (15 * pages) ⌝ }
 {
-    let mut newest = [65535u64; 256];
-    let mut times = [0u64; 256];
+    let mut newest = [65535u64; 1024];
+    let mut times = [0u64; 1024];
     let mut n: u64 = 0;
     while n < 15 * pages {
         if !slot_ok(

@@ -19,7 +19,7 @@ use Rattle.layout.specs.declared.master.Fields.{Fields}
 use Rattle.layout.specs.declared.master.Found.{Found}
 use Rattle.layout.specs.declared.master.Found.the-variants.{Whole, Broken}
 use Rattle.fields.proofs.Choose.{cond-elim, and-0, and-1}
-use Rattle.fields.proofs.FieldLaws.{Bytes, dec-part-lt, bytes-take, bytes-drop}
+use Rattle.fields.proofs.FieldLaws.{Bytes, dec-part-lt}
 use Rattle.fields.proofs.PartLaws.{lent-part}
 use Rattle.fields.proofs.BlockLaws.{part-blk, length-blk}
 use Rattle.layout.proofs.MasterLaws.{MasterParts, master-parts, oldestOn-is}
@@ -29,6 +29,7 @@ use Rattle.store.specs.OpenRedo.{usedIn}
 use Rattle.store.specs.OpenConditions.{sizesAre, lowAfterAll}
 use Rattle.conditions.specs.Cursor.{Ready}
 use Rattle.conditions.specs.Passes.{allOf, pageOk, recordsOk, masterOk, blocksOk, mediumOk}
+use Rattle.conditions.proofs.BlockPasses.{bytes-blk}
 use Rattle.conditions.proofs.ChecksLaws.{one-up}
 use Rattle.conditions.proofs.CursorLaws.{block-lent, block-in, matching-low}
 
@@ -97,10 +98,6 @@ matching-read m l s (suc n) k h =
 pub used-below : (b : List ℕ) → Bytes b → length b ≡ 512 → usedOf b < 65536
 unfolding usedOf
 used-below b k h = dec-part-lt b 8 2 k (omega arith)
-
-bytes-blk : (m : List ℕ) (k : ℕ) → Bytes m → Bytes (blk m k)
-unfolding blk
-bytes-blk m k h = bytes-take 512 (drop (512 * k) m) (bytes-drop (512 * k) m h)
 
 module _ (m : List ℕ) (l s k : ℕ) (oldest : s ≡ oldestOn m) (count : k ≡ readCount m l) where
   module _ (none : k ≡ 0) where

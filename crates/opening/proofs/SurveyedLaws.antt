@@ -9,8 +9,10 @@ use lib.ListN.{length, replicate}
 use lib.Dec.{leb}
 use Rattle.fields.specs.Field.{dec}
 use Rattle.fields.specs.Part.{part}
+use Rattle.fields.specs.Block.{mediumLength}
 use Rattle.layout.specs.Master.{oldestOn}
 use Rattle.fields.proofs.Choose.{and-0, and-1, no}
+use Rattle.fields.proofs.FieldLaws.{Bytes}
 use Rattle.store.specs.declared.State.{State}
 use Rattle.store.specs.Places.{freePlace}
 use Rattle.store.specs.OpenLog.{nextOn, timeOn, aboveAll, latest, readCount, readLog, readTail, nextNumber, lastTime}
@@ -21,9 +23,10 @@ use Rattle.store.specs.OpenConditions.{fullBefore, copied, redone, wellFormed}
 use Rattle.memory.specs.Memory.{lifeBy, placeIn, listed, placesOf, firstOf, phaseBy, stateBy, stateOf, blank, withFirst, withPlaces}
 use Rattle.conditions.specs.declared.cursor.Cursor.{Cursor}
 use Rattle.conditions.specs.Cursor.{Valid, restOf}
-use Rattle.conditions.specs.Lookup.{commitsOf, Extent, Known, slotsBelow}
+use Rattle.conditions.specs.Lookup.{commitsOf, Extent, Known, KeysBelow, slotsBelow}
 use Rattle.conditions.specs.Passes.{allOf, pageOk, redoOk, logOk, placeOk, masterOk, blocksOk, slotOk, tableAndSlots, cacheOk, mediumOk, passes}
 use Rattle.conditions.proofs.BlockPasses.{blocks-slots}
+use Rattle.conditions.proofs.KeyLaws.{keys-redone}
 use Rattle.conditions.proofs.CursorLaws.{rest-block, matching-low}
 use Rattle.conditions.proofs.FormedLaws.{formed}
 use Rattle.opening.specs.declared.survey.LogFound.{LogFound}
@@ -140,6 +143,10 @@ module _ (m : List ℕ) (l d : ℕ) (log : Cursor) (end : ℕ) (c first : List �
 
   pub applied-known : (used : ℕ) (commits : List ℕ) → Extent m used → commits ≡ commitsOf (restOf m l log) → Known m l used commits
   applied-known used commits e f = record { table = e; log = f ∙ ap commitsOf applied-rest }
+
+  -- no slot has a record number of 1,024 or more
+  pub applied-keys : length m ≡ mediumLength l d → Bytes m → KeysBelow c d
+  applied-keys long bytes = rw (done .cache) (keys-redone m l d long bytes (done .read .ok))
 
   -- the records
   module _ (logged : Bool) (above late : ℕ)

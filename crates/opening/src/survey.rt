@@ -21,7 +21,7 @@ ghost use Rattle.store.specs.OpenConditions.{wellFormed, redone};
 ghost use Rattle.store.specs.Open.{openedState};
 ghost use Rattle.memory.specs.Memory.{firstOf, stateOf, blank, withFirst};
 ghost use Rattle.conditions.specs.Cursor.{Ready, Valid};
-ghost use Rattle.conditions.specs.Lookup.{Known};
+ghost use Rattle.conditions.specs.Lookup.{Known, KeysBelow};
 ghost use Rattle.conditions.specs.Passes.{masterOk, tableAndSlots};
 ghost use Rattle.opening.specs.Surveyed.{withNumbers, ReadAs, Applied, OpenedAs};
 
@@ -137,6 +137,7 @@ fn cache_ok(
     requires { ⌜ Ready blocks (length (now medium)) ⌝ }
     requires { ⌜ Known (now medium) blocks used (now commits) ⌝ }
     requires { ⌜ (pages ≤ 64) × (length (now cache) ≡ 512 * pages) ⌝ }
+    requires { ⌜ KeysBelow (now cache) pages ⌝ }
     requires { ⌜ (next ≡ nextNumber (now medium) blocks) × (last ≡ lastTime (now medium) blocks) ⌝ }
     ensures { λ r. ⌜ r ≡ tableAndSlots (now (medium .entry)) blocks pages (now (cache .entry)) ⌝ }
 {
@@ -217,6 +218,7 @@ fn judge(
     requires { ⌜ (pages ≤ 64) × (length (now cache) ≡ 512 * pages) ⌝ }
     requires { ⌜ Applied (now medium) blocks pages log end (now cache) (firstOf (now words)) ⌝ }
     requires { ⌜ ((t : List ℕ) → stateOf (now words) t ≡ withFirst (stateOf blank t) (firstOf (now words))) ⌝ }
+    requires { ⌜ length (now medium) ≡ mediumLength blocks pages ⌝ }
     ensures { λ r. ⌜ OpenedAs (now (medium .entry)) blocks pages (now (words .exit)) (now (tail .exit)) r ⌝ }
 {
     let mut gathered = [0u64; 2592];

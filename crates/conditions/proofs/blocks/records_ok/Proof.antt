@@ -1,9 +1,12 @@
 -- Each turn judges one record; what is left of the block, judged from there on, is the whole judgement.
-use Prim.Native.Nat.{_-_, _≤_}
+use mathlib.Core.Path.{_≡_}
+use Prim.Native.Nat.{_+_, _-_, _≤_}
 use native.Mathlib.Omega.{arith}
 use borrow.Author.Tests.{not-true, not-false}
 use Rattle.fields.proofs.Choose.{no}
+use Rattle.layout.specs.Item.{bytesOf}
 use Rattle.layout.specs.Journal.{parsed}
+use Rattle.layout.specs.declared.item.VersionHead.{VersionHead}
 use Rattle.conditions.specs.Lookup.{lowOf}
 use Rattle.conditions.proofs.BlockPasses.{leftOf, left-end, left-number, left-damaged, version-in, commit-in, Same, same-begin, same-end, same-cut, version-turn, version-stop, commit-turn, commit-stop}
 use borrow.Author.Needs.{needs}
@@ -14,12 +17,31 @@ use Rattle.conditions.proofs.blocks.records_ok.Lts as lts
 use Rattle.conditions.proofs.blocks.rises.Reads as rises-reads
 use Rattle.conditions.proofs.blocks.version_ok.Reads as version-ok-reads
 use Rattle.conditions.proofs.cursor.item_at.Reads as item-at-reads
+use Rattle.layout.proofs.item.bytes.Reads as bytes-reads
 
 abbrev Inv-loop : tie.InvT-loop
 Inv-loop block pages last₀ at₀ last at = (10 ≤ at) × (at ≤ 512) × Same pages (lowOf last) (leftOf block at) (lowOf last₀) (parsed block)
 
 abbrev μ-loop : tie.MeasureT-loop
 μ-loop block pages last₀ at₀ last at = 512 - at
+
+-- the version that was read, where it ends, and that this lies within the block
+abbrev head : tie.After-bytes Inv-loop μ-loop → VersionHead
+head c = c .before .before .item .given .0 .0
+
+end-is : (c : tie.After-bytes Inv-loop μ-loop) → let at = c .before .before .before .before .before .loop .at in at + 32 + c .bytes .result ≡ at + (32 + bytesOf (head c .width))
+end-is c = let e : c .bytes .result ≡ bytesOf (head c .width) = c .bytes .ensures in omega arith
+
+ends : (c : tie.After-bytes Inv-loop μ-loop) → c .before .before .before .before .before .loop .at + 32 + c .bytes .result ≤ 512
+ends c =
+    let k = c .before .before .before .before .before in
+    let a = k .before .before in
+    omega (
+      arith,
+      end-is c,
+      version-in (a .args .block .now) (k .loop .at) (k .loop .inv .0) _ (c .before .before .before .before .item-at .ensures) (head c) (omega arith)
+          (c .before .before .item .given .1),
+    )
 
 loop-holds : tie.Need-loop-holds Inv-loop μ-loop
 loop-holds c = (omega arith, omega arith, same-begin _ _ _)
@@ -40,72 +62,57 @@ returns c =
 enum-known-item : tie.Need-enum-known-item Inv-loop μ-loop
 enum-known-item c = search needs
 
-add-v : tie.Need-add-v Inv-loop μ-loop
-add-v c = omega arith
+add-end : tie.Need-add-end Inv-loop μ-loop
+add-end c = omega arith
+
+bytes-requires : tie.Need-bytes-requires Inv-loop μ-loop
+bytes-requires c κs = search needs
+
+add-end-2 : tie.Need-add-end-2 Inv-loop μ-loop
+add-end-2 c = omega (arith, ends c)
+
+sub-v : tie.Need-sub-v Inv-loop μ-loop
+sub-v c = omega arith
 
 add-version-ok : tie.Need-add-version-ok Inv-loop μ-loop
-add-version-ok c = omega arith
+add-version-ok c = omega (arith, ends c)
 
 sub-version-ok : tie.Need-sub-version-ok Inv-loop μ-loop
 sub-version-ok c = omega arith
 
 part-version-ok-start : tie.Need-part-version-ok-start Inv-loop μ-loop
-part-version-ok-start c =
-    let k = c .before .before .before .before in
-    let a = k .before .before in
-    omega (
-      arith,
-      version-in (a .args .block .now) (k .loop .at) (k .loop .inv .0) _ (c .before .before .before .item-at .ensures) _ (omega arith)
-          (c .before .item .given .1),
-    )
+part-version-ok-start c = omega (arith, ends c)
 
 part-version-ok-end : tie.Need-part-version-ok-end Inv-loop μ-loop
-part-version-ok-end c =
-    let k = c .before .before .before .before in
-    let a = k .before .before in
-    omega (
-      arith,
-      version-in (a .args .block .now) (k .loop .at) (k .loop .inv .0) _ (c .before .before .before .item-at .ensures) _ (omega arith)
-          (c .before .item .given .1),
-    )
+part-version-ok-end c = omega (arith, ends c)
 
 version-ok-requires : tie.Need-version-ok-requires Inv-loop μ-loop
 version-ok-requires c κs = search needs
 
 returns-2 : tie.Need-returns-2 Inv-loop μ-loop
 returns-2 c =
-    let i = c .before .before .before .before .before .before in
+    let b = c .before .before .before in
+    let i = b .before .before .before .before in
     let k = i .before in
     let a = k .before .before in (
-      version-stop (a .args .block .now) (k .loop .at) (k .loop .inv .0) _ (i .item-at .ensures) (k .loop .inv .2) _ _
-          (c .before .before .before .before .item .given .1) (c .before .version-ok .ensures) (not-true (c .before .version-ok .result) (c .if1 .taken)),
+      version-stop (a .args .block .now) (k .loop .at) (k .loop .inv .0) _ (i .item-at .ensures) (k .loop .inv .2) _ _ _ (b .before .before .item .given .1)
+          (end-is b) (c .before .version-ok .ensures) (not-true (c .before .version-ok .result) (c .if1 .taken)),
       no,
     )
 
-add-at : tie.Need-add-at Inv-loop μ-loop
-add-at c = omega arith
-
 loop-less : tie.Need-loop-less Inv-loop μ-loop
-loop-less c =
-    let i = c .before .before .before .before .before .before in
-    let k = i .before in
-    let a = k .before .before in
-    omega (
-      arith,
-      version-in (a .args .block .now) (k .loop .at) (k .loop .inv .0) _ (i .item-at .ensures) _ (omega arith)
-          (c .before .before .before .before .item .given .1),
-    )
+loop-less c = omega (arith, ends (c .before .before .before))
 
 loop-again : tie.Need-loop-again Inv-loop μ-loop
 loop-again c =
-    let e = c .before .before .before .before in
-    let i = e .before .before in
+    let b = c .before .before .before in
+    let i = b .before .before .before .before in
     let k = i .before in
     let a = k .before .before in (
       omega arith,
-      version-in (a .args .block .now) (k .loop .at) (k .loop .inv .0) _ (i .item-at .ensures) _ (omega arith) (e .item .given .1),
-      version-turn (a .args .block .now) (k .loop .at) (k .loop .inv .0) _ (i .item-at .ensures) (k .loop .inv .2) _ _ (e .item .given .1)
-          (c .before .version-ok .ensures) (not-false (c .before .version-ok .result) (c .if1 .left)),
+      ends b,
+      version-turn (a .args .block .now) (k .loop .at) (k .loop .inv .0) _ (i .item-at .ensures) (k .loop .inv .2) _ _ _ (b .before .before .item .given .1)
+          (end-is b) (c .before .version-ok .ensures) (not-false (c .before .version-ok .result) (c .if1 .left)),
     )
 
 enum-known-item-2 : tie.Need-enum-known-item-2 Inv-loop μ-loop
@@ -124,8 +131,8 @@ returns-3 c =
       no,
     )
 
-add-at-2 : tie.Need-add-at-2 Inv-loop μ-loop
-add-at-2 c = omega arith
+add-at : tie.Need-add-at Inv-loop μ-loop
+add-at c = omega arith
 
 loop-less-2 : tie.Need-loop-less-2 Inv-loop μ-loop
 loop-less-2 c =
@@ -185,20 +192,22 @@ records-ok-spec =
     enum-told
     returns
     enum-known-item
-    add-v
+    add-end
+    bytes-requires
+    add-end-2
+    sub-v
     add-version-ok
     sub-version-ok
     part-version-ok-start
     part-version-ok-end
     version-ok-requires
     returns-2
-    add-at
     loop-less
     loop-again
     enum-known-item-2
     rises-requires
     returns-3
-    add-at-2
+    add-at
     loop-less-2
     loop-again-2
     enum-told-2

@@ -20,7 +20,7 @@ use Rattle.conditions.proofs.slots.slot_ok.Reads as slot-ok-reads
 
 abbrev Inv-loop : tie.InvT-loop
 Inv-loop medium blocks pages used commits cache next last newest₀ times₀ n₀ newest times n =
-    (length newest ≡ 256) × (length times ≡ 256) × Tracks medium blocks pages cache n newest times
+    (length newest ≡ 1024) × (length times ≡ 1024) × Tracks medium blocks pages cache n newest times
     × (allOf (slotOk medium blocks pages cache) n (15 * pages - n) ≡ allOf (slotOk medium blocks pages cache) 0 (15 * pages))
 
 abbrev μ-loop : tie.MeasureT-loop
@@ -46,7 +46,10 @@ slot-ok-requires c κs =
         a .pre .1 .0,
         (
           record { pages = a .args .pages; few = omega arith; size = omega arith; below = omega arith },
-          ((c .before .before .before .loop .inv .0, c .before .before .before .loop .inv .1), (a .pre .1 .1 .1, c .before .before .before .loop .inv .2)),
+          (
+            (c .before .before .before .loop .inv .0, c .before .before .before .loop .inv .1),
+            (a .pre .1 .1 .1 .0 _ (c .before .before .loop-test .taken), (a .pre .1 .1 .1 .1, c .before .before .before .loop .inv .2)),
+          ),
         ),
       ),
     )

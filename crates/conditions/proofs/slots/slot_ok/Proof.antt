@@ -43,7 +43,7 @@ returns : tie.Need-returns
 returns c =
     let a = c .before .before .before .before .before .before .before .before in
     let e : isVersion (cellAt (a .args .cache .now) (a .args .n) .state) ≡ false = ap isVersion (sym (c .before .before .state-at .ensures)) ∙ sym (c .before .is-version .ensures) ∙ not-true (c .before .is-version .result) (c .if1 .taken) in
-    (ok-empty _ _ _ _ _ e, λ q. tracks-empty _ _ _ _ _ _ _ e (a .pre .1 .1 .1 .1 .1))
+    (ok-empty _ _ _ _ _ e, λ q. tracks-empty _ _ _ _ _ _ _ e (a .pre .1 .1 .1 .1 .1 .1))
 
 key-at-requires : tie.Need-key-at-requires
 key-at-requires c κs = search needs
@@ -64,7 +64,7 @@ returns-2 : tie.Need-returns-2
 returns-2 c =
     let k = c .before .before .before in
     let a = k .before .before .before .before .before .before .before .before .before in (
-      ok-earlier _ _ _ _ _ (k .key-at .result) _ _ _ (version (k .before)) (k .key-at .ensures) (c .before .earlier-at .ensures) (omega arith) (a .pre .1 .1 .1 .1 .1) (c .if2 .taken),
+      ok-earlier _ _ _ _ _ (k .key-at .result) _ _ _ (version (k .before)) (k .key-at .ensures) (c .before .earlier-at .ensures) (omega arith) (a .pre .1 .1 .1 .1 .1 .1) (c .if2 .taken),
       λ q. let z : _≡_ {A = ℕ} 0 1 = cc q in absurd (omega arith),
     )
 
@@ -93,7 +93,7 @@ returns-3 c =
     let k = t .before .before .before .before in
     let a = k .before .before .before .before .before .before .before .before .before in (
       ok-falls _ _ _ _ _ (k .key-at .result) _ (t .time-of .result) _ _ _ (version (k .before)) (k .key-at .ensures) (t .before .before .earlier-at .ensures) (timed t) (omega arith)
-          (a .pre .1 .1 .1 .1 .1) (t .before .if2 .left) (f .follows .ensures .0) (not-true (f .follows .result) (c .if3 .taken)),
+          (a .pre .1 .1 .1 .1 .1 .1) (t .before .if2 .left) (f .follows .ensures .0) (not-true (f .follows .result) (c .if3 .taken)),
       λ q. let z : _≡_ {A = ℕ} 0 1 = cc q in absurd (omega arith),
     )
 
@@ -113,11 +113,11 @@ returns-4 c =
     let k = t .before .before .before .before in
     let a = k .before .before .before .before .before .before .before .before .before in (
       ok-bounds _ _ _ _ _ (k .key-at .result) _ (t .time-of .result) _ _ _ (version (k .before)) (k .key-at .ensures) (t .before .before .earlier-at .ensures) (timed t) (omega arith)
-          (a .pre .1 .1 .1 .1 .1) (t .before .if2 .left) (f .follows .ensures .0) _ _ _ _ (not-false (f .follows .result) (c .before .if3 .left)) (k .before .before .before .state-at .ensures)
-          (a .pre .1 .1 .1 .1 .0 .0) (a .pre .1 .1 .1 .1 .0 .1) (c .in-bounds .ensures),
+          (a .pre .1 .1 .1 .1 .1 .1) (t .before .if2 .left) (f .follows .ensures .0) _ _ _ _ (not-false (f .follows .result) (c .before .if3 .left)) (k .before .before .before .state-at .ensures)
+          (a .pre .1 .1 .1 .1 .1 .0 .0) (a .pre .1 .1 .1 .1 .1 .0 .1) (c .in-bounds .ensures),
       λ q. rw (f .follows .ensures .1)
           (tracks-version _ _ _ _ _ (k .key-at .result) (t .time-of .result) _ _ (version (k .before)) (k .key-at .ensures) (timed t) (a .pre .1 .1 .1 .0 .0) (a .pre .1 .1 .1 .0 .1)
-          (omega arith) (a .pre .1 .1 .1 .1 .1)),
+          (omega arith) (a .pre .1 .1 .1 .1 .1 .1)),
     )
 
 pub slot-ok-spec : {M : Type 1} → statement M

@@ -19,7 +19,7 @@ all-ok-requires c κs = let a = c .before .before .before .pre in omega (arith, 
 returns : tie.Need-returns
 returns c =
     let k = c .before in
-    let a = k .before .before .before .before .pre .1 .1 .1 in
+    let a = k .before .before .before .before .pre .1 .1 .1 .1 in
     no-table _ _ _ _ _ _ (a .0) (a .1) (k .all-ok .result) (k .all-ok .ensures) (not-true (k .all-ok .result) (c .if1 .taken))
 
 pages-full-requires : tie.Need-pages-full-requires
@@ -29,7 +29,7 @@ returns-2 : tie.Need-returns-2
 returns-2 c =
     let p = c .before in
     let k = p .before .before in
-    let a = k .before .before .before .before .pre .1 .1 .1 in
+    let a = k .before .before .before .before .pre .1 .1 .1 .1 in
     not-full _ _ _ _ _ _ (a .0) (a .1) (k .all-ok .result) (k .all-ok .ensures) (not-false (k .all-ok .result) (p .before .if1 .left)) (p .pages-full .result) (p .pages-full .ensures)
     (not-true (p .pages-full .result) (c .if2 .taken))
 
@@ -40,7 +40,7 @@ returns-3 : tie.Need-returns-3
 returns-3 c =
     let p = c .before .before in
     let k = p .before .before in
-    let a = k .before .before .before .before .pre .1 .1 .1 in
+    let a = k .before .before .before .before .pre .1 .1 .1 .1 in
     slots-left _ _ _ _ _ _ (a .0) (a .1) (k .all-ok .result) (k .all-ok .ensures) (not-false (k .all-ok .result) (p .before .if1 .left)) (p .pages-full .result) (p .pages-full .ensures)
     (not-false (p .pages-full .result) (c .before .if2 .left)) _ (c .all-ok2 .ensures)
 

@@ -11,7 +11,7 @@ use Rattle.store.specs.OpenLog.{nextNumber, lastTime}
 use Rattle.store.specs.OpenConditions.{wellFormed}
 use Rattle.conditions.specs.Cursor.{Valid}
 use Rattle.conditions.specs.Lookup.{Known}
-use Rattle.opening.proofs.SurveyedLaws.{refused, read-valid, applied-known, next-found, last-found, not-logged, not-kept, few-is, places-none, opened-is}
+use Rattle.opening.proofs.SurveyedLaws.{refused, read-valid, applied-known, applied-keys, next-found, last-found, not-logged, not-kept, few-is, places-none, opened-is}
 use borrow.Author.Needs.{needs}
 use Rattle.opening.proofs.survey.judge.Statement.{statement}
 use Rattle.opening.proofs.survey.judge.Tie as tie
@@ -107,7 +107,8 @@ cache-ok-requires : tie.Need-cache-ok-requires
 cache-ok-requires c κs =
     let f = c .before .before .before .before in
     let a = start f .pre in
-    (a .0, (known (f .before .before .before), (a .1 .0, (next-is c, last-is c))))
+    let bytes = f .before .before .before .before .before .before .before .before .before .shared-slice-known .given in
+    (a .0, (known (f .before .before .before), (a .1 .0, (applied-keys _ _ _ _ _ _ _ (a .1 .1 .0) (a .1 .1 .1 .1) bytes, (next-is c, last-is c)))))
 
 malformed-requires-2 : tie.Need-malformed-requires-2
 malformed-requires-2 c κs = search needs
@@ -122,7 +123,7 @@ lay-requires : tie.Need-lay-requires
 lay-requires c κs =
     let f = c .before .before .before .before .before .before .before in
     let a = start f .pre in
-    (a .0, (known (f .before .before .before), (a .1 .0, places-none _ (a .1 .1 .1))))
+    (a .0, (known (f .before .before .before), (a .1 .0, places-none _ (a .1 .1 .1 .0))))
 
 malformed-requires-3 : tie.Need-malformed-requires-3
 malformed-requires-3 c κs = search needs
@@ -152,7 +153,7 @@ returns-4 c =
     let t = not-false (k .lay .result) (c .before .before .before .before .before .if3 .left) in (
       sym (few k ∙ t),
       λ _. (
-        opened-is _ _ _ _ _ _ _ _ _ _ (a .1 .1 .0) (a .1 .1 .1) (k .lay .ensures .1 t) _ _ _ (c .put-numbers .ensures) (c .before .before .used-slots .ensures) (next-is n) (last-is n) (c .before .before .before .lay-tail .ensures),
+        opened-is _ _ _ _ _ _ _ _ _ _ (a .1 .1 .0) (a .1 .1 .1 .0) (k .lay .ensures .1 t) _ _ _ (c .put-numbers .ensures) (c .before .before .used-slots .ensures) (next-is n) (last-is n) (c .before .before .before .lay-tail .ensures),
         last-is n,
       ),
     )

@@ -64,7 +64,7 @@ judge-requires c κs =
         (a .1 .0 .0, c .before .before .before .before .before .cache2 .given ∙ r .before .before .before .before .cache .given ∙ a .1 .1 .0),
         (
           applied _ _ _ _ _ (good f) _ _ _ _ (r .before .before .before .before .before .copy-pages .ensures) (a .1 .1 .1) _ (r .run .ensures .0) (not-false (r .run .result) (c .before .before .before .if1 .left)),
-          noted-blank _ _ (a .1 .1 .1) (r .run .ensures .1),
+          (noted-blank _ _ (a .1 .1 .1) (r .run .ensures .1), a .1 .0 .1),
         ),
       ),
     )
