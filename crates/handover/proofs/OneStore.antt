@@ -11,6 +11,7 @@ use mathlib.Core.List.{List, [], _∷_, _++_}
 use lib.ListN.{length, replicate}
 use borrow.Author.Tests.{le-leb}
 use Rattle.fields.specs.Block.{logBlockAt}
+use Rattle.layout.specs.Item.{bytesOf}
 use Rattle.layout.specs.Journal.{Record, recordSize, sequenceOf, usedOf, emptyBlock, addRecord}
 use Rattle.layout.proofs.JournalLaws.{length-emptyBlock, used-emptyBlock, sequence-addRecord, used-addRecord}
 use Rattle.store.specs.declared.Refusal.{Refusal}
@@ -19,7 +20,7 @@ use Rattle.store.specs.Answer.{Outcome, answerValue}
 use Rattle.store.specs.State.{fits}
 use Rattle.store.specs.Tail.{tailFits, loggedIf, logged}
 use Rattle.store.specs.Begin.{begun, beginIf, beginOf}
-use Rattle.store.specs.Write.{written, writeStep}
+use Rattle.store.specs.Write.{newHead, written, writeStep}
 use Rattle.store.specs.Commit.{commitStep}
 use Rattle.store.proofs.FitLaws.{TailFit, fit-of}
 use Rattle.runs.specs.Event.{Event, begin, write, current-read, commit, abort}
@@ -39,12 +40,12 @@ use Rattle.handover.proofs.calls.Playing.{plays}
 
 -- ---- what a call does to the medium and the tail
 
--- a record of 33 bytes is taken: the medium stays and the tail's sequence too, or the tail is another, with room for 19 bytes
+-- a record of 34 bytes is taken: the medium stays and the tail's sequence too, or the tail is another, with room for 19 bytes
 data Logs (s : State) (m : List ℕ) : List ℕ → List ℕ → Type 0 where
   stayed : {x y : List ℕ} → x ≡ m → sequenceOf y ≡ sequenceOf (s .tail) → Logs s m x y
   moved : {x y : List ℕ} → tailFits y 19 ≡ true → Logs s m x y
 
-logs : (s : State) (m : List ℕ) (r : Record) → recordSize r ≡ 33 → TailFit (s .tail) → Logs s m (logged s m r .medium) (logged s m r .tail)
+logs : (s : State) (m : List ℕ) (r : Record) → recordSize r ≡ 34 → TailFit (s .tail) → Logs s m (logged s m r .medium) (logged s m r .tail)
 unfolding logged loggedIf tailFits
 logs s m r e f = go (tailFits (s .tail) (recordSize r))
   where
@@ -57,7 +58,7 @@ logs s m r e f = go (tailFits (s .tail) (recordSize r))
 
 write-logs : {m c : List ℕ} {s : State} {n key : ℕ} {v : List ℕ} {o : Outcome} → Way m c s (write n key v) o
     → (o .state .blocks ≡ s .blocks) × Logs s m (o .medium) (o .state .tail)
-unfolding writeStep written recordSize
+unfolding writeStep written recordSize newHead bytesOf
 write-logs (refused k r w) = (refl, stayed refl refl)
 write-logs {m = m} {s = s} (writes n key i v p w) = (refl, logs s m _ refl (fit-of _ _ _ (p .0) .tail))
 write-logs (looks k a v b h p n w) = absurd (false≢true h)

@@ -7,15 +7,16 @@ use lib.Dec.{ltb}
 use Rattle.store.specs.declared.Refusal.{Refusal}
 use Rattle.store.specs.declared.State.{State}
 use Rattle.store.specs.Answer.{Outcome, answerValue}
-use Rattle.runs.specs.Event.{Call, Event, begin, current-read, write, commit, abort, isWord}
+use Rattle.runs.specs.Event.{Call, Event, begin, current-read, write, commit, abort, isWord, isRecord}
 use Rattle.runs.specs.Unstuck.{eventsOf}
 use Rattle.handover.specs.declared.Transfer.{Transfer}
 use Rattle.handover.specs.Hand.{refusalIn, withOwner, mayHand, begins, reads, writes, commits}
 
--- 01: "a record or byte at most 255", "others below 2^64": can a handover be given these?
+-- 01: "a record or byte at most 255", "others below 2^64"; 02, #104: "Record numbers become two bytes": can a handover be given
+-- these?
 unfoldable pub handTyped : Transfer → Bool
 handTyped h =
-    ltb (h .flight) 256 && (ltb (h .from) 256 && (ltb (h .to) 256 && (isWord (h .began) && isWord (h .ended))))
+    isRecord (h .flight) && (ltb (h .from) 256 && (ltb (h .to) 256 && (isWord (h .began) && isWord (h .ended))))
 
 -- ---- the calls, by what those before them answer (as in `Hand`: o is what the call before left, n the number)
 

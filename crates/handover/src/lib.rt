@@ -8,7 +8,7 @@ pub mod hand;
 // What is asked for: the flight's record, the sector that has it and the one that takes it, and the clocks at begin and at
 // commit.
 pub struct Transfer {
-    pub flight: u8,
+    pub flight: u16,
     pub from: u8,
     pub to: u8,
     pub began: u64,

@@ -11,7 +11,7 @@ use borrow.Author.Tests.{eq-eqb, ne-eqb, ltb-true, le-leb}
 use Rattle.fields.specs.Block.{zeros, slotAt}
 use Rattle.fields.specs.Part.{splice}
 use Rattle.fields.specs.Cells.{flat}
-use Rattle.layout.specs.Slot.{Cell}
+use Rattle.layout.specs.Slot.{Cell, keyForm}
 use Rattle.layout.specs.declared.slot.Slot.{Slot}
 use Rattle.layout.specs.declared.slot.Slot.the-variants.{Empty, Waiting, Stamped}
 use Rattle.fields.proofs.Choose.{cond-elim}
@@ -84,19 +84,19 @@ read-cell r v s m c e = ap (λ (x : Reading). reads (x .answer) (x .value) s m c
 -- ---- the reads, once their questions are answered
 
 pub current-done : (s : State) (m c : List ℕ) (n key i : ℕ) (head f : Found) → fits s (length m) (length c) ≡ true
-    → findActive (s .places) n ≡ At i → held c (s .places) (s .slots) key n ≡ false
+    → keyForm key ≡ true → findActive (s .places) n ≡ At i → held c (s .places) (s .slots) key n ≡ false
     → head ≡ newest c key (s .slots) → f ≡ visibleOf head c (timeUnder (s .places)) n → currentOf s m c n key ≡ currentAt f s m c
 unfolding currentOf currentIf
-current-done s m c n key i head f e a h eh ef = simp (e, a, h, ef, eh)
+current-done s m c n key i head f e k a h eh ef = simp (e, k, a, h, ef, eh)
 
 pub as-of-done : (s : State) (m c : List ℕ) (key t : ℕ) (head : Found) (b : Best) → fits s (length m) (length c) ≡ true
-    → t ≤ s .saved .0 → head ≡ newest c key (s .slots) → b ≡ bestOf head c (timeUnder (s .places)) t → asOfOf s m c key t ≡ asOfAt b s m c
+    → keyForm key ≡ true → t ≤ s .saved .0 → head ≡ newest c key (s .slots) → b ≡ bestOf head c (timeUnder (s .places)) t → asOfOf s m c key t ≡ asOfAt b s m c
 unfolding asOfOf asOfIf
-as-of-done s m c key t head b e l eh eb = simp (e, le-leb t (s .saved .0) l, eb, eh)
+as-of-done s m c key t head b e k l eh eb = simp (e, k, le-leb t (s .saved .0) l, eb, eh)
 
 -- a list of changes: b is the buffer before it and d behind it, r what writing its lines answered
-module _ (s : State) (m c b d : List ℕ) (key t1 t2 : ℕ) (head r : Found) (e : fits s (length m) (length c) ≡ true) (l : t2 ≤ s .saved .0)
-    (eh : head ≡ newest c key (s .slots)) where
+module _ (s : State) (m c b d : List ℕ) (key t1 t2 : ℕ) (head r : Found) (e : fits s (length m) (length c) ≡ true) (k : keyForm key ≡ true)
+    (l : t2 ≤ s .saved .0) (eh : head ≡ newest c key (s .slots)) where
   abbrev found : List Line
   found = linesBelow c (timeUnder (s .places)) head t1 (suc (suc t2)) (suc t2)
 
@@ -115,7 +115,7 @@ module _ (s : State) (m c b d : List ℕ) (key t1 t2 : ℕ) (head r : Found) (e 
             → record { answer = Listed n; value = zeros 16; state = s; medium = m; cache = c; buffer = d } ≡ changesOf s m c b key t1 t2
         go true q x y =
             let z : n ≡ length found = cc in
-            simp (e, le-leb t2 (s .saved .0) l, ← lines-are, q, z, y)
+            simp (e, k, le-leb t2 (s .saved .0) l, ← lines-are, q, z, y)
         go false q x y = let z : _≡_ {A = ℕ} 0 1 = cc in absurd (omega arith)
 
     pub changes-short : r ≡ Nothing
@@ -126,4 +126,4 @@ module _ (s : State) (m c b d : List ℕ) (key t1 t2 : ℕ) (head r : Found) (e 
         go : (t : Bool) → leb (32 * length found) (length b) ≡ t → r ≡ cond t (At (length found)) Nothing → d ≡ cond t (splice b 0 (flat lineBytes found)) b
             → record { answer = Refused ShortBuffer; value = zeros 16; state = s; medium = m; cache = c; buffer = d } ≡ changesOf s m c b key t1 t2
         go true q x y = let z : _≡_ {A = ℕ} 0 1 = cc in absurd (omega arith)
-        go false q x y = simp (e, le-leb t2 (s .saved .0) l, ← lines-are, q, y)
+        go false q x y = simp (e, k, le-leb t2 (s .saved .0) l, ← lines-are, q, y)

@@ -2,6 +2,7 @@
 use memory::SAVED;
 use memory::SLOTS;
 use store::Best;
+use store::RECORDS;
 use store::Reading;
 use store::Refusal;
 ghost use mathlib.Core.Path.{_≡_};
@@ -14,13 +15,16 @@ pub fn as_of(
     tail: &[u8; 512],
     medium: &[u8],
     cache: &[u8],
-    key: u8,
+    key: u16,
     time: u64,
 ) -> Reading
     ensures { λ r. ⌜ reads (r .answer) (r .value) (stateOf (now (words .entry)) (now (tail .entry))) (now (medium .entry)) (now (cache .entry)) ≡ asOfOf (stateOf (now (words .entry)) (now (tail .entry))) (now (medium .entry)) (now (cache .entry)) key time ⌝ }
 {
     if !memory::fit::is_fit(words, tail, medium.len(), cache.len()) {
         return questions::refuse::reading(Refusal::Unfit);
+    }
+    if RECORDS <= key {
+        return questions::refuse::reading(Refusal::NoRecord);
     }
     // A cut could take what is not stored, and with it the answer.
     if words[SAVED] < time {

@@ -3,6 +3,7 @@ use memory::SAVED;
 use memory::SLOTS;
 use store::Answer;
 use store::Found;
+use store::RECORDS;
 use store::Refusal;
 ghost use mathlib.Core.Path.{_≡_};
 ghost use Rattle.fields.specs.Block.{zeros};
@@ -14,7 +15,7 @@ pub fn changes(
     tail: &[u8; 512],
     medium: &[u8],
     cache: &[u8],
-    key: u8,
+    key: u16,
     t1: u64,
     t2: u64,
     buffer: &mut [u8],
@@ -23,6 +24,9 @@ pub fn changes(
 {
     if !memory::fit::is_fit(words, tail, medium.len(), cache.len()) {
         return Answer::Refused(Refusal::Unfit);
+    }
+    if RECORDS <= key {
+        return Answer::Refused(Refusal::NoRecord);
     }
     // A cut could take what is not stored, and with it the answer.
     if words[SAVED] < t2 {

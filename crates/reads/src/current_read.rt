@@ -2,6 +2,7 @@
 use memory::SLOTS;
 use store::Answer;
 use store::Found;
+use store::RECORDS;
 use store::Reading;
 use store::Refusal;
 ghost use mathlib.Core.Path.{_≡_};
@@ -52,12 +53,15 @@ pub fn current_read(
     medium: &[u8],
     cache: &[u8],
     number: u64,
-    key: u8,
+    key: u16,
 ) -> Reading
     ensures { λ r. ⌜ reads (r .answer) (r .value) (stateOf (now (words .entry)) (now (tail .entry))) (now (medium .entry)) (now (cache .entry)) ≡ currentOf (stateOf (now (words .entry)) (now (tail .entry))) (now (medium .entry)) (now (cache .entry)) number key ⌝ }
 {
     if !memory::fit::is_fit(words, tail, medium.len(), cache.len()) {
         return questions::refuse::reading(Refusal::Unfit);
+    }
+    if RECORDS <= key {
+        return questions::refuse::reading(Refusal::NoRecord);
     }
     let f = live::places::find_active(words, number);
     let Found::At(_) = f else {

@@ -10,6 +10,7 @@ ghost use mathlib.Core.Path.{_≡_};
 ghost use mathlib.Core.Bool.{true};
 ghost use Prim.Native.Nat.{_+_, _<_, _≤_, _^_};
 ghost use lib.ListN.{length};
+ghost use Rattle.layout.specs.Item.{bytesOf};
 ghost use Rattle.layout.specs.Journal.{version, commit, sequenceOf};
 ghost use Rattle.store.specs.StoreLog.{logStored};
 ghost use Rattle.store.specs.Tail.{tailFits, mayLog, tailEnd, storedTail, logged};
@@ -91,11 +92,13 @@ pub fn take_version(
     value: &[u8],
 )
     requires { ⌜ Ready (stateOf (now words) (now tail)) (length (now medium)) ⌝ }
-    requires { ⌜ mayLog (stateOf (now words) (now tail)) (now medium) 33 ≡ true ⌝ }
+    requires { ⌜ mayLog (stateOf (now words) (now tail)) (now medium) (32 + bytesOf (head .width)) ≡ true ⌝ }
     requires { ⌜ length (now value) ≡ 16 ⌝ }
     ensures { λ _. ⌜ (stateOf (now (words .exit)) (now (tail .exit)) ≡ taken (stateOf (now (words .entry)) (now (tail .entry))) (logged (stateOf (now (words .entry)) (now (tail .entry))) (now (medium .entry)) (version head (now (value .entry))))) × (now (medium .exit) ≡ logged (stateOf (now (words .entry)) (now (tail .entry))) (now (medium .entry)) (version head (now (value .entry))) .medium) ⌝ }
 {
-    if !has_room(tail, 33) {
+    let width = head.width;
+    let size = 32 + layout::item::bytes(width) as u64;
+    if !has_room(tail, size) {
         store(words, tail, medium);
         begin_block(words, tail);
         layout::journal::add_version(tail, head, value);

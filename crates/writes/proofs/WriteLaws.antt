@@ -38,12 +38,12 @@ use Rattle.store.proofs.AskLaws.{passed}
 pub record WriteAsked (s : State) (m c : List ℕ) : Type 0 where
   pub fit : fits s (length m) (length c) ≡ true
   pub slot : ltb (s .slots) (15 * s .pages) ≡ true
-  pub log : mayLog s m 33 ≡ true
+  pub log : mayLog s m 34 ≡ true
 
 pub write-asked : (s : State) (m c : List ℕ) (n key : ℕ) → ask (writeAsks s m c n key) ≡ none → WriteAsked s m c
 write-asked s m c n key e =
     let p = passed (writeAsks s m c n key) e in
-    record { fit = p .0; slot = p .1 .1 .1 .0; log = p .1 .1 .1 .1 .0 }
+    record { fit = p .0; slot = p .1 .1 .1 .1 .0; log = p .1 .1 .1 .1 .1 .0 }
 
 -- v is the verdict that the code came to, n the record's newest version
 

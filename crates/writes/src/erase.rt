@@ -11,7 +11,7 @@ pub fn erase(
     medium: &mut [u8],
     cache: &mut [u8],
     number: u64,
-    key: u8,
+    key: u16,
 ) -> Answer
     ensures { λ r. ⌜ leaves r (stateOf (now (words .exit)) (now (tail .exit))) (now (medium .exit)) (now (cache .exit)) ≡ eraseOf (stateOf (now (words .entry)) (now (tail .entry))) (now (medium .entry)) (now (cache .entry)) number key ⌝ }
 {

@@ -1,15 +1,18 @@
 // Write, and what it shares with erase.
 use layout::TxNumber;
 use layout::item::VersionHead;
+use layout::item::Width;
 use memory::PAGES;
 use memory::SLOTS;
 use store::Answer;
 use store::Found;
+use store::RECORDS;
 use store::Refusal;
 ghost use mathlib.Core.Path.{_≡_};
 ghost use mathlib.Core.Option.{none};
 ghost use Prim.Native.Nat.{_<_};
 ghost use lib.ListN.{length, getD};
+ghost use Rattle.layout.specs.declared.item.Width.the-variants.{Two};
 ghost use Rattle.store.specs.declared.Found.the-variants.{At};
 ghost use Rattle.store.specs.Answer.{leaves, ask};
 ghost use Rattle.store.specs.Places.{findActive};
@@ -31,12 +34,15 @@ fn asks(
     medium: &[u8],
     cache: &[u8],
     number: u64,
-    key: u8,
+    key: u16,
 ) -> Passed
     ensures { λ r. ⌜ r ≡ writeVerdict (ask (writeAsks (stateOf (now (words .entry)) (now (tail .entry))) (now (medium .entry)) (now (cache .entry)) number key)) (findActive (placesOf (now (words .entry))) number) (newest (now (cache .entry)) key (getD (now (words .entry)) 2 0)) ⌝ }
 {
     if !memory::fit::is_fit(words, tail, medium.len(), cache.len()) {
         return Passed::No(Refusal::Unfit);
+    }
+    if RECORDS <= key {
+        return Passed::No(Refusal::NoRecord);
     }
     let f = live::places::find_active(words, number);
     let Found::At(i) = f else {
@@ -49,7 +55,7 @@ fn asks(
     if 15 * words[PAGES] <= words[SLOTS] {
         return Passed::No(Refusal::NoSlot);
     }
-    if !tail::may_log(words, tail, medium, 33) {
+    if !tail::may_log(words, tail, medium, 34) {
         return Passed::No(Refusal::LogFull);
     }
     Passed::Go(i, slot_or_none(newest))
@@ -90,6 +96,7 @@ fn step(
     requires { ⌜ ask (writeAsks (stateOf (now words) (now tail)) (now medium) (now cache) (head .number .0) (head .key)) ≡ none ⌝ }
     requires { ⌜ findActive (placesOf (now words)) (head .number .0) ≡ At i ⌝ }
     requires { ⌜ head .slot ≡ getD (now words) 2 0 ⌝ }
+    requires { ⌜ head .width ≡ Two ⌝ }
     ensures { λ r. ⌜ leaves r (stateOf (now (words .exit)) (now (tail .exit))) (now (medium .exit)) (now (cache .exit)) ≡ writeStep (stateOf (now (words .entry)) (now (tail .entry))) (now (medium .entry)) (now (cache .entry)) i head value ⌝ }
 {
     tail::take_version(words, tail, medium, head, &value);
@@ -116,7 +123,7 @@ pub(crate) fn add(
     medium: &mut [u8],
     cache: &mut [u8],
     number: u64,
-    key: u8,
+    key: u16,
     kind: u8,
     value: [u8; 16],
 ) -> Answer
@@ -127,6 +134,7 @@ pub(crate) fn add(
         Passed::No(why) => Answer::Refused(why),
         Passed::Go(i, earlier) => {
             let head = VersionHead {
+                width: Width::Two,
                 slot: words[SLOTS],
                 key: key,
                 kind: kind,
@@ -144,7 +152,7 @@ pub fn write(
     medium: &mut [u8],
     cache: &mut [u8],
     number: u64,
-    key: u8,
+    key: u16,
     value: [u8; 16],
 ) -> Answer
     ensures { λ r. ⌜ leaves r (stateOf (now (words .exit)) (now (tail .exit))) (now (medium .exit)) (now (cache .exit)) ≡ writeOf (stateOf (now (words .entry)) (now (tail .entry))) (now (medium .entry)) (now (cache .entry)) number key value ⌝ }

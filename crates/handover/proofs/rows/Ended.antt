@@ -3,10 +3,11 @@
 use Prim.Native.Nat.{ℕ, _+_, _≤_, _<_, max}
 use mathlib.Core.Path.{_≡_}
 use mathlib.Core.Logic.{_≢_}
-use mathlib.Core.Bool.{false}
+use mathlib.Core.Bool.{true, false}
 use mathlib.Core.Option.{none}
 use mathlib.Core.List.{List, [], _∷_, _++_}
 use lib.ListN.{length}
+use Rattle.layout.specs.Slot.{keyForm}
 use Rattle.store.specs.declared.State.{State}
 use Rattle.store.specs.Places.{isAt, findActive}
 use Rattle.runs.specs.Event.{present}
@@ -26,8 +27,9 @@ pub record New (b : Book) (s : State) (x : ℕ) : Type 0 where
   pub shut : isOpen (b .opened) x ≡ false
   pub idle : isAt (findActive (s .places) x) ≡ false
 
--- the check is passed: the strip v was read, and nobody holds its flight
+-- the check is passed: the strip v was read, so there is such a record, and nobody holds its flight
 pub record Checked (b : Book) (s : State) (h : Transfer) (x : ℕ) (v : List ℕ) : Type 0 where
+  pub form : keyForm (h .flight) ≡ true
   pub free : (n : ℕ) → heldRow (newestUnder (h .flight) none (versions (b .rows))) (s .places) n ≡ false
   pub strip : readBy b x (h .flight) ≡ present v
   pub size : length v ≡ 16

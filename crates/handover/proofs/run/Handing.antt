@@ -100,9 +100,10 @@ module _ (l d : ℕ) (b : Book) (s : State) (h : Transfer) (sizes : Sizes h) whe
       checked =
           let other = newest-of-others b x (h .flight) (under .new .rowless) in
           record {
+            form = with-up (under .inv) (λ disk closed tail u. current-passed u x (h .flight) (number-none (reads o x h .answer) e) .0);
             free = held-nobody (s .places) other
                 (sym (held-others (o .state .places) (s .places) other (under .beside .others))
-                ∙ rw rows at (with-up (under .inv) (λ disk closed tail u. current-passed u x (h .flight) (number-none (reads o x h .answer) e) .1)));
+                ∙ rw rows at (with-up (under .inv) (λ disk closed tail u. current-passed u x (h .flight) (number-none (reads o x h .answer) e) .2)));
             strip = rw rows at strip-read;
             size = sixteen .size;
             owner = ok .owner;

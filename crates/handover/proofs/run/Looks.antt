@@ -1,5 +1,6 @@
--- What reads of a running store show, by its book: state and buffers fit, so a current read is refused just by what the active
--- numbers and the newest rows say, a read as of a time just by the time stored; else the strip is that of the rows.
+-- What reads of a running store show, by its book: state and buffers fit, so a current read is refused just by its record number and
+-- by what the active numbers and the newest rows say, a read as of a time just by its record number and the time stored; else the
+-- strip is that of the rows.
 use Prim.Native.Nat.{ℕ, zero, suc, _≤_, _<_}
 use native.Mathlib.Omega.{arith}
 use mathlib.Core.Path.{_≡_, refl, sym, ap, _∙_, subst}
@@ -9,9 +10,10 @@ use mathlib.Core.List.{List, [], _∷_}
 use lib.Dec.{leb}
 use borrow.Author.Tests.{leb-true, le-leb}
 use Rattle.layout.specs.Journal.{Record}
+use Rattle.layout.specs.Slot.{keyForm}
 use Rattle.store.specs.declared.Answer.{Answer}
 use Rattle.store.specs.declared.Refusal.{Refusal}
-use Rattle.store.specs.declared.Refusal.the-variants.{Unfit, NotActive, Held}
+use Rattle.store.specs.declared.Refusal.the-variants.{Unfit, NoRecord, NotActive, Held}
 use Rattle.store.specs.declared.State.{State}
 use Rattle.store.specs.Answer.{ask, refusalNumber, answerNumber}
 use Rattle.store.specs.Places.{isAt, findActive}
@@ -71,20 +73,23 @@ asked-number m c s k = go (ask (asks m c s k)) refl
 
 -- ---- a current read
 
--- its refusal number, by whether its number is active and its key held against it
-abbrev pub readNumber : Bool → Bool → ℕ
-readNumber active taken = cond active (cond taken 6 0) 5
+-- its refusal number, by whether there is such a record, its number is active and its key held against it
+abbrev pub readNumber : Bool → Bool → Bool → ℕ
+readNumber form active taken = cond form (cond active (cond taken 6 0) 5) 18
 
-number-zero : (active taken : Bool) → readNumber active taken ≡ 0 → (active ≡ true) × (taken ≡ false)
-number-zero true false e = (refl, refl)
-number-zero true true e = absurd (omega arith)
-number-zero false taken e = absurd (omega arith)
+number-zero : (form active taken : Bool) → readNumber form active taken ≡ 0 → (form ≡ true) × (active ≡ true) × (taken ≡ false)
+number-zero true true false e = (refl, refl, refl)
+number-zero true true true e = absurd (omega arith)
+number-zero true false taken e = absurd (omega arith)
+number-zero false active taken e = absurd (omega arith)
 
-read-asks : (active taken : Bool) → numberOf (ask ((true, Unfit) ∷ (active, NotActive) ∷ (not taken, Held) ∷ [])) ≡ readNumber active taken
+read-asks : (form active taken : Bool)
+    → numberOf (ask ((true, Unfit) ∷ (form, NoRecord) ∷ (active, NotActive) ∷ (not taken, Held) ∷ [])) ≡ readNumber form active taken
 unfolding refusalNumber
-read-asks true true = refl
-read-asks true false = refl
-read-asks false taken = refl
+read-asks true true true = refl
+read-asks true true false = refl
+read-asks true false taken = refl
+read-asks false active taken = refl
 
 module _ {l d : ℕ} {m c : List ℕ} {s : State} {b : Book} {disk : Disk} {closed : List (List Record)} {tail : List Record} (u : Up l d m c s b disk closed tail) where
   -- is the key held against n?
@@ -92,7 +97,7 @@ module _ {l d : ℕ} {m c : List ℕ} {s : State} {b : Book} {disk : Disk} {clos
   taken n key = heldRow (newestUnder key none (versions (b .rows))) (s .places) n
 
   pub current-shows : (n key : ℕ)
-      → Shows (readNumber (isAt (findActive (s .places) n)) (taken n key)) (readBy b n key) (look l d (up m c s) (current-read n key))
+      → Shows (readNumber (keyForm key) (isAt (findActive (s .places) n)) (taken n key)) (readBy b n key) (look l d (up m c s) (current-read n key))
   unfolding look step seenOf readBy
   current-shows n key = record {
     number = number;
@@ -100,32 +105,35 @@ module _ {l d : ℕ} {m c : List ℕ} {s : State} {b : Book} {disk : Disk} {clos
     refused = λ h. refused-strip (called m c s (current-read n key) .answer) (called m c s (current-read n key) .value) (omega (arith, number));
   }
     where
-      number : answerNumber (called m c s (current-read n key) .answer) ≡ readNumber (isAt (findActive (s .places) n)) (taken n key)
-      number = asked-number m c s (current-read n key) ∙ rw (fits-up u, held-is u key n) (read-asks (isAt (findActive (s .places) n)) (taken n key))
+      number : answerNumber (called m c s (current-read n key) .answer) ≡ readNumber (keyForm key) (isAt (findActive (s .places) n)) (taken n key)
+      number = asked-number m c s (current-read n key) ∙ rw (fits-up u, held-is u key n) (read-asks (keyForm key) (isAt (findActive (s .places) n)) (taken n key))
 
-  -- one that is not refused: its number is active and its key not held against it
-  pub current-passed : (n key : ℕ) → look l d (up m c s) (current-read n key) .refusal ≡ 0 → (isAt (findActive (s .places) n) ≡ true) × (taken n key ≡ false)
-  current-passed n key e = number-zero (isAt (findActive (s .places) n)) (taken n key) (sym (current-shows n key .number) ∙ e)
+  -- one that is not refused: there is such a record, its number is active and its key not held against it
+  pub current-passed : (n key : ℕ) → look l d (up m c s) (current-read n key) .refusal ≡ 0
+      → (keyForm key ≡ true) × (isAt (findActive (s .places) n) ≡ true) × (taken n key ≡ false)
+  current-passed n key e = number-zero (keyForm key) (isAt (findActive (s .places) n)) (taken n key) (sym (current-shows n key .number) ∙ e)
 
   -- ---- a read as of a time
 
-  as-of-number : (key t : ℕ) → look l d (up m c s) (as-of key t) .refusal ≡ cond (leb t (s .saved .0)) 0 10
+  as-of-number : (key t : ℕ) → look l d (up m c s) (as-of key t) .refusal ≡ cond (keyForm key) (cond (leb t (s .saved .0)) 0 10) 18
   unfolding look step seenOf called
-  as-of-number key t = read-refusal u key t ∙ ap (λ (n : ℕ). cond (leb t n) 0 10) (sym (saved-is u))
+  as-of-number key t = read-refusal u key t ∙ ap (λ (n : ℕ). cond (keyForm key) (cond (leb t n) 0 10) 18) (sym (saved-is u))
 
   pub as-of-strip : (key t : ℕ) → look l d (up m c s) (as-of key t) .refusal ≡ 0 → look l d (up m c s) (as-of key t) .strip ≡ asOf (b .rows) key t
   unfolding look step seenOf called
   as-of-strip key t e = as-of-answers u key t e
 
-  pub as-of-reached : (key t : ℕ) → look l d (up m c s) (as-of key t) .refusal ≡ 0 → t ≤ s .saved .0
-  as-of-reached key t e = go (leb t (s .saved .0)) refl (sym (as-of-number key t) ∙ e)
+  pub as-of-reached : (key t : ℕ) → look l d (up m c s) (as-of key t) .refusal ≡ 0 → (keyForm key ≡ true) × (t ≤ s .saved .0)
+  as-of-reached key t e = go (keyForm key) refl (leb t (s .saved .0)) refl (sym (as-of-number key t) ∙ e)
     where
-      go : (a : Bool) → leb t (s .saved .0) ≡ a → _≡_ {A = ℕ} (cond a 0 10) 0 → t ≤ s .saved .0
-      go true q z = leb-true t (s .saved .0) q
-      go false q z = absurd (omega arith)
+      go : (form : Bool) → keyForm key ≡ form → (a : Bool) → leb t (s .saved .0) ≡ a → _≡_ {A = ℕ} (cond form (cond a 0 10) 18) 0
+          → (keyForm key ≡ true) × (t ≤ s .saved .0)
+      go true p true q z = (p, leb-true t (s .saved .0) q)
+      go true p false q z = absurd (omega arith)
+      go false p a q z = absurd (omega arith)
 
-  pub as-of-answered : (key t : ℕ) → t ≤ s .saved .0 → look l d (up m c s) (as-of key t) .refusal ≡ 0
-  as-of-answered key t h = as-of-number key t ∙ rw (le-leb t (s .saved .0) h)
+  pub as-of-answered : (key t : ℕ) → keyForm key ≡ true → t ≤ s .saved .0 → look l d (up m c s) (as-of key t) .refusal ≡ 0
+  as-of-answered key t k h = as-of-number key t ∙ rw (k, le-leb t (s .saved .0) h)
 
   -- what is stored is no later than what is given
   pub saved-low : s .saved .0 ≤ s .last .0

@@ -1,5 +1,5 @@
--- Reads by a number that has just begun: it is active and no version is its own, so its read is refused just if the key's newest
--- version is of an active number, and gives what the rows have for a number without any.
+-- Reads by a number that has just begun: it is active and no version is its own, so its read is refused just if there is no such
+-- record or the key's newest version is of an active number, and gives what the rows have for a number without any.
 use Prim.Native.Nat.{ℕ, _^_}
 use mathlib.Core.Path.{_≡_, refl, sym, ap, _∙_}
 use mathlib.Core.Logic.{_≢_}
@@ -9,6 +9,7 @@ use mathlib.Core.List.{List}
 use lib.Dec.{eqb}
 use borrow.Author.Tests.{ne-eqb, lt-ltb}
 use Rattle.layout.specs.Journal.{Record}
+use Rattle.layout.specs.Slot.{keyForm}
 use Rattle.store.specs.declared.Answer.the-variants.{Done}
 use Rattle.store.specs.declared.Place.{Place}
 use Rattle.store.specs.declared.State.{State}
@@ -88,10 +89,10 @@ module _ {l d : ℕ} {m c : List ℕ} {s : State} {b : Book} {disk : Disk} {clos
   same-held : (key : ℕ) → heldRow (newestUnder key none (versions (b .rows))) (beginOf s m c clock .state .places) number ≡ taken u number key
   same-held key = held-others (beginOf s m c clock .state .places) (s .places) (newest-of-others b number key rowless) (begun .beside .others)
 
-  begun-shows : (key : ℕ) → Shows (readNumber true (taken u number key)) (readBy b number key) (look l d (after (beginOf s m c clock)) (current-read number key))
+  begun-shows : (key : ℕ) → Shows (readNumber (keyForm key) true (taken u number key)) (readBy b number key) (look l d (after (beginOf s m c clock)) (current-read number key))
   unfolding called readBy
   begun-shows key = with-up inv (λ disk′ closed′ tail′ u′. rw (begun .active, same-rows, same-held key) at (current-shows u′ number key))
 
-  pub new-shows : (key : ℕ) → Shows (readNumber true (taken u number key)) (readBy b number key) (newRead l d (up m c s) clock key)
+  pub new-shows : (key : ℕ) → Shows (readNumber (keyForm key) true (taken u number key)) (readBy b number key) (newRead l d (up m c s) clock key)
   unfolding newRead look step seenOf called
   new-shows key = unfold look step seenOf called in begun-shows key

@@ -10,6 +10,7 @@ use mathlib.Core.List.{List, [], _∷_, _++_}
 use lib.Dec.{eqb}
 use borrow.Author.Tests.{eq-eqb, ne-eqb}
 use Rattle.layout.specs.Journal.{Record}
+use Rattle.layout.specs.Slot.{keyForm}
 use Rattle.store.specs.declared.Place.{Place}
 use Rattle.store.specs.declared.State.{State}
 use Rattle.store.specs.Places.{isAt, findActive}
@@ -67,6 +68,13 @@ handed-free (unwritten a q e) z n = absurd (omega arith)
 handed-free (aborted a x v q new checked e) z n = absurd (omega arith)
 handed-free (handed x v t new checked time e) z n = checked .free n
 
+-- and there is such a record
+handed-form : {b : Book} {s : State} {h : Transfer} {rs : List Row} {a : HandAnswer} → RowsEnd b s h rs a → handNumber a ≡ 0 → keyForm (h .flight) ≡ true
+unfolding handNumber
+handed-form (unwritten a q e) z = absurd (omega arith)
+handed-form (aborted a x v q new checked e) z = absurd (omega arith)
+handed-form (handed x v t new checked time e) z = checked .form
+
 -- ---- a running store before the handover, and after it
 
 module _ {l d : ℕ} {m c : List ℕ} {s : State} {b : Book} {disk : Disk} {closed : List (List Record)} {tail : List Record} (u : Up l d m c s b disk closed tail)
@@ -75,13 +83,13 @@ module _ {l d : ℕ} {m c : List ℕ} {s : State} {b : Book} {disk : Disk} {clos
   -- ---- reads by number
 
   -- a read is refused after the handover as before it
-  later-shows : (n key : ℕ) → Shows (readNumber (isAt (findActive (s .places) n)) (taken u n key)) (readBy book n key) (look l d (led o) (current-read n key))
+  later-shows : (n key : ℕ) → Shows (readNumber (keyForm key) (isAt (findActive (s .places) n)) (taken u n key)) (readBy book n key) (look l d (led o) (current-read n key))
   later-shows n key = rw (end .active n, same-held b s h (o .state .places) (end .active) (end .rows) key n) at (current-shows u′ n key)
 
   same-strip : (n key : ℕ) → (isAt (findActive (s .places) n) ≡ true → readBy book n key ≡ readBy b n key)
       → look l d (led o) (current-read n key) .strip ≡ look l d (up m c s) (current-read n key) .strip
   same-strip n key f =
-      shows-same (current-shows u n key) (later-shows n key) (λ e. f (current-passed u n key (current-shows u n key .number ∙ e) .0))
+      shows-same (current-shows u n key) (later-shows n key) (λ e. f (current-passed u n key (current-shows u n key .number ∙ e) .1))
 
   any-reads : AnyReads l d (up m c s) (led o)
   unfolding readBy
@@ -89,7 +97,7 @@ module _ {l d : ℕ} {m c : List ℕ} {s : State} {b : Book} {disk : Disk} {clos
     refusal = λ n key. later-shows n key .number ∙ sym (current-shows u n key .number);
     past = λ key t e.
         let reached = as-of-reached u key t e in
-        let f = as-of-answered u′ key t (omega (arith, reached, end .stored)) in
+        let f = as-of-answered u′ key t (reached .0) (omega (arith, reached, end .stored)) in
         (f, as-of-strip u′ key t f ∙ past-same b s h (end .rows) key t (omega (arith, reached, saved-rows u)) ∙ sym (as-of-strip u key t e));
     owner = λ n key. shows-owner (current-shows u n key) (later-shows n key) (owner-same b s h (end .rows) n key);
   }
@@ -101,7 +109,7 @@ module _ {l d : ℕ} {m c : List ℕ} {s : State} {b : Book} {disk : Disk} {clos
     unused : hasRow (b .rows) (number u′ j q) ≡ false
     unused = rowless-before (end .rows) (number u′ j q) (rowless u′ j q)
 
-    later-new : (key : ℕ) → Shows (readNumber true (taken u (number u i p) key)) (readBy book (number u′ j q) key) (newRead l d (led o) j key)
+    later-new : (key : ℕ) → Shows (readNumber (keyForm key) true (taken u (number u i p) key)) (readBy book (number u′ j q) key) (newRead l d (led o) j key)
     later-new key =
         rw (
           same-held b s h (o .state .places) (end .active) (end .rows) key (number u′ j q),
@@ -135,7 +143,7 @@ module _ {l d : ℕ} {m c : List ℕ} {s : State} {b : Book} {disk : Disk} {clos
       let n = number u′ j q in
       let free : taken u′ n (h .flight) ≡ false = same-held b s h (o .state .places) (end .active) (end .rows) (h .flight) n ∙ handed-free (end .rows) z n in
       let x = new-shows u′ j q (h .flight) in
-      let e : readNumber true (taken u′ n (h .flight)) ≡ 0 = rw free in
+      let e : readNumber (keyForm (h .flight)) true (taken u′ n (h .flight)) ≡ 0 = rw (handed-form (end .rows) z, free) in
       (x .number ∙ e, x .answered e ∙ k .current n)
 
   handed-reads : handNumber (o .answer) ≡ 0 → (t : ℕ) (k : HandedBook h t b book) → HandedReads l d h t (k .strip) (up m c s) (led o)

@@ -14,7 +14,7 @@ use Rattle.store.specs.declared.Refusal.{Refusal}
 use Rattle.store.specs.declared.State.{State}
 use Rattle.store.specs.Answer.{Outcome, answerValue}
 use Rattle.store.specs.Places.{isAt, findActive}
-use Rattle.runs.specs.Event.{Call, write, commit, abort, callTyped, typed, areBytes, isWord}
+use Rattle.runs.specs.Event.{Call, write, commit, abort, callTyped, typed, areBytes, isWord, isRecord}
 use Rattle.runs.specs.Book.{Book, Row, committed, lastTime, hasRow, clockOf, add, commitTime, entered}
 use Rattle.runs.specs.Machine.{called, seenOf, after, step, isRun}
 use Rattle.runs.specs.Moments.{bookAfter}
@@ -55,7 +55,7 @@ pub record Stage (l d : ℕ) (b : Book) (s : State) (h : Transfer) (ks : List Ca
 
 -- what is asked for has the right sizes
 pub record Sizes (h : Transfer) : Type 0 where
-  pub flight : ltb (h .flight) 256 ≡ true
+  pub flight : isRecord (h .flight) ≡ true
   pub to : ltb (h .to) 256 ≡ true
   pub began : isWord (h .began) ≡ true
   pub ended : isWord (h .ended) ≡ true
@@ -63,11 +63,11 @@ pub record Sizes (h : Transfer) : Type 0 where
 pub sizes-of : (h : Transfer) → handTyped h ≡ true → Sizes h
 unfolding handTyped
 sizes-of h t =
-    let behind-flight = and-1 (ltb (h .flight) 256) _ t in
+    let behind-flight = and-1 (isRecord (h .flight)) _ t in
     let behind-from = and-1 (ltb (h .from) 256) _ behind-flight in
     let clocks = and-1 (ltb (h .to) 256) _ behind-from in
     record {
-      flight = and-0 (ltb (h .flight) 256) _ t;
+      flight = and-0 (isRecord (h .flight)) _ t;
       to = and-0 (ltb (h .to) 256) _ behind-from;
       began = and-0 (isWord (h .began)) (isWord (h .ended)) clocks;
       ended = and-1 (isWord (h .began)) (isWord (h .ended)) clocks;

@@ -1,8 +1,11 @@
 -- The questions are put in their order; whether the lines fit is answered where they are written. Assumes nothing.
 use mathlib.Core.Path.{_≡_, sym, _∙_}
 use mathlib.Core.Bool.{true}
+use Prim.Native.Nat.{_<_}
+use native.Mathlib.Omega.{arith}
 use lib.ListN.{length, getD}
-use borrow.Author.Tests.{not-true, not-false, lt-leb}
+use borrow.Author.Tests.{not-true, not-false, lt-ltb, le-ltb, lt-leb}
+use Rattle.layout.specs.Slot.{keyForm}
 use Rattle.store.specs.Changes.{changesIf, changesOf}
 use Rattle.store.specs.State.{fits}
 use Rattle.memory.specs.Memory.{stateBy, stateOf}
@@ -26,6 +29,10 @@ room : (c : tie.Else1) → let a = c .before .before .before .before .before .be
 unfolding stateOf stateBy
 room c = fit-room _ _ _ (q1 c)
 
+q2 : (c : tie.Else2) → keyForm (c .before .before .before .before .before .before .before .before .args .key) ≡ true
+unfolding keyForm
+q2 c = let h : c .before .before .before .before .before .before .before .before .args .key < 1024 = omega arith in lt-ltb _ _ h
+
 is-fit-requires : tie.Need-is-fit-requires
 is-fit-requires c κs = search needs
 
@@ -33,21 +40,25 @@ returns : tie.Need-returns
 unfolding changesOf changesIf
 returns c = simp (← c .before .is-fit .ensures, not-true (c .before .is-fit .result) (c .if1 .taken))
 
-element-copy-out-if2 : tie.Need-element-copy-out-if2
-element-copy-out-if2 c = search needs
-
 returns-2 : tie.Need-returns-2
+unfolding changesOf changesIf keyForm
+returns-2 c = simp (q1 (c .before), le-ltb _ _ (c .if2 .taken))
+
+element-copy-out-if3 : tie.Need-element-copy-out-if3
+element-copy-out-if3 c = search needs
+
+returns-3 : tie.Need-returns-3
 unfolding changesOf changesIf stateOf stateBy
-returns-2 c = simp (q1 (c .before .before), lt-leb _ _ (c .if2 .taken))
+returns-3 c = simp (q1 (c .before .before .before), q2 (c .before .before), lt-leb _ _ (c .if3 .taken))
 
 element-copy-out-find : tie.Need-element-copy-out-find
 element-copy-out-find c = search needs
 
 find-requires : tie.Need-find-requires
-find-requires c κs = room (c .before .before .before)
+find-requires c κs = room (c .before .before .before .before)
 
 list-requires : tie.Need-list-requires
-list-requires c κs = newest-head _ _ _ _ _ (c .before .find .ensures) (room (c .before .before .before .before .before))
+list-requires c κs = newest-head _ _ _ _ _ (c .before .find .ensures) (room (c .before .before .before .before .before .before))
 
 enum-known-listed : tie.Need-enum-known-listed
 enum-known-listed c = search needs
@@ -58,19 +69,19 @@ enum-told c = search needs
 same-length : tie.Need-same-length
 same-length c = search needs
 
-returns-3 : tie.Need-returns-3
+returns-4 : tie.Need-returns-4
 unfolding stateOf stateBy
-returns-3 c = let a = c .before .before .before .before .before .before .before .before .before .before .before .before .before .before .before .before .before .before .args in
-    changes-listed (stateOf (a .words .now) (a .tail .now)) (a .medium .now) (a .cache .now) (a .buffer .now) _ (a .key) (a .t1) (a .t2) _ _ (q1 (c .before .before .before .before .before .before .before .before .before .before .before)) (c .before .before .before .before .before .before .before .before .before .if2 .left) (c .before .before .before .before .before .before .before .find .ensures)
+returns-4 c = let a = c .before .before .before .before .before .before .before .before .before .before .before .before .before .before .before .before .before .before .before .args in
+    changes-listed (stateOf (a .words .now) (a .tail .now)) (a .medium .now) (a .cache .now) (a .buffer .now) _ (a .key) (a .t1) (a .t2) _ _ (q1 (c .before .before .before .before .before .before .before .before .before .before .before .before)) (q2 (c .before .before .before .before .before .before .before .before .before .before .before)) (c .before .before .before .before .before .before .before .before .before .if3 .left) (c .before .before .before .before .before .before .before .find .ensures)
     (c .before .before .before .before .before .list .ensures .0) (c .before .before .before .before .before .list .ensures .1) _ (c .before .listed .given .1)
 
 same-length-2 : tie.Need-same-length-2
 same-length-2 c = search needs
 
-returns-4 : tie.Need-returns-4
+returns-5 : tie.Need-returns-5
 unfolding stateOf stateBy
-returns-4 c = let a = c .before .before .before .before .before .before .before .before .before .before .before .before .before .before .before .before .before .args in
-    changes-short (stateOf (a .words .now) (a .tail .now)) (a .medium .now) (a .cache .now) (a .buffer .now) _ (a .key) (a .t1) (a .t2) _ _ (q1 (c .before .before .before .before .before .before .before .before .before .before)) (c .before .before .before .before .before .before .before .before .if2 .left) (c .before .before .before .before .before .before .find .ensures)
+returns-5 c = let a = c .before .before .before .before .before .before .before .before .before .before .before .before .before .before .before .before .before .before .args in
+    changes-short (stateOf (a .words .now) (a .tail .now)) (a .medium .now) (a .cache .now) (a .buffer .now) _ (a .key) (a .t1) (a .t2) _ _ (q1 (c .before .before .before .before .before .before .before .before .before .before .before)) (q2 (c .before .before .before .before .before .before .before .before .before .before)) (c .before .before .before .before .before .before .before .before .if3 .left) (c .before .before .before .before .before .before .find .ensures)
     (c .before .before .before .before .list .ensures .0) (c .before .before .before .before .list .ensures .1) (c .enum-told .given .1)
 
 pub changes-spec : {M : Type 1} → statement M
@@ -79,14 +90,15 @@ changes-spec =
     (tie.spec
     is-fit-requires
     returns
-    element-copy-out-if2
     returns-2
+    element-copy-out-if3
+    returns-3
     element-copy-out-find
     find-requires
     list-requires
     enum-known-listed
     enum-told
     same-length
-    returns-3
+    returns-4
     same-length-2
-    returns-4)
+    returns-5)

@@ -33,11 +33,11 @@ enum-known-v c = search needs
 enum-known-v-2 : tie.Need-enum-known-v-2
 enum-known-v-2 c = search needs
 
-element-copy-out-t23 : tie.Need-element-copy-out-t23
-element-copy-out-t23 c = search needs
+element-copy-out-t24 : tie.Need-element-copy-out-t24
+element-copy-out-t24 c = search needs
 
 step-requires : tie.Need-step-requires
-step-requires c κs = let g = go (c .before .before .before .before .before .before) in (g .0, (g .1, refl))
+step-requires c κs = let g = go (c .before .before .before .before .before .before) in (g .0, (g .1, (refl, refl)))
 
 same-length : tie.Need-same-length
 same-length c = search needs
@@ -69,7 +69,7 @@ add-spec =
     asks-requires
     enum-known-v
     enum-known-v-2
-    element-copy-out-t23
+    element-copy-out-t24
     step-requires
     same-length
     same-length-2
