@@ -8,9 +8,9 @@ ghost use Rattle.book.specs.Line.{callOf, meaningOf};
 // A call, a cut, or a line of another form.
 pub enum Call {
     Begin(u64),
-    Write(u64, u8, u8),
+    Write(u64, u16, u8),
     Commit(u64, u64),
-    Query(u8, u64),
+    Query(u16, u64),
     Cut,
     Other,
 }
@@ -48,7 +48,7 @@ fn two_numbers(letter: u8, a: u64, n: u64) -> Call
     if 255 < a {
         return Call::Other;
     }
-    Call::Query(a as u8, n)
+    Call::Query(a as u16, n)
 }
 
 // What a letter and three numbers ask for; a record or byte is at most 255.
@@ -64,7 +64,7 @@ fn three_numbers(letter: u8, a: u64, b: u64, n: u64) -> Call
     if 255 < n {
         return Call::Other;
     }
-    Call::Write(a, b as u8, n as u8)
+    Call::Write(a, b as u16, n as u8)
 }
 
 // What a line asks for that ends here.

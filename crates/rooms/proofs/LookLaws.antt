@@ -12,6 +12,7 @@ use borrow.Author.Tests.{leb-true}
 use types.Run.{OneOf, miss}
 use denote.Enum.Declared.{tagOf}
 use Rattle.fields.specs.Block.{zeros}
+use Rattle.layout.specs.Slot.{keyForm}
 use Rattle.store.specs.declared.Answer.{Answer}
 use Rattle.store.specs.declared.Answer.the-variants.{Refused, Listed}
 use Rattle.store.specs.declared.Refusal.{Refusal}
@@ -48,14 +49,16 @@ unfolding changesOf changesIf
 list-fits s m c b key t1 t2 k a e f =
     let g = sym f ∙ e in
     bool-case (fits s (length m) (length c))
-    (λ u. bool-case (leb t2 (s .saved .0))
+    (λ u. bool-case (keyForm key)
+    (λ q. bool-case (leb t2 (s .saved .0))
     (λ v. bool-case (leb (32 * length (changeLines s c key t1 t2)) (length b))
     (λ w.
-    let h : Listed k ≡ Listed (length (changeLines s c key t1 t2)) = simp (u, v, w) at g in
+    let h : Listed k ≡ Listed (length (changeLines s c key t1 t2)) = simp (u, q, v, w) at g in
     let j : k ≡ length (changeLines s c key t1 t2) = cc in
     let r : 32 * length (changeLines s c key t1 t2) ≤ length b = leb-true _ _ w in omega arith)
-    (λ w. refused (simp (u, v, w) at g)))
-    (λ v. refused (simp (u, v) at g)))
+    (λ w. refused (simp (u, q, v, w) at g)))
+    (λ v. refused (simp (u, q, v) at g)))
+    (λ q. refused (simp (u, q) at g)))
     (λ u. refused (simp u at g))
   where
     refused : {P : Type 0} {r : Refusal} → Listed k ≡ Refused r → P

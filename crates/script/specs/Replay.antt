@@ -16,7 +16,7 @@ use Rattle.script.specs.Reader.{doneOf, lastWord, seenOf}
 unfoldable pub plain : Call → Asked
 plain call = record { call = call; value = zeros 16 }
 
--- replay: "a record, a sector or a byte at most 255", "at most 40000"
+-- replay: "a record or a flight at most 65,535, a sector or a byte at most 255", "at most 40000"
 unfoldable pub atMost : ℕ → ℕ → Call → Call
 atMost most n call = cond (ltb most n) Other call
 
@@ -42,9 +42,9 @@ oneNumber k n =
 unfoldable pub twoNumbers : ℕ → ℕ → ℕ → Call
 twoNumbers k a n =
     cond (eqb k 70) (Format a n)
-    (cond (eqb k 69) (atMost 255 n (Erase a n))
-    (cond (eqb k 82) (atMost 255 n (Read a n))
-    (cond (eqb k 67) (Commit a n) (cond (eqb k 81) (atMost 255 a (AsOf a n)) Other))))
+    (cond (eqb k 69) (atMost 65535 n (Erase a n))
+    (cond (eqb k 82) (atMost 65535 n (Read a n))
+    (cond (eqb k 67) (Commit a n) (cond (eqb k 81) (atMost 65535 a (AsOf a n)) Other))))
 
 -- replay: `Z offset hexbyte`
 abbrev pub pokeBy : ℕ → Option (List ℕ) → Call
@@ -59,15 +59,15 @@ twoWords k a w = cond (eqb k 90) (pokeBy a (w .byte)) (given (w .number) (twoNum
 -- replay: `W number record value`
 abbrev pub writeBy : ℕ → ℕ → Option (List ℕ) → Asked
 writeBy n key none = plain Other
-writeBy n key (some v) = cond (ltb 255 key) (plain Other) (record { call = Write n key; value = v })
+writeBy n key (some v) = cond (ltb 65535 key) (plain Other) (record { call = Write n key; value = v })
 
 -- replay: `L record t1 t2 bytes`
 unfoldable pub fourNumbers : ℕ → ℕ → ℕ → ℕ → ℕ → Call
-fourNumbers k a b c n = cond (eqb k 76) (atMost 255 a (atMost 40000 n (Changes a b c n))) Other
+fourNumbers k a b c n = cond (eqb k 76) (atMost 65535 a (atMost 40000 n (Changes a b c n))) Other
 
 -- replay: `H flight from to clock clock`
 unfoldable pub fiveNumbers : ℕ → ℕ → ℕ → ℕ → ℕ → ℕ → Call
-fiveNumbers k a b c d n = cond (eqb k 72) (atMost 255 a (atMost 255 b (atMost 255 c (Hand a b c d n)))) Other
+fiveNumbers k a b c d n = cond (eqb k 72) (atMost 65535 a (atMost 255 b (atMost 255 c (Hand a b c d n)))) Other
 
 -- replay: "One call to a line": what a form means
 unfoldable pub replayOf : Form → Asked

@@ -14,14 +14,14 @@ pub enum Call {
     OpenSized(u64),
     Cut,
     Begin(u64),
-    Write(u64, u8),
-    Erase(u64, u8),
-    Read(u64, u8),
+    Write(u64, u16),
+    Erase(u64, u16),
+    Read(u64, u16),
     Commit(u64, u64),
     Abort(u64),
-    Hand(u8, u8, u8, u64, u64),
-    AsOf(u8, u64),
-    Changes(u8, u64, u64, u64),
+    Hand(u16, u8, u8, u64, u64),
+    AsOf(u16, u64),
+    Changes(u16, u64, u64, u64),
     StoreLog,
     StorePage(u64),
     Checkpoint,
@@ -84,30 +84,30 @@ fn one_number(letter: u8, n: u64) -> Call
     }
 }
 
-// A letter and two numbers.
+// A letter and two numbers; a record is at most 65535.
 fn two_numbers(letter: u8, a: u64, n: u64) -> Call
     ensures { λ r. ⌜ r ≡ twoNumbers letter a n ⌝ }
 {
     match letter {
         b'F' => Call::Format(a, n),
         b'E' => {
-            if 255 < n {
+            if 65535 < n {
                 return Call::Other;
             }
-            Call::Erase(a, n as u8)
+            Call::Erase(a, n as u16)
         }
         b'R' => {
-            if 255 < n {
+            if 65535 < n {
                 return Call::Other;
             }
-            Call::Read(a, n as u8)
+            Call::Read(a, n as u16)
         }
         b'C' => Call::Commit(a, n),
         b'Q' => {
-            if 255 < a {
+            if 65535 < a {
                 return Call::Other;
             }
-            Call::AsOf(a as u8, n)
+            Call::AsOf(a as u16, n)
         }
         _ => Call::Other,
     }
@@ -167,46 +167,46 @@ fn value_of(high: u64, low: u64) -> [u8; 16]
     ]
 }
 
-// A write, if the record is at most 255 and the value has 32 digits.
+// A write, if the record is at most 65535 and the value has 32 digits.
 fn write_of(line: Line) -> Asked
     ensures { λ r. ⌜ r ≡ writeBy (line .third) (line .second) (lastWord line .value) ⌝ }
 {
     if line.hexes != 32 {
         return plain(Call::Other);
     }
-    if 255 < line.second {
+    if 65535 < line.second {
         return plain(Call::Other);
     }
     Asked {
-        call: Call::Write(line.third, line.second as u8),
+        call: Call::Write(line.third, line.second as u16),
         value: value_of(line.high, line.low),
     }
 }
 
-// A list of changes, if the record is at most 255 and the buffer at most 40000.
+// A list of changes, if the record is at most 65535 and the buffer at most 40000.
 fn four_numbers(line: Line) -> Call
     ensures { λ r. ⌜ r ≡ fourNumbers (line .letter) (line .fourth) (line .third) (line .second) (line .last) ⌝ }
 {
     if line.letter != b'L' {
         return Call::Other;
     }
-    if 255 < line.fourth {
+    if 65535 < line.fourth {
         return Call::Other;
     }
     if 40000 < line.last {
         return Call::Other;
     }
-    Call::Changes(line.fourth as u8, line.third, line.second, line.last)
+    Call::Changes(line.fourth as u16, line.third, line.second, line.last)
 }
 
-// A handover, if the flight and both sectors are at most 255.
+// A handover, if the flight is at most 65535 and both sectors are at most 255.
 fn five_numbers(line: Line) -> Call
     ensures { λ r. ⌜ r ≡ fiveNumbers (line .letter) (line .fifth) (line .fourth) (line .third) (line .second) (line .last) ⌝ }
 {
     if line.letter != b'H' {
         return Call::Other;
     }
-    if 255 < line.fifth {
+    if 65535 < line.fifth {
         return Call::Other;
     }
     if 255 < line.fourth {
@@ -216,7 +216,7 @@ fn five_numbers(line: Line) -> Call
         return Call::Other;
     }
     Call::Hand(
-        line.fifth as u8,
+        line.fifth as u16,
         line.fourth as u8,
         line.third as u8,
         line.second,

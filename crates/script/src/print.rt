@@ -93,5 +93,6 @@ pub fn number_of(r: Refusal) -> u64
         Refusal::ShortBuffer => 14,
         Refusal::NoNumber => 15,
         Refusal::Unfit => 16,
+        Refusal::NoRecord => 18,
     }
 }
