@@ -1,5 +1,5 @@
 -- Demand 3 used: what the opening after the cut of the longest case finds, from the theorem. The events before it are
--- computed, for they decide the book; the opening, which reads 33 pairs and 41 slots, is not.
+-- computed, for they decide the book; the opening, which reads 34 pairs and 38 slots, is not.
 use mathlib.Core.Path.{_≡_, refl, sym, ap, _∙_}
 use mathlib.Core.Bool.{Bool, true}
 use mathlib.Core.List.{[], _∷_, _++_}
@@ -43,7 +43,7 @@ agrees = rw book at (last-fits demand3 5 3 (closedUp .before) (closedUp .last) r
 pub accepted : seen .refusal ≡ 0
 accepted = agrees .accepted refl
 
-pub answer : seen .result ≡ 33
+pub answer : seen .result ≡ 34
 unfolding fall lastTime
 answer = agrees .last accepted
 

@@ -7,12 +7,17 @@ use mathlib.Core.Bool.{cond, false≢true}
 use mathlib.Core.List.{List, [], _∷_}
 use Rattle.runs.specs.Event.{Sight}
 use Rattle.runs.specs.Book.{versions, timeOf, lastTime, hasRow, isOpen, fall, sight, sights, isSome}
-use Rattle.examples.specs.Spoiling.{Judged, stampedEarly, closedUp, droppedEarly, numbersAgain, nothingLogged}
+use Rattle.examples.specs.Spoiling.{Judged, stampedEarly, closedUp, droppedEarly, numbersAgain, nothingLogged, loggedShort}
 
 -- how many slots have no time
 abbrev untimed : List Sight → ℕ
 untimed [] = 0
 untimed (s ∷ ss) = cond (isSome (s .time)) 0 1 + untimed ss
+
+-- the record of the first slot
+abbrev first-key : List Sight → ℕ
+first-key [] = 0
+first-key (s ∷ ss) = s .key
 
 pub stampedEarly-judged : Judged stampedEarly
 unfolding fall lastTime sights sight versions timeOf
@@ -25,7 +30,7 @@ pub closedUp-judged : Judged closedUp
 unfolding fall lastTime sights sight versions timeOf
 closedUp-judged = record {
   takes = record { accepted = λ h. refl; refused = λ h. absurd (h refl); last = λ h. refl; finds = λ h. refl };
-  catches = λ f. let e : _≡_ {A = ℕ} 2 1 = ap untimed (f .finds refl) in absurd (omega arith);
+  catches = λ f. let e : _≡_ {A = ℕ} 3 1 = ap untimed (f .finds refl) in absurd (omega arith);
 }
 
 pub droppedEarly-judged : Judged droppedEarly
@@ -44,4 +49,11 @@ unfolding fall lastTime sights sight versions timeOf
 nothingLogged-judged = record {
   takes = record { accepted = λ h. refl; refused = λ h. absurd (h refl); last = λ h. refl; finds = λ h. refl };
   catches = λ f. let e : _≡_ {A = ℕ} 1 0 = ap untimed (f .finds refl) in absurd (omega arith);
+}
+
+pub loggedShort-judged : Judged loggedShort
+unfolding fall lastTime sights sight versions timeOf
+loggedShort-judged = record {
+  takes = record { accepted = λ h. refl; refused = λ h. absurd (h refl); last = λ h. refl; finds = λ h. refl };
+  catches = λ f. let e : _≡_ {A = ℕ} 44 300 = ap first-key (f .finds refl) in absurd (omega arith);
 }

@@ -13,3 +13,4 @@ pub mod FullLog
 pub mod Handovers
 pub mod Refusing
 pub mod OldBoard
+pub mod OldMedium

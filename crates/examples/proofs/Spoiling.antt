@@ -3,8 +3,8 @@ use mathlib.Core.Path.{refl}
 use mathlib.Core.List.{List, [], _∷_}
 use Rattle.store.specs.State.{inRange}
 use Rattle.examples.specs.Compute.{computed}
-use Rattle.examples.specs.Spoiling.{Case, Caught, cases, stampedEarly, closedUp, droppedEarly, numbersAgain, nothingLogged}
-use Rattle.examples.proofs.Judged.{stampedEarly-judged, closedUp-judged, droppedEarly-judged, numbersAgain-judged, nothingLogged-judged}
+use Rattle.examples.specs.Spoiling.{Case, Caught, cases, stampedEarly, closedUp, droppedEarly, numbersAgain, nothingLogged, loggedShort}
+use Rattle.examples.proofs.Judged.{stampedEarly-judged, closedUp-judged, droppedEarly-judged, numbersAgain-judged, nothingLogged-judged, loggedShort-judged}
 use Rattle.examples.proofs.LastEvents.{shows, caught}
 
 abbrev Each : List Case → Type 0
@@ -31,6 +31,10 @@ nothingLogged-caught : Caught nothingLogged
 unfolding computed inRange
 nothingLogged-caught = caught nothingLogged nothingLogged-judged (shows nothingLogged (nothingLogged .right) refl refl)
 
+loggedShort-caught : Caught loggedShort
+unfolding computed inRange
+loggedShort-caught = caught loggedShort loggedShort-judged (shows loggedShort (loggedShort .right) refl refl)
+
 pub spoiling : Each cases
 spoiling = (
   stampedEarly-caught,
@@ -40,7 +44,7 @@ spoiling = (
       droppedEarly-caught,
       (
         numbersAgain-caught,
-        (nothingLogged-caught, tt),
+        (nothingLogged-caught, (loggedShort-caught, tt)),
       ),
     ),
   ),

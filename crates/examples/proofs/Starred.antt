@@ -4,7 +4,7 @@ use mathlib.Core.Path.{_≡_, refl, sym, ap, _∙_}
 use mathlib.Core.List.{List, [], _∷_, map}
 use Rattle.runs.specs.Event.{Event}
 use Rattle.examples.specs.Compute.{Ran, ran}
-use Rattle.examples.specs.Table.{Outcome, shown, tailOf, outcomeOf, Row, Right, table, fresh, clocks, lastTime, twice, slotsUsed, nextBlock, logFull, erasedFirst, givenAgain, listing}
+use Rattle.examples.specs.Table.{Outcome, shown, tailOf, outcomeOf, Row, Right, table, fresh, clocks, lastTime, twice, slotsUsed, fourteen, commitFits, twoBytes, noRecord, logFull, erasedFirst, givenAgain, listing}
 use Rattle.examples.proofs.Passes.{ran-is}
 
 -- the outcome by one pass
@@ -40,9 +40,13 @@ slotsUsed-right : Right slotsUsed
 unfolding passed
 slotsUsed-right = by-pass slotsUsed refl
 
-nextBlock-right : Right nextBlock
+fourteen-right : Right fourteen
 unfolding passed
-nextBlock-right = by-pass nextBlock refl
+fourteen-right = by-pass fourteen refl
+
+commitFits-right : Right commitFits
+unfolding passed
+commitFits-right = by-pass commitFits refl
 
 logFull-right : Right logFull
 unfolding passed
@@ -55,6 +59,14 @@ erasedFirst-right = by-pass erasedFirst refl
 givenAgain-right : Right givenAgain
 unfolding passed
 givenAgain-right = by-pass givenAgain refl
+
+twoBytes-right : Right twoBytes
+unfolding passed
+twoBytes-right = by-pass twoBytes refl
+
+noRecord-right : Right noRecord
+unfolding passed
+noRecord-right = by-pass noRecord refl
 
 listing-right : Right listing
 unfolding passed
@@ -72,7 +84,7 @@ examples = (
         (
           slotsUsed-right,
           (
-            nextBlock-right,
+            fourteen-right,
             (
               logFull-right,
               (
@@ -80,8 +92,17 @@ examples = (
                 (
                   givenAgain-right,
                   (
-                    listing-right,
-                    tt,
+                    commitFits-right,
+                    (
+                      twoBytes-right,
+                      (
+                        noRecord-right,
+                        (
+                          listing-right,
+                          tt,
+                        ),
+                      ),
+                    ),
                   ),
                 ),
               ),

@@ -7,9 +7,9 @@ use Rattle.fields.specs.Part.{splice}
 use Rattle.fields.specs.Equal.{eqList, allZero}
 use Rattle.fields.specs.Cells.{flat}
 use Rattle.fields.specs.Block.{blk, put, logBlockAt, pageBlockAt, mediumLength, cacheLength, pageOf, slotIn, slotAt, endPlace, blockOfEnd}
-use Rattle.layout.specs.Slot.{codeOf, sharedField, slotBytes, slotState, cellOf, stamped, kindForm, slotForm}
+use Rattle.layout.specs.Slot.{codeOf, sharedField, slotBytes, slotState, slotKey, cellOf, stamped, kindForm, keyForm, slotForm}
 use Rattle.layout.specs.Page.{pageBytes, pageEnd, pageUsed, pageSlot, cellsFrom, pageCells, putCell, stampCell, slotFormAt, slotsForm, pageForm, putVersion, stampVersion, cacheSlot}
-use Rattle.layout.specs.Item.{itemBytes, headOf, valueOf, pairOf, numberItem, versionItem, commitItem, byTag, itemOf}
+use Rattle.layout.specs.Item.{bytesOf, tagOf, itemBytes, headOf, valueOf, pairOf, numberItem, versionItem, commitItem, byTag, itemOf}
 use Rattle.layout.specs.Journal.{versionBody, recordBytes, recordSize, logBytes, sequenceOf, usedOf, parse, bodyOf, parsed, emptyBlock, addRecord, usedForm, recordForm}
 use Rattle.layout.specs.Table.{pairBytes, pairAt, tablePair, blockPair, putPair, pairForm}
 use Rattle.layout.specs.Master.{masterBytes, fieldOf, masterOf, oldestOn}
@@ -48,7 +48,7 @@ pub record Ran : Type 0 where
 
 -- all four in one pass
 unfoldable pub ranFrom : ℕ → ℕ → World → Book → List Event → Ran
-unfolding enc dec splice eqList allZero flat blk put logBlockAt pageBlockAt mediumLength cacheLength pageOf slotIn slotAt endPlace blockOfEnd codeOf sharedField slotBytes slotState cellOf stamped kindForm slotForm pageBytes pageEnd pageUsed pageSlot cellsFrom pageCells putCell stampCell slotFormAt slotsForm pageForm putVersion stampVersion cacheSlot itemBytes headOf valueOf pairOf numberItem versionItem commitItem byTag itemOf versionBody recordBytes recordSize logBytes sequenceOf usedOf parse bodyOf parsed emptyBlock addRecord usedForm recordForm pairBytes pairAt tablePair blockPair putPair pairForm masterBytes fieldOf masterOf oldestOn refusalNumber answerNumber answerValue first placeAt findActive findCommitted ringPlace findFree timeUnder storedUnder raised lowered inRange fits noState withPlace withPhase tailFits mayLog tailEnd storedTail loggedIf logged cellAt versionOf newest versionTime held visibleFrom visibleOf bestFrom bestOf freshMedium formatIf formatOf begun beginIf beginOf newHead cellFor touched written writeStep writeIf addOf writeOf eraseOf readCell currentIf currentOf commitTime committed commitStep commitIf commitOf abortIf abortOf asOfIf asOfOf lineBytes differs before linesBelow changeLines changesIf changesOf logStored storeLogIf storeLogOf stampTime stampFrom storedPair stampedPage settleFrom settled pageStored storePageIf storePageOf leastOr newOldest pairsFrom tableBlock checkpointStep checkpointIf checkpointOf nextOn timeOn placeFrom aboveAll latest commitUnder blockOf matching readCount loggedFrom readLog readTail logEnd nextNumber lastTime pagesOn applies redoOne redo redoChecks usedIn untouched tableFind pairTime countWaiting insert waitingNumbers livePlace tablePlaces takeFree isPaired inLogAlone openPlaces holds allHold each eachList tableChecks formsOf recordsFit lowAfterAll logChecks onceChecks blockChecks fieldsInForm sequencesInRange recordsFrom recordsWhole endsLogged numbersLeft pairsOnce pageChecks fullBefore earlierTrue timeBelow notFalling pairInBounds slotTrue historyTrue fromOne fewWaiting copied redone appliedNext conditions wellFormed openedState refusedCache openIf openOf step formatted sightAt sightsFrom logChanged seenOf called quiet opens areBytes callTyped typed blank versions timeOf lastRow hasRow isOpen clockOf close add rowTime fall entered feed
+unfolding enc dec splice eqList allZero flat blk put logBlockAt pageBlockAt mediumLength cacheLength pageOf slotIn slotAt endPlace blockOfEnd codeOf sharedField slotBytes slotState slotKey cellOf stamped kindForm keyForm slotForm pageBytes pageEnd pageUsed pageSlot cellsFrom pageCells putCell stampCell slotFormAt slotsForm pageForm putVersion stampVersion cacheSlot bytesOf tagOf itemBytes headOf valueOf pairOf numberItem versionItem commitItem byTag itemOf versionBody recordBytes recordSize logBytes sequenceOf usedOf parse bodyOf parsed emptyBlock addRecord usedForm recordForm pairBytes pairAt tablePair blockPair putPair pairForm masterBytes fieldOf masterOf oldestOn refusalNumber answerNumber answerValue first placeAt findActive findCommitted ringPlace findFree timeUnder storedUnder raised lowered inRange fits noState withPlace withPhase tailFits mayLog tailEnd storedTail loggedIf logged cellAt versionOf newest versionTime held visibleFrom visibleOf bestFrom bestOf freshMedium formatIf formatOf begun beginIf beginOf newHead cellFor touched written writeStep writeIf addOf writeOf eraseOf readCell currentIf currentOf commitTime committed commitStep commitIf commitOf abortIf abortOf asOfIf asOfOf lineBytes differs before linesBelow changeLines changesIf changesOf logStored storeLogIf storeLogOf stampTime stampFrom storedPair stampedPage settleFrom settled pageStored storePageIf storePageOf leastOr newOldest pairsFrom tableBlock checkpointStep checkpointIf checkpointOf nextOn timeOn placeFrom aboveAll latest commitUnder blockOf matching readCount loggedFrom readLog readTail logEnd nextNumber lastTime pagesOn applies redoOne redo redoChecks usedIn untouched tableFind pairTime countWaiting insert waitingNumbers livePlace tablePlaces takeFree isPaired inLogAlone openPlaces holds allHold each eachList tableChecks formsOf recordsFit lowAfterAll logChecks onceChecks blockChecks fieldsInForm sequencesInRange recordsFrom recordsWhole endsLogged numbersLeft pairsOnce pageChecks fullBefore earlierTrue timeBelow notFalling pairInBounds slotTrue historyTrue fromOne fewWaiting copied redone appliedNext conditions wellFormed openedState refusedCache openIf openOf step formatted sightAt sightsFrom logChanged seenOf called quiet opens areBytes callTyped typed blank versions timeOf lastRow hasRow isOpen clockOf close add rowTime fall entered feed
 ranFrom l d w b [] = record { world = w; book = b; seen = []; run = true }
 ranFrom l d w b (e ∷ es) =
     let x = step l d w e in

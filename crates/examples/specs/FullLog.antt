@@ -39,12 +39,12 @@ Told c es = asking (c .blocks) (c .pages) (1 + c .pages + 5) (leftBy c) ≡ es
 
 -- ---- the runs
 
--- 30 versions fill two log blocks and two of three pages
+-- 28 versions fill two log blocks and lie on two of three pages
 abbrev pub untouched : Filled
 untouched = record {
   blocks = 2;
   pages = 3;
-  before = opened 3 ∷ call (begin 0) ∷ writes 30;
+  before = opened 3 ∷ call (begin 0) ∷ writes 28;
   refused = write 1 7 (bytes 65);
   calls = call store-log ∷ call (store-page 0) ∷ call (store-page 1) ∷ oneMore;
 }
@@ -54,7 +54,7 @@ abbrev pub underWay : Filled
 underWay = record {
   blocks = 2;
   pages = 3;
-  before = opened 3 ∷ call (begin 0) ∷ (writes 30 ++ (call store-log ∷ call (store-page 0) ∷ call (store-page 1) ∷ call checkpoint ∷ []));
+  before = opened 3 ∷ call (begin 0) ∷ (writes 28 ++ (call store-log ∷ call (store-page 0) ∷ call (store-page 1) ∷ call checkpoint ∷ []));
   refused = write 1 7 (bytes 65);
   calls = call checkpoint ∷ call checkpoint ∷ oneMore;
 }

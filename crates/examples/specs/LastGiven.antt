@@ -97,5 +97,5 @@ survives = record {
       ∷ cut ∷ opened 1 ∷ call (begin 10) ∷ call (write 2 7 (bytes 66)) ∷ call (commit 2 10) ∷ call (as-of 7 10) ∷ []);
   answers = done 0 ∷ done 1 ∷ done 0 ∷ done 10 ∷ done 0 ∷ reads (present (bytes 65))
       ∷ done 0 ∷ done 10 ∷ done 2 ∷ done 1 ∷ done 11 ∷ reads (present (bytes 65)) ∷ [];
-  tail = tail 1 114;
+  tail = tail 1 116;
 }

@@ -8,3 +8,4 @@ pub mod Repeats
 pub mod FullLog
 pub mod Handovers
 pub mod OldBoard
+pub mod OldMedium

@@ -1,5 +1,5 @@
--- Runs that show a shortcut: one for each of 01's 'Shortcuts that spoil a history', and one for the commit of its buyer's
--- note that reports a time and logs nothing. Each ends in an opening or a begin, where a store with the shortcut gives what
+-- Runs that show a shortcut: one for each of 01's 'Shortcuts that spoil a history', one for the commit of its buyer's note that
+-- reports a time and logs nothing, and one for a version that is logged as it was before request #104. Each ends in an opening or a begin, where a store with the shortcut gives what
 -- the book does not take. `.ci/mutants` has each shortcut as an edit of the definitions.
 use Prim.Native.Nat.{ℕ, zero, suc}
 use mathlib.Core.Path.{_≡_}
@@ -81,22 +81,22 @@ stampedEarly = record {
   wrong = refuses 3;
 }
 
--- 01: "Closing up the pair table, so that a cut between its blocks loses a pair." Numbers 1 to 33 commit in places 0 to 32
+-- 01: "Closing up the pair table, so that a cut between its blocks loses a pair." Numbers 1 to 34 commit in places 0 to 33
 -- and wait on pages stored before. The first call of a checkpoint stores places 0 to 31. Then page 0 is stored, and numbers
--- 1 to 8 are no longer live. In a table closed up at each store, number 33 was behind the first block and is before the
--- second, so neither has its pair. Number 34 commits in a block that is never stored.
+-- 1 to 12 are no longer live. In a table closed up at each store, numbers 33 and 34 were behind the first block and are before
+-- the second, so neither has their pairs. Number 35 commits in a block that is never stored.
 abbrev pub closedUp : Case
 closedUp = record {
   blocks = 5;
   pages = 3;
-  before = opened 3 ∷ (replicate 34 (call (begin 1)) ++ (replicate 8 (puts 1 1 1) ++ (each (λ n. puts n n n) 2 33
+  before = opened 3 ∷ (replicate 35 (call (begin 1)) ++ (replicate 4 (puts 1 1 1) ++ (each (λ n. puts n n n) 2 34
       ++ ((call store-log ∷ call (store-page 0) ∷ call (store-page 1) ∷ call (store-page 2) ∷ [])
-      ++ (each (λ n. call (commit n 1)) 1 34
+      ++ (each (λ n. call (commit n 1)) 1 35
       ++ (call checkpoint ∷ call (store-page 0) ∷ call checkpoint ∷ call checkpoint ∷ cut ∷ []))))));
   last = opened 3;
-  book = stored (replicate 8 (row 1 1 1) ++ (each (λ n. row n n n) 2 33 ++ each (λ n. committed n n) 1 33)) 74;
-  right = finds 33 (replicate 8 (at 1 1 1) ++ (each (λ n. at n n n) 2 32 ++ (waits 34 34 ∷ [])));
-  wrong = finds 33 (replicate 8 (at 1 1 1) ++ (each (λ n. at n n n) 2 31 ++ (waits 33 33 ∷ waits 34 34 ∷ [])));
+  book = stored (replicate 4 (row 1 1 1) ++ (each (λ n. row n n n) 2 34 ++ each (λ n. committed n n) 1 34)) 72;
+  right = finds 34 (replicate 4 (at 1 1 1) ++ (each (λ n. at n n n) 2 33 ++ (waits 35 35 ∷ [])));
+  wrong = finds 34 (replicate 4 (at 1 1 1) ++ (each (λ n. at n n n) 2 31 ++ (waits 33 33 ∷ waits 34 34 ∷ waits 35 35 ∷ [])));
 }
 
 -- 01: "Dropping a pair when the cached page is stamped and not when it is stored." The versions wait on the medium, where
@@ -137,5 +137,17 @@ nothingLogged = record {
   wrong = finds 0 (waits 7 65 ∷ []);
 }
 
+-- 02, #104: "new versions use tag 3 only". Under tag 1 the record number has one byte, and strip 300 is found as 44.
+abbrev pub loggedShort : Case
+loggedShort = record {
+  blocks = 2;
+  pages = 1;
+  before = opened 1 ∷ call (begin 5) ∷ puts 1 300 65 ∷ call (commit 1 5) ∷ call store-log ∷ cut ∷ [];
+  last = opened 1;
+  book = stored (row 1 300 65 ∷ committed 1 5 ∷ []) 2;
+  right = finds 5 (at 5 300 65 ∷ []);
+  wrong = finds 5 (at 5 44 65 ∷ []);
+}
+
 abbrev pub cases : List Case
-cases = stampedEarly ∷ closedUp ∷ droppedEarly ∷ numbersAgain ∷ nothingLogged ∷ []
+cases = stampedEarly ∷ closedUp ∷ droppedEarly ∷ numbersAgain ∷ nothingLogged ∷ loggedShort ∷ []

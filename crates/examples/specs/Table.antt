@@ -1,10 +1,10 @@
--- The starred examples of 01, as the requests of 02 change them, and beside them the `stripbook` listing at the level of
--- calls.
+-- The starred examples of 01, as the requests of 02 change them, and beside them those of #104 and the `stripbook` listing at the
+-- level of calls.
 use Prim.Native.Nat.{ℕ, zero, suc, _-_, _^_}
 use mathlib.Core.Path.{_≡_}
 use mathlib.Core.List.{List, [], _∷_, _++_, map}
 use Rattle.layout.specs.Journal.{sequenceOf, usedOf}
-use Rattle.runs.specs.Event.{Event, cut, call, begin, write, erase, commit, as-of, store-log, Strip, missing, erased, present, Observation}
+use Rattle.runs.specs.Event.{Event, cut, call, begin, write, erase, current-read, commit, as-of, changes, store-log, Strip, missing, erased, present, Observation}
 use Rattle.runs.specs.Machine.{World, down, up, trace, formatted}
 use Rattle.runs.specs.Moments.{worldAfter}
 use Rattle.examples.specs.Words.{bytes, opened}
@@ -92,7 +92,7 @@ clocks = record {
   script = opened 1 ∷ call (begin 10) ∷ call (write 1 7 (bytes 65)) ∷ call (commit 1 5)
       ∷ call (begin 3) ∷ call (write 2 7 (bytes 66)) ∷ call (commit 2 3) ∷ [];
   answers = done 0 ∷ done 1 ∷ done 0 ∷ done 10 ∷ done 2 ∷ done 1 ∷ done 11 ∷ [];
-  tail = tail 1 114;
+  tail = tail 1 116;
 }
 
 -- * "Commit at 2^64 - 1 is accepted; the following commit with versions: 9, still active."
@@ -103,7 +103,7 @@ lastTime = record {
   script = opened 1 ∷ call (begin 0) ∷ call (write 1 7 (bytes 65)) ∷ call (commit 1 (2 ^ 64 - 1))
       ∷ call (begin 0) ∷ call (write 2 7 (bytes 66)) ∷ call (commit 2 0) ∷ call (write 2 7 (bytes 67)) ∷ [];
   answers = done 0 ∷ done 1 ∷ done 0 ∷ done (2 ^ 64 - 1) ∷ done 2 ∷ done 1 ∷ refused 9 ∷ done 2 ∷ [];
-  tail = tail 1 128;
+  tail = tail 1 131;
 }
 
 -- * "Two writes of one record in a transaction: as of its time, the second."; 02, #102: "after a commit, the log is stored
@@ -115,37 +115,48 @@ twice = record {
   script = opened 1 ∷ call (begin 4) ∷ call (write 1 7 (bytes 65)) ∷ call (write 1 7 (bytes 66)) ∷ call (commit 1 4)
       ∷ call store-log ∷ call (as-of 7 4) ∷ [];
   answers = done 0 ∷ done 1 ∷ done 0 ∷ done 1 ∷ done 4 ∷ done 0 ∷ reads (present (bytes 66)) ∷ [];
-  tail = tail 1 95;
+  tail = tail 1 97;
 }
 
--- * "D = 1: the 15th write done, the 16th 7."
+-- * "D = 1: the 15th write done, the 16th 7."; 02, #104: "Fourteen such records of 34 bytes now fit a block", so the 15th begins a
+-- second one
 abbrev pub slotsUsed : Row
 slotsUsed = record {
   blocks = 2;
   pages = 1;
   script = opened 1 ∷ call (begin 0) ∷ writes 16;
   answers = done 0 ∷ done 1 ∷ (slots 0 15 ++ (refused 7 ∷ []));
+  tail = tail 2 44;
+}
+
+-- * "Fifteen versions use 505 bytes of a block; a commit record (19) begins the next."; 02, #104: "fourteen use 486 bytes"
+abbrev pub fourteen : Row
+fourteen = record {
+  blocks = 2;
+  pages = 1;
+  script = opened 1 ∷ call (begin 0) ∷ writes 14;
+  answers = done 0 ∷ done 1 ∷ slots 0 14;
+  tail = tail 1 486;
+}
+
+-- 02, #104: "after which a commit record still fits"
+abbrev pub commitFits : Row
+commitFits = record {
+  blocks = 2;
+  pages = 1;
+  script = opened 1 ∷ call (begin 0) ∷ (writes 14 ++ (call (commit 1 9) ∷ []));
+  answers = done 0 ∷ done 1 ∷ (slots 0 14 ++ (done 9 ∷ []));
   tail = tail 1 505;
 }
 
--- * "Fifteen versions use 505 bytes of a block": the tail of the row before; "a commit record (19) begins the next"
-abbrev pub nextBlock : Row
-nextBlock = record {
-  blocks = 2;
-  pages = 1;
-  script = opened 1 ∷ call (begin 0) ∷ (writes 15 ++ (call (commit 1 9) ∷ []));
-  answers = done 0 ∷ done 1 ∷ (slots 0 15 ++ (done 9 ∷ []));
-  tail = tail 2 29;
-}
-
--- * "L = 2, D = 3, no checkpoint: 30 versions fit, the 31st 8."
+-- * "L = 2, D = 3, no checkpoint: 30 versions fit, the 31st 8."; 02, #104: "the log example with L = 2 becomes 28 and the 29th"
 abbrev pub logFull : Row
 logFull = record {
   blocks = 2;
   pages = 3;
-  script = opened 3 ∷ call (begin 0) ∷ writes 31;
-  answers = done 0 ∷ done 1 ∷ (slots 0 30 ++ (refused 8 ∷ []));
-  tail = tail 2 505;
+  script = opened 3 ∷ call (begin 0) ∷ writes 29;
+  answers = done 0 ∷ done 1 ∷ (slots 0 28 ++ (refused 8 ∷ []));
+  tail = tail 2 486;
 }
 
 -- * "Erase of a never written record: as of its commit, erased."; 02, #102: "after a commit, the log is stored before its
@@ -156,7 +167,7 @@ erasedFirst = record {
   pages = 1;
   script = opened 1 ∷ call (begin 4) ∷ call (erase 1 7) ∷ call (commit 1 4) ∷ call store-log ∷ call (as-of 7 4) ∷ [];
   answers = done 0 ∷ done 1 ∷ done 0 ∷ done 4 ∷ done 0 ∷ reads erased ∷ [];
-  tail = tail 1 62;
+  tail = tail 1 63;
 }
 
 -- * "Begin, then a cut: number 1 is given again, for it left no trace."
@@ -166,6 +177,32 @@ givenAgain = record {
   pages = 1;
   script = opened 1 ∷ call (begin 3) ∷ cut ∷ opened 1 ∷ call (begin 3) ∷ [];
   answers = done 0 ∷ done 1 ∷ done 0 ∷ done 0 ∷ done 1 ∷ [];
+  tail = tail 1 10;
+}
+
+-- 02, #104: "Record numbers become two bytes, 0 to 1,023": records 255, 256 and 1,023 are three, and 7 is none of them
+abbrev pub twoBytes : Row
+twoBytes = record {
+  blocks = 2;
+  pages = 1;
+  script = opened 1 ∷ call (begin 4) ∷ call (write 1 255 (bytes 65)) ∷ call (write 1 256 (bytes 66)) ∷ call (write 1 1023 (bytes 67))
+      ∷ call (commit 1 4) ∷ call store-log ∷ cut ∷ opened 1
+      ∷ call (as-of 255 4) ∷ call (as-of 256 4) ∷ call (as-of 1023 4) ∷ call (as-of 0 4) ∷ call (as-of 7 4) ∷ [];
+  answers = done 0 ∷ done 1 ∷ done 0 ∷ done 1 ∷ done 2 ∷ done 4 ∷ done 0 ∷ done 0 ∷ done 4
+      ∷ reads (present (bytes 65)) ∷ reads (present (bytes 66)) ∷ reads (present (bytes 67)) ∷ reads missing ∷ reads missing ∷ [];
+  tail = tail 1 131;
+}
+
+-- 02, #104: "18, is the record number below 1,024? It comes before 5, and before 10.": number 2 is not active, and 99 is above
+-- the last time
+abbrev pub noRecord : Row
+noRecord = record {
+  blocks = 2;
+  pages = 1;
+  script = opened 1 ∷ call (begin 4) ∷ call (write 1 1024 (bytes 65)) ∷ call (write 2 1024 (bytes 65)) ∷ call (write 2 1023 (bytes 65))
+      ∷ call (erase 2 65535) ∷ call (current-read 2 1024) ∷ call (as-of 1024 99) ∷ call (as-of 1023 99) ∷ call (changes 1024 1 99 []) ∷ [];
+  answers = done 0 ∷ done 1 ∷ refused 18 ∷ refused 18 ∷ refused 5
+      ∷ refused 18 ∷ refused 18 ∷ refused 18 ∷ refused 10 ∷ refused 18 ∷ [];
   tail = tail 1 10;
 }
 
@@ -183,7 +220,7 @@ listing = record {
 -- the starred ones, in 01's order
 abbrev pub starred : List Row
 starred =
-    fresh ∷ clocks ∷ lastTime ∷ twice ∷ slotsUsed ∷ nextBlock ∷ logFull ∷ erasedFirst ∷ givenAgain ∷ []
+    fresh ∷ clocks ∷ lastTime ∷ twice ∷ slotsUsed ∷ fourteen ∷ logFull ∷ erasedFirst ∷ givenAgain ∷ []
 
 abbrev pub table : List Row
-table = starred ++ (listing ∷ [])
+table = starred ++ (commitFits ∷ twoBytes ∷ noRecord ∷ listing ∷ [])
