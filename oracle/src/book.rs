@@ -5,12 +5,13 @@
 use std::collections::HashMap;
 
 pub type Value = [u8; 16];
+pub type RecordNumber = u16;
 
 #[derive(Clone, Copy, PartialEq, Eq, Debug)]
 pub enum Row {
     Version {
         number: u64,
-        record: u8,
+        record: RecordNumber,
         kind: u8,
         value: Value,
     },
@@ -32,7 +33,7 @@ impl Row {
 #[derive(Clone, Copy, PartialEq, Eq, Debug)]
 pub struct Found {
     pub number: u64,
-    pub record: u8,
+    pub record: RecordNumber,
     pub kind: u8,
     pub value: Value,
     pub time: Option<u64>,
@@ -81,7 +82,14 @@ impl Book {
         self.open.push((number, clock));
     }
 
-    pub fn version(&mut self, number: u64, record: u8, kind: u8, value: Value, log_changed: bool) {
+    pub fn version(
+        &mut self,
+        number: u64,
+        record: RecordNumber,
+        kind: u8,
+        value: Value,
+        log_changed: bool,
+    ) {
         if log_changed {
             self.stored = self.rows.len();
         }
@@ -175,12 +183,12 @@ impl Book {
         self.found(self.stored)
     }
 
-    fn versions(&self, record: u8) -> impl DoubleEndedIterator<Item = Found> + '_ {
+    fn versions(&self, record: RecordNumber) -> impl DoubleEndedIterator<Item = Found> + '_ {
         self.slots().filter(move |found| found.record == record)
     }
 
     /// Whether the record's newest version is under another open number.
-    pub fn held(&self, number: u64, record: u8) -> bool {
+    pub fn held(&self, number: u64, record: RecordNumber) -> bool {
         let newest = self.versions(record).next_back();
         newest.is_some_and(|found| {
             found.number != number && found.time.is_none() && self.is_open(found.number)
@@ -188,12 +196,12 @@ impl Book {
     }
 
     /// The newest version that is committed or the number's own.
-    pub fn current(&self, number: u64, record: u8) -> Option<Found> {
+    pub fn current(&self, number: u64, record: RecordNumber) -> Option<Found> {
         let mut versions = self.versions(record).rev();
         versions.find(|found| found.time.is_some() || found.number == number)
     }
 
-    pub fn as_of(&self, record: u8, t: u64) -> Option<Found> {
+    pub fn as_of(&self, record: RecordNumber, t: u64) -> Option<Found> {
         let committed = self
             .versions(record)
             .filter(|found| found.time.is_some_and(|time| time <= t));
@@ -201,7 +209,7 @@ impl Book {
         committed.max_by_key(|found| found.time)
     }
 
-    pub fn changes(&self, record: u8, t1: u64, t2: u64) -> Vec<(u64, u8, Value)> {
+    pub fn changes(&self, record: RecordNumber, t1: u64, t2: u64) -> Vec<(u64, u8, Value)> {
         let mut last_under = std::collections::BTreeMap::new();
         for found in self.versions(record) {
             if let Some(time) = found.time {

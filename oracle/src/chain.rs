@@ -21,13 +21,13 @@ fn strip(slot: &[u8]) -> Strip {
 }
 
 /// The highest used slot below `next_slot` that holds this record.
-pub fn newest(cache: &[u8], next_slot: usize, record: u8) -> Option<usize> {
+pub fn newest<R: Rules>(cache: &[u8], next_slot: usize, record: RecordNumber) -> Option<usize> {
     let mut below = next_slot;
     while below > 0 {
         let page = (below - 1) / PAGE_SLOTS;
         let first = page * PAGE_SLOTS;
         let slots = &cache[slot_at(first)..slot_at(first) + (below - first) * SLOT_BYTES];
-        let holds = |slot: &[u8]| slot[1] == record && slot_state(slot) != Slot::Empty;
+        let holds = |slot: &[u8]| R::slot_record(slot) == record && slot_state(slot) != Slot::Empty;
         if let Some(i) = slots.chunks_exact(SLOT_BYTES).rposition(holds) {
             return Some(first + i);
         }
@@ -64,22 +64,45 @@ impl<'a> Iterator for Chain<'a> {
 }
 
 /// The newest version that is committed or the reader's own.
-pub fn current_read(
+pub fn current_read<R: Rules>(
     state: &State,
     medium: &[u8],
     cache: &[u8],
     number: u64,
-    record: u8,
+    record: RecordNumber,
 ) -> Result<Strip, Refusal> {
     state.check_fit(medium, cache)?;
-    state.active_place(number)?;
-    let newest = newest(cache, state.next_slot, record);
+    check_record_and_number::<R>(state, record, number)?;
+    let newest = newest::<R>(cache, state.next_slot, record);
     check_not_held(state, cache, newest, number)?;
     let found = Chain::from(cache, newest).find(|(_, slot)| {
         let version = slot_state(slot);
         version == Slot::Waiting(number) || state.time_of(version).is_some()
     });
     Ok(found.map_or(Strip::None, |(_, slot)| strip(slot)))
+}
+
+/// Question 18: is there such a record?
+fn check_record<R: Rules>(record: RecordNumber) -> Result<(), Refusal> {
+    if record < R::RECORDS {
+        Ok(())
+    } else {
+        Err(NO_RECORD)
+    }
+}
+
+/// Questions 18 and 5; answers the number's place.
+pub fn check_record_and_number<R: Rules>(
+    state: &State,
+    record: RecordNumber,
+    number: u64,
+) -> Result<usize, Refusal> {
+    let place = state.active_place(number);
+    if R::NUMBER_FIRST {
+        place?;
+    }
+    check_record::<R>(record)?;
+    place
 }
 
 /// Question 6: a record is held while its newest version waits under another active number.
@@ -110,18 +133,32 @@ fn check_stored<R: Rules>(state: &State, t: u64) -> Result<(), Refusal> {
     }
 }
 
+/// Questions 18 and 10.
+fn check_record_and_time<R: Rules>(
+    state: &State,
+    record: RecordNumber,
+    t: u64,
+) -> Result<(), Refusal> {
+    let stored = check_stored::<R>(state, t);
+    if R::TIME_FIRST {
+        stored?;
+    }
+    check_record::<R>(record)?;
+    stored
+}
+
 /// The version with the greatest time not above `t`, the later slot among equals.
 pub fn as_of<R: Rules>(
     state: &State,
     medium: &[u8],
     cache: &[u8],
-    record: u8,
+    record: RecordNumber,
     t: u64,
 ) -> Result<Strip, Refusal> {
     state.check_fit(medium, cache)?;
-    check_stored::<R>(state, t)?;
+    check_record_and_time::<R>(state, record, t)?;
     let mut best: Option<(u64, &[u8])> = None;
-    for (_, slot) in Chain::from(cache, newest(cache, state.next_slot, record)) {
+    for (_, slot) in Chain::from(cache, newest::<R>(cache, state.next_slot, record)) {
         let Some(time) = state.time_of(slot_state(slot)) else {
             continue;
         };
@@ -138,15 +175,15 @@ pub fn changes<R: Rules>(
     state: &State,
     medium: &[u8],
     cache: &[u8],
-    record: u8,
+    record: RecordNumber,
     (t1, t2): (u64, u64),
     answer: &mut [u8],
 ) -> Result<usize, Refusal> {
     state.check_fit(medium, cache)?;
-    check_stored::<R>(state, t2)?;
+    check_record_and_time::<R>(state, record, t2)?;
     let mut versions = [(0u64, 0u16); MAX_SLOTS];
     let mut count = 0;
-    for (n, slot) in Chain::from(cache, newest(cache, state.next_slot, record)) {
+    for (n, slot) in Chain::from(cache, newest::<R>(cache, state.next_slot, record)) {
         if let Some(time) = state.time_of(slot_state(slot)) {
             versions[count] = (time, n as u16);
             count += 1;

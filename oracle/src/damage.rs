@@ -8,7 +8,7 @@ use crate::machine::{Line, Machine};
 use crate::open::{open, Fault};
 use crate::profiles::by_seed;
 use crate::random::Random;
-use crate::rules::Sound;
+use crate::rules::{Rules, Sound};
 use crate::state::*;
 use std::panic::{catch_unwind, AssertUnwindSafe};
 
@@ -61,7 +61,7 @@ fn media(seed: u64) -> (Machine<Sound>, Vec<Vec<u8>>) {
 }
 
 /// 64 live commits, and aborted numbers whose versions wait as well.
-pub fn crowd(machine: &mut Machine<Sound>) {
+pub fn crowd<R: Rules>(machine: &mut Machine<R>) {
     let places = TABLE_PLACES as u64;
     machine.call(&Line::Format {
         log_blocks: 32,
@@ -70,7 +70,7 @@ pub fn crowd(machine: &mut Machine<Sound>) {
     machine.call(&Line::Open { fill: 0 });
     for number in 1..=places + 4 {
         machine.call(&Line::Begin { clock: 1 });
-        let (record, value) = (number as u8, [1; 16]);
+        let (record, value) = (number as RecordNumber, [1; 16]);
         machine.call(&Line::Write {
             number,
             record,
@@ -209,7 +209,7 @@ fn go_on(mut state: State, mut medium: Vec<u8>, mut cache: Vec<u8>) -> Verdict<(
         let (state, medium, cache) = (&mut state, &mut medium, &mut cache);
         if let Ok(number) = begin(state, medium, cache, 5) {
             for record in 0..40 {
-                let _ = write(state, medium, cache, (number, record), &[record; 16]);
+                let _ = write::<Sound>(state, medium, cache, (number, 250 + record), &[1; 16]);
             }
             let _ = commit::<Sound>(state, medium, cache, number, 7);
         }

@@ -3,6 +3,7 @@
 use crate::layout::*;
 use crate::open::survey::Survey;
 use crate::random::Random;
+use crate::rules::Sound;
 
 /// What an edit works on: a medium copied from a sound history.
 pub struct Damaged<'a> {
@@ -20,7 +21,7 @@ impl Damaged<'_> {
         self.random.below(limit.max(1) as u64) as usize
     }
 
-    fn survey(&self) -> Survey<'_> {
+    fn survey(&self) -> Survey<'_, Sound> {
         Survey::of(&self.bytes, self.log_blocks, self.pages)
     }
 
@@ -40,6 +41,14 @@ impl Damaged<'_> {
         let mut records = self.records();
         records.retain(|(_, record)| wanted(record));
         self.random.pick(&records).copied()
+    }
+
+    fn pick_version(&mut self) -> Option<(usize, Version)> {
+        let place = self.pick_record(|record| matches!(record, Record::Version(_)));
+        place.and_then(|(at, record)| match record {
+            Record::Version(version) => Some((at, version)),
+            Record::Commit { .. } => None,
+        })
     }
 
     fn page_start(&self, page: usize) -> usize {
@@ -82,7 +91,7 @@ impl Damaged<'_> {
     }
 }
 
-pub const EDITS: [fn(&mut Damaged); 17] = [
+pub const EDITS: [fn(&mut Damaged); 18] = [
     master_field,
     table_field,
     log_field,
@@ -90,6 +99,7 @@ pub const EDITS: [fn(&mut Damaged); 17] = [
     oldest_out_of_range,
     shift_sequences,
     log_record,
+    record_number,
     page_ahead,
     applied_slot,
     history,
@@ -125,9 +135,9 @@ fn log_field(damaged: &mut Damaged) {
         1 => put16(&mut damaged.bytes, start + 8, 513),
         2 if used < BLOCK => damaged.bytes[start + used] = 1,
         _ => {
-            let version = |record: &Record| matches!(record, Record::Version(_));
-            if let Some((at, _)) = damaged.pick_record(version) {
-                damaged.bytes[at + FIELD_HEADER + 3] ^= 1 << damaged.below(2);
+            if let Some((at, version)) = damaged.pick_version() {
+                let kind = at + FIELD_HEADER + 2 + version.width.bytes();
+                damaged.bytes[kind] ^= 1 << damaged.below(2);
             }
         }
     }
@@ -214,6 +224,34 @@ fn log_record(damaged: &mut Damaged) {
     }
 }
 
+/// A record number too high or by its high byte another, or a version record with the other tag or length.
+fn record_number(damaged: &mut Damaged) {
+    let high = [1, 2, HIGHEST, HIGHEST + 1, 128, 255][damaged.below(6)];
+    if damaged.below(2) == 0 {
+        if let Some(at) = damaged.pick_slot(|slot| slot != Slot::Empty) {
+            damaged.bytes[at + 3] = high;
+        }
+        return;
+    }
+    let Some((at, version)) = damaged.pick_version() else {
+        return;
+    };
+    let other = match version.width {
+        Width::One => Width::Two,
+        Width::Two => Width::One,
+    };
+    match damaged.below(4) {
+        0 => damaged.bytes[at] = other.tag(),
+        1 => damaged.bytes[at + 1] = (29 + other.bytes()) as u8,
+        2 => {
+            damaged.bytes[at] = other.tag();
+            damaged.bytes[at + 1] = (29 + other.bytes()) as u8;
+        }
+        _ if version.width == Width::Two => damaged.bytes[at + FIELD_HEADER + 3] = high,
+        _ => damaged.bytes[at + FIELD_HEADER + 2] ^= high,
+    }
+}
+
 fn page_ahead(damaged: &mut Damaged) {
     let page = damaged.below(damaged.pages);
     let above = damaged.random.below(2);
@@ -224,8 +262,7 @@ fn page_ahead(damaged: &mut Damaged) {
 
 /// A logged slot one too high or low, or a page that wants its records again.
 fn applied_slot(damaged: &mut Damaged) {
-    let version = |record: &Record| matches!(record, Record::Version(_));
-    let Some((at, Record::Version(version))) = damaged.pick_record(version) else {
+    let Some((at, version)) = damaged.pick_version() else {
         return;
     };
     if damaged.below(2) == 0 {
@@ -245,10 +282,11 @@ fn history(damaged: &mut Damaged) {
     let Some(at) = damaged.pick_slot(|slot| slot != Slot::Empty) else {
         return;
     };
-    match damaged.below(4) {
+    match damaged.below(5) {
         0 => put16(&mut damaged.bytes, at + 4, NO_SLOT),
         1 => damaged.bytes[at + 1] ^= 1,
-        2 => {
+        2 => damaged.bytes[at + 3] ^= 1,
+        3 => {
             let number = damaged.odd_number();
             put64(&mut damaged.bytes, at + 8, number);
         }
@@ -261,6 +299,15 @@ fn history(damaged: &mut Damaged) {
     }
 }
 
+/// Where the transaction number of the record at `at` lies.
+fn number_at(at: usize, record: &Record) -> usize {
+    at + FIELD_HEADER
+        + match record {
+            Record::Version(version) => version.width.number_at(),
+            Record::Commit { .. } => 0,
+        }
+}
+
 fn zero_number_or_time(damaged: &mut Damaged) {
     match damaged.below(4) {
         0 => put64(&mut damaged.bytes, MASTER_NUMBER, 0),
@@ -271,11 +318,7 @@ fn zero_number_or_time(damaged: &mut Damaged) {
         }
         2 => {
             if let Some((at, record)) = damaged.pick_record(|_| true) {
-                let field = match record {
-                    Record::Version(_) => 6,
-                    Record::Commit { .. } => 0,
-                };
-                put64(&mut damaged.bytes, at + FIELD_HEADER + field, 0);
+                put64(&mut damaged.bytes, number_at(at, &record), 0);
             }
         }
         _ => {
@@ -289,11 +332,7 @@ fn zero_number_or_time(damaged: &mut Damaged) {
 fn last_number(damaged: &mut Damaged) {
     let number = u64::MAX - damaged.random.below(2);
     if let Some((at, record)) = damaged.pick_record(|_| true) {
-        let field = match record {
-            Record::Version(_) => 6,
-            Record::Commit { .. } => 0,
-        };
-        put64(&mut damaged.bytes, at + FIELD_HEADER + field, number);
+        put64(&mut damaged.bytes, number_at(at, &record), number);
     }
 }
 

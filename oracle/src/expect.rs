@@ -39,6 +39,7 @@ pub fn refusal(book: &Book, shadow: &Shadow, medium: &[u8], pages: u64, line: &L
         Line::Write { number, record, .. } | Line::Erase { number, record } => {
             let slots = PAGE_SLOTS * pages as usize;
             first_no(&[
+                (record < RECORDS, NO_RECORD),
                 (book.is_open(number), NOT_ACTIVE),
                 (!book.held(number, record), HELD),
                 (book.slots().count() < slots, NO_SLOT_LEFT),
@@ -81,6 +82,7 @@ pub fn handover(
     written.add(VERSION_BYTES);
     first_no(&[
         (live < TABLE_PLACES, NO_PLACE),
+        (flight < RECORDS, NO_RECORD),
         (!book.held(0, flight), HELD),
         (strip.is_some(), NOT_OWNER),
         (
@@ -99,10 +101,14 @@ pub fn handover(
 fn read(book: &Book, line: &Line) -> Expected {
     match *line {
         Line::Read { number, record } => first_no(&[
+            (record < RECORDS, NO_RECORD),
             (book.is_open(number), NOT_ACTIVE),
             (!book.held(number, record), HELD),
         ]),
-        Line::AsOf { time, .. } => first_no(&[(time <= book.stored_last_time(), TIME_AHEAD)]),
+        Line::AsOf { record, time } => first_no(&[
+            (record < RECORDS, NO_RECORD),
+            (time <= book.stored_last_time(), TIME_AHEAD),
+        ]),
         Line::Changes {
             record,
             from,
@@ -112,6 +118,7 @@ fn read(book: &Book, line: &Line) -> Expected {
             let lines = book.changes(record, from, to).len();
             let fits = bytes as usize >= CHANGE_BYTES * lines;
             first_no(&[
+                (record < RECORDS, NO_RECORD),
                 (to <= book.stored_last_time(), TIME_AHEAD),
                 (fits, ANSWER_SHORT),
             ])

@@ -4,10 +4,11 @@ use crate::history::{count_committed, History};
 use crate::judge::{Judge, Strictness};
 use crate::machine::{Line, Reply};
 use crate::profiles::Profile;
+use crate::record_numbers::writes_high;
 use crate::rules::Rules;
 use crate::script::put_line;
 use crate::shrink::shrink;
-use crate::state::TIME_AHEAD;
+use crate::state::{REFUSALS, TIME_AHEAD};
 use std::panic::{catch_unwind, AssertUnwindSafe};
 
 /// Handovers of some histories.
@@ -16,11 +17,11 @@ pub struct Handovers {
     pub tried: u64,
     pub handed: u64,
     /// How often each refusal was the answer.
-    pub refused: [u64; 18],
+    pub refused: [u64; REFUSALS],
     /// Handovers that changed a block of the medium.
     pub stored: u64,
     /// Of each refusal, those that left a version: the commit was refused.
-    pub left: [u64; 18],
+    pub left: [u64; REFUSALS],
 }
 
 /// What the histories of some seeds reached.
@@ -29,7 +30,7 @@ pub struct Reached {
     pub calls: u64,
     pub cuts: u64,
     /// How often each refusal occurred.
-    pub refusals: [u64; 18],
+    pub refusals: [u64; REFUSALS],
     /// The most committed transactions live at once.
     pub live_commits: usize,
     /// The most pairs in the table at once.
@@ -46,6 +47,8 @@ pub struct Reached {
     pub unstored: u64,
     /// Answers that were asked again of an opened run.
     pub asked_again: u64,
+    /// Versions of records from 256 on.
+    pub high_records: u64,
     pub handovers: Handovers,
 }
 
@@ -103,6 +106,7 @@ impl Reached {
         self.begun_over_dead += other.begun_over_dead;
         self.unstored += other.unstored;
         self.asked_again += other.asked_again;
+        self.high_records += other.high_records;
         self.handovers.add(&other.handovers);
     }
 }
@@ -192,6 +196,8 @@ fn observe<R: Rules>(reached: &mut Reached, judge: &Judge<R>, line: &Line, reply
     if let Reply::Refused(refusal) = reply {
         reached.refusals[refusal.0 as usize] += 1;
     }
+    let accepted = matches!(reply, Reply::Answer(_));
+    reached.high_records += u64::from(accepted && writes_high(line));
     let pairs = table_numbers(judge)
         .iter()
         .filter(|&&number| number != 0)

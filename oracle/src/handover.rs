@@ -1,7 +1,7 @@
 //! Request #101: hand a flight from one sector to another, as one action above the store's calls.
 
 use crate::chain::Strip;
-use crate::layout::Value;
+use crate::layout::{RecordNumber, Value};
 use crate::machine::{Line, Reply};
 use crate::state::{Refusal, NOT_OWNER};
 
@@ -11,7 +11,7 @@ pub const NOBODY: u8 = 0;
 
 #[derive(Clone, Copy, PartialEq, Eq, Debug)]
 pub struct Handover {
-    pub flight: u8,
+    pub flight: RecordNumber,
     pub from: u8,
     pub to: u8,
     /// The clocks of its begin and of its commit.
@@ -27,14 +27,14 @@ pub trait Store {
         answered(self.make(&Line::Begin { clock }))
     }
 
-    fn current_read(&mut self, number: u64, record: u8) -> Result<Strip, Refusal> {
+    fn current_read(&mut self, number: u64, record: RecordNumber) -> Result<Strip, Refusal> {
         match self.make(&Line::Read { number, record }) {
             Reply::Strip(strip) => Ok(strip),
             reply => Err(refusal(reply)),
         }
     }
 
-    fn write(&mut self, number: u64, record: u8, value: Value) -> Result<u64, Refusal> {
+    fn write(&mut self, number: u64, record: RecordNumber, value: Value) -> Result<u64, Refusal> {
         answered(self.make(&Line::Write {
             number,
             record,

@@ -6,7 +6,8 @@ use crate::layout::*;
 use crate::machine::{Line, Machine, MAX_BUFFER};
 use crate::profiles::{Clocks, Kind, Profile, KINDS};
 use crate::random::Random;
-use crate::rules::Rules;
+use crate::record_numbers;
+use crate::rules::{Rules, Sound};
 use crate::sectors;
 use crate::state::*;
 use crate::waves::{self, Step};
@@ -23,6 +24,8 @@ pub struct History {
     plan: VecDeque<Step>,
     /// Without checkpoints a history soon fills its log.
     pub checkpoints: bool,
+    /// Record numbers have one byte, as before request #104.
+    pub old_records: bool,
     first_clock: u64,
     dry: u32,
     closed: u32,
@@ -35,6 +38,7 @@ impl History {
             random: Random::new(seed),
             plan: VecDeque::new(),
             checkpoints: true,
+            old_records: false,
             first_clock: 0,
             dry: 0,
             closed: 0,
@@ -231,17 +235,18 @@ impl History {
         active.min().map_or(0, |(_, number)| number)
     }
 
-    fn record(&mut self) -> u8 {
-        if self.random.percent(5) {
-            return self.random.below(256) as u8;
-        }
-        self.random.below(self.profile.records) as u8
+    fn record(&mut self) -> RecordNumber {
+        let draw = match self.old_records {
+            true => record_numbers::draw_old,
+            false => record_numbers::draw,
+        };
+        draw(&mut self.random, self.profile.records)
     }
 
     fn version(&mut self, number: u64, state: &State, cache: &[u8]) -> Line {
         let mut record = self.record();
         for _ in 0..3 {
-            let newest = crate::chain::newest(cache, state.next_slot, record);
+            let newest = crate::chain::newest::<Sound>(cache, state.next_slot, record);
             if crate::chain::check_not_held(state, cache, newest, number).is_ok() {
                 break;
             }

@@ -29,14 +29,14 @@ pub fn check_room(state: &State, medium: &[u8], bytes: usize) -> Result<(), Refu
 /// Appends a record that has room, and answers its end place.
 ///
 /// When it begins the next block, all before it counts as stored from then on.
-pub fn append(state: &mut State, medium: &mut [u8], record: &Record) -> u64 {
+pub fn append<R: Rules>(state: &mut State, medium: &mut [u8], record: &Record) -> u64 {
     if state.tail_used + record.bytes() > BLOCK {
         store_tail(state, medium);
         state.tail_sequence += 1;
         state.tail_used = LOG_HEADER;
         state.tail = empty_tail(state.tail_sequence);
     }
-    put_record(&mut state.tail, state.tail_used, record);
+    R::put_record(&mut state.tail, state.tail_used, record);
     state.tail_used += record.bytes();
     put16(&mut state.tail, 8, state.tail_used as u16);
     end_place(state.tail_sequence, state.tail_used)

@@ -176,7 +176,7 @@ impl<R: Rules> Judge<R> {
         })
     }
 
-    fn judge_list(&self, record: u8, from: u64, to: u64, reply: &Reply) -> Verdict<()> {
+    fn judge_list(&self, record: RecordNumber, from: u64, to: u64, reply: &Reply) -> Verdict<()> {
         let expected = self.book.changes(record, from, to);
         let listed = Reply::Listed {
             lines: expected.len(),
@@ -282,7 +282,7 @@ fn judge_found(book: &Book, state: &State, cache: &[u8]) -> Verdict<()> {
         let slot = slot(cache, n);
         let version = slot_state(slot);
         let same = version != Slot::Empty
-            && slot[1] == found.record
+            && slot_record(slot) == found.record
             && slot[2] == found.kind
             && slot[16..] == found.value
             && state.time_of(version) == found.time;

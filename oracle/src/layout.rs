@@ -14,8 +14,10 @@ pub const MAX_SLOTS: usize = PAGE_SLOTS * MAX_PAGES;
 pub const NO_SLOT: u16 = 65535;
 pub const LOG_HEADER: usize = 10;
 pub const FIELD_HEADER: usize = 3;
-pub const VERSION_BYTES: usize = FIELD_HEADER + 30;
+/// A version record as it is written, under tag 3.
+pub const VERSION_BYTES: usize = Width::Two.record_bytes();
 pub const COMMIT_BYTES: usize = FIELD_HEADER + 16;
+pub const COMMIT_TAG: u8 = 2;
 /// The most commit records that a block can hold.
 pub const BLOCK_COMMITS: usize = (BLOCK - LOG_HEADER) / COMMIT_BYTES;
 pub const SEQUENCE_LIMIT: u64 = 1 << 48;
@@ -25,7 +27,45 @@ pub const PRESENT: u8 = 0;
 pub const ERASED: u8 = 1;
 
 pub type Value = [u8; 16];
-pub type RecordNumber = u8;
+pub type RecordNumber = u16;
+
+/// Record numbers are below this.
+pub const RECORDS: RecordNumber = 1024;
+/// The greatest high byte of a record number.
+pub const HIGHEST: u8 = ((RECORDS - 1) >> 8) as u8;
+
+/// How many bytes the record number takes in a version record: one under tag 1, which is read and never
+/// written, and two under tag 3.
+#[derive(Clone, Copy, PartialEq, Eq, Debug)]
+pub enum Width {
+    One,
+    Two,
+}
+
+impl Width {
+    pub const fn bytes(self) -> usize {
+        match self {
+            Width::One => 1,
+            Width::Two => 2,
+        }
+    }
+
+    pub const fn tag(self) -> u8 {
+        match self {
+            Width::One => 1,
+            Width::Two => 3,
+        }
+    }
+
+    pub const fn record_bytes(self) -> usize {
+        FIELD_HEADER + 29 + self.bytes()
+    }
+
+    /// Where the transaction number lies in the body.
+    pub const fn number_at(self) -> usize {
+        self.bytes() + 5
+    }
+}
 
 pub fn get16(bytes: &[u8], at: usize) -> u16 {
     u16::from_le_bytes([bytes[at], bytes[at + 1]])
@@ -144,7 +184,7 @@ pub fn stamp(slot: &mut [u8], time: u64) {
 }
 
 pub fn slot_record(slot: &[u8]) -> RecordNumber {
-    slot[1]
+    RecordNumber::from_le_bytes([slot[1], slot[3]])
 }
 
 pub fn slot_value(slot: &[u8]) -> Value {
@@ -155,8 +195,9 @@ pub fn slot_value(slot: &[u8]) -> Value {
 
 #[derive(Clone, Copy, PartialEq, Eq, Debug)]
 pub struct Version {
+    pub width: Width,
     pub slot: u16,
-    pub record: u8,
+    pub record: RecordNumber,
     pub kind: u8,
     pub earlier: u16,
     pub number: u64,
@@ -172,9 +213,8 @@ pub fn put_version(cache: &mut [u8], version: &Version, end: u64) {
     let at = slot_at(n);
     let slot = &mut cache[at..at + SLOT_BYTES];
     slot[0] = 1;
-    slot[1] = version.record;
+    [slot[1], slot[3]] = version.record.to_le_bytes();
     slot[2] = version.kind;
-    slot[3] = 0;
     put16(slot, 4, version.earlier);
     put16(slot, 6, 0);
     put64(slot, 8, version.number);
@@ -190,7 +230,7 @@ pub enum Record {
 impl Record {
     pub fn bytes(&self) -> usize {
         match self {
-            Record::Version(_) => VERSION_BYTES,
+            Record::Version(version) => version.width.record_bytes(),
             Record::Commit { .. } => COMMIT_BYTES,
         }
     }
@@ -205,27 +245,30 @@ impl Record {
 
 /// Writes a record at `at`, where it fits.
 pub fn put_record(block: &mut [u8], at: usize, record: &Record) {
-    let (tag, length) = match record {
-        Record::Version(_) => (1, VERSION_BYTES - FIELD_HEADER),
-        Record::Commit { .. } => (2, COMMIT_BYTES - FIELD_HEADER),
-    };
-    block[at] = tag;
+    let length = record.bytes() - FIELD_HEADER;
     put16(block, at + 1, length as u16);
-    let body = &mut block[at + FIELD_HEADER..at + FIELD_HEADER + length];
+    let (header, body) = block[at..at + FIELD_HEADER + length].split_at_mut(FIELD_HEADER);
     match record {
         Record::Version(version) => {
-            put16(body, 0, version.slot);
-            body[2] = version.record;
-            body[3] = version.kind;
-            put16(body, 4, version.earlier);
-            put64(body, 6, version.number);
-            body[14..30].copy_from_slice(&version.value);
+            header[0] = version.width.tag();
+            put_version_body(body, version);
         }
         Record::Commit { number, time } => {
+            header[0] = COMMIT_TAG;
             put64(body, 0, *number);
             put64(body, 8, *time);
         }
     }
+}
+
+fn put_version_body(body: &mut [u8], version: &Version) {
+    let width = version.width.bytes();
+    put16(body, 0, version.slot);
+    body[2..2 + width].copy_from_slice(&version.record.to_le_bytes()[..width]);
+    body[2 + width] = version.kind;
+    put16(body, 3 + width, version.earlier);
+    put64(body, version.width.number_at(), version.number);
+    body[13 + width..].copy_from_slice(&version.value);
 }
 
 /// The record at `at`, if it is whole below `used`.
@@ -235,19 +278,31 @@ pub fn get_record(block: &[u8], at: usize, used: usize) -> Option<Record> {
     }
     let (tag, length) = (block[at], get16(block, at + 1) as usize);
     let body = block.get(at + FIELD_HEADER..(at + FIELD_HEADER + length).min(used))?;
+    if body.len() != length {
+        return None;
+    }
     match (tag, length) {
-        (1, 30) if body.len() == length => Some(Record::Version(Version {
-            slot: get16(body, 0),
-            record: body[2],
-            kind: body[3],
-            earlier: get16(body, 4),
-            number: get64(body, 6),
-            value: body[14..30].try_into().ok()?,
-        })),
-        (2, 16) if body.len() == length => Some(Record::Commit {
+        (1, 30) => get_version(Width::One, body),
+        (3, 31) => get_version(Width::Two, body),
+        (COMMIT_TAG, 16) => Some(Record::Commit {
             number: get64(body, 0),
             time: get64(body, 8),
         }),
         _ => None,
     }
+}
+
+fn get_version(width: Width, body: &[u8]) -> Option<Record> {
+    let bytes = width.bytes();
+    let mut record = [0; 2];
+    record[..bytes].copy_from_slice(&body[2..2 + bytes]);
+    Some(Record::Version(Version {
+        width,
+        slot: get16(body, 0),
+        record: RecordNumber::from_le_bytes(record),
+        kind: body[2 + bytes],
+        earlier: get16(body, 3 + bytes),
+        number: get64(body, width.number_at()),
+        value: body[13 + bytes..].try_into().ok()?,
+    }))
 }

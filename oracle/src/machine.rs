@@ -36,16 +36,16 @@ pub enum Line {
     },
     Write {
         number: u64,
-        record: u8,
+        record: RecordNumber,
         value: Value,
     },
     Erase {
         number: u64,
-        record: u8,
+        record: RecordNumber,
     },
     Read {
         number: u64,
-        record: u8,
+        record: RecordNumber,
     },
     Commit {
         number: u64,
@@ -56,11 +56,11 @@ pub enum Line {
     },
     Hand(Handover),
     AsOf {
-        record: u8,
+        record: RecordNumber,
         time: u64,
     },
     Changes {
-        record: u8,
+        record: RecordNumber,
         from: u64,
         to: u64,
         bytes: u64,
@@ -237,13 +237,15 @@ impl<R: Rules> Machine<R> {
                 number,
                 record,
                 ref value,
-            } => answer(write(state, medium, cache, (number, record), value).map(|n| n as u64)),
+            } => {
+                answer(write::<R>(state, medium, cache, (number, record), value).map(|n| n as u64))
+            }
             Line::Erase { number, record } => {
-                answer(erase(state, medium, cache, (number, record)).map(|n| n as u64))
+                answer(erase::<R>(state, medium, cache, (number, record)).map(|n| n as u64))
             }
-            Line::Read { number, record } => {
-                strip(chain::current_read(state, medium, cache, number, record))
-            }
+            Line::Read { number, record } => strip(chain::current_read::<R>(
+                state, medium, cache, number, record,
+            )),
             Line::Commit { number, clock } => {
                 answer(commit::<R>(state, medium, cache, number, clock))
             }
@@ -264,7 +266,7 @@ impl<R: Rules> Machine<R> {
         }
     }
 
-    fn list(&mut self, record: u8, range: (u64, u64), bytes: usize) -> Reply {
+    fn list(&mut self, record: RecordNumber, range: (u64, u64), bytes: usize) -> Reply {
         let Some(state) = &self.state else {
             return Reply::Ended;
         };

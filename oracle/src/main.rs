@@ -36,7 +36,8 @@ oracle relief rooms --seeds A-B    rooms for the program relief
 oracle relief expect           what it must print for the rooms of standard input
 oracle relief same PROGRAM --seeds A-B    compares the program with that
 oracle striproom [--spoilt NAME] FILE [FD]    the stand-in for striproom
-oracle disk same|kill|faults|spoilt PROGRAM LAUNCHER    tests of striproom
+oracle disk same|kill|faults PROGRAM LAUNCHER    tests of striproom
+oracle disk media|spoilt PROGRAM LAUNCHER FOLDER    the same with the folder of old media
 oracle media slots FILE        what an opening finds in the medium's slots
 oracle media probe FILE        a script that opens and reads it
 oracle profiles                lists the profiles, by the seeds that take them";

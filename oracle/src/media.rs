@@ -10,7 +10,7 @@ use std::collections::BTreeSet;
 use std::fmt::Write;
 
 /// Of more records than this some are asked about.
-const RECORDS: usize = 12;
+const ASKED: usize = 12;
 /// As of so many of a record's times.
 const TIMES: usize = 3;
 
@@ -68,7 +68,9 @@ pub fn probe(medium: Vec<u8>) -> Vec<u8> {
         while times.len() > TIMES {
             times.remove(random.below(times.len() as u64) as usize);
         }
-        let around = times.iter().flat_map(|time| [time.saturating_sub(1), *time]);
+        let around = times
+            .iter()
+            .flat_map(|time| [time.saturating_sub(1), *time]);
         let asked: BTreeSet<u64> = around.chain([0, state.last_time]).collect();
         for time in asked {
             put_line(&mut out, &Line::AsOf { record, time });
@@ -97,7 +99,7 @@ fn records(state: &State, cache: &[u8]) -> BTreeSet<RecordNumber> {
         .collect();
     let unused = (0..=255).filter(|record| !used.contains(record));
     let others: Vec<RecordNumber> = unused.take(1).chain([255]).collect();
-    let step = used.len().div_ceil(RECORDS).max(1);
+    let step = used.len().div_ceil(ASKED).max(1);
     used.into_iter().step_by(step).chain(others).collect()
 }
 

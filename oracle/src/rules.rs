@@ -1,10 +1,12 @@
 //! The sound store and wrong ones: the four shortcuts of document 01 that spoil a history, three stores
 //! of which request #102 is not true, since an answer as of a time may not survive a cut, and one of
-//! which #114 is not true, since its full log stays full. Wrong handovers are in `boards`.
+//! which #114 is not true, since its full log stays full. Wrong handovers are in `boards`, and stores
+//! that take record numbers wrongly in `widths`.
 //!
 //! Each wrong one is a type, so the sound store is compiled without a trace of them.
 
 use crate::handover::{self, Handover, Store};
+use crate::layout::{self, Record, RecordNumber, Version, Width};
 use crate::state::{Refusal, State};
 
 pub trait Rules: Clone + Default {
@@ -22,6 +24,35 @@ pub trait Rules: Clone + Default {
     const STORED_AT_COMMIT: bool = false;
     /// Leaves the first change of a page that is stored.
     const KEEP_FIRST_CHANGE: bool = false;
+
+    /// The width of the record number in the version records that it writes.
+    const WIDTH: Width = Width::Two;
+    /// Record numbers below this are taken.
+    const RECORDS: RecordNumber = layout::RECORDS;
+    /// Asks for the number, or for the time, before it asks for the record.
+    const NUMBER_FIRST: bool = false;
+    const TIME_FIRST: bool = false;
+
+    fn slot_record(slot: &[u8]) -> RecordNumber {
+        layout::slot_record(slot)
+    }
+
+    /// Is the high byte of a slot's record number as laid out?
+    fn high_byte_fits(high: u8) -> bool {
+        high <= layout::HIGHEST
+    }
+
+    fn put_version(cache: &mut [u8], version: &Version, end: u64) {
+        layout::put_version(cache, version, end);
+    }
+
+    fn put_record(block: &mut [u8], at: usize, record: &Record) {
+        layout::put_record(block, at, record);
+    }
+
+    fn get_record(block: &[u8], at: usize, used: usize) -> Option<Record> {
+        layout::get_record(block, at, used)
+    }
 
     /// Looks at the state that a cut or an opening ends.
     fn keep(&mut self, _ended: &State) {}

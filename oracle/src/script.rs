@@ -49,14 +49,14 @@ pub fn parse(line: &[u8]) -> Option<Line> {
             let [tx, record, value] = words(rest)?;
             Some(Line::Write {
                 number: number(tx)?,
-                record: byte(record)?,
+                record: record_number(record)?,
                 value: hex(value)?,
             })
         }
         b'H' => {
             let [flight, from, to, began, ended] = words(rest)?;
             Some(Line::Hand(Handover {
-                flight: byte(flight)?,
+                flight: record_number(flight)?,
                 from: byte(from)?,
                 to: byte(to)?,
                 began: number(began)?,
@@ -66,7 +66,7 @@ pub fn parse(line: &[u8]) -> Option<Line> {
         b'L' => {
             let [record, from, to, bytes] = words(rest)?;
             Some(Line::Changes {
-                record: byte(record)?,
+                record: record_number(record)?,
                 from: number(from)?,
                 to: number(to)?,
                 bytes: number(bytes).filter(|&bytes| bytes <= MAX_BUFFER)?,
@@ -99,18 +99,18 @@ fn parse_two(letter: u8, rest: &[u8]) -> Option<Line> {
         },
         b'E' => Line::Erase {
             number: number(first)?,
-            record: byte(second)?,
+            record: record_number(second)?,
         },
         b'R' => Line::Read {
             number: number(first)?,
-            record: byte(second)?,
+            record: record_number(second)?,
         },
         b'C' => Line::Commit {
             number: number(first)?,
             clock: number(second)?,
         },
         b'Q' => Line::AsOf {
-            record: byte(first)?,
+            record: record_number(first)?,
             time: number(second)?,
         },
         b'Z' => Line::Poke {

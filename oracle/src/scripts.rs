@@ -202,7 +202,7 @@ fn stripbook_line(machine: &Machine<Sound>, random: &mut Random) -> Line {
         1..=9 => random.within((0, last)),
         _ => last.saturating_add(random.below(5)),
     };
-    let record = random.below(6) as u8;
+    let record = random.below(6) as RecordNumber;
     // Before a first time is stored, which takes a full log block, a cut leaves nothing to ask for.
     let cuts = if state.stored_time == 0 { 20 } else { 60 };
     match random.below(20) {

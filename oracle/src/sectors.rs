@@ -4,6 +4,7 @@ use crate::chain::{newest, Chain};
 use crate::handover::{Handover, NOBODY, OWNER};
 use crate::layout::*;
 use crate::random::Random;
+use crate::rules::Sound;
 use crate::state::State;
 
 /// Sectors have the numbers from 1 to this.
@@ -22,28 +23,28 @@ pub fn owner(random: &mut Random) -> u8 {
 }
 
 /// Mostly a flight that has an owner, if there are some.
-pub fn flight(random: &mut Random, any: u8, state: &State, cache: &[u8]) -> u8 {
+pub fn flight(random: &mut Random, any: RecordNumber, state: &State, cache: &[u8]) -> RecordNumber {
     if state.next_slot == 0 || random.percent(20) {
         return any;
     }
     let mut drawn = (0..4).map(|_| {
         let n = random.below(state.next_slot as u64) as usize;
-        slot(cache, n)[1]
+        slot_record(slot(cache, n))
     });
     let owned = drawn.find(|&flight| owner_of(state, cache, flight) != NOBODY);
     owned.unwrap_or(any)
 }
 
 /// The owner by the newest committed version, 0 where there is none.
-fn owner_of(state: &State, cache: &[u8], flight: u8) -> u8 {
-    let mut versions = Chain::from(cache, newest(cache, state.next_slot, flight));
+fn owner_of(state: &State, cache: &[u8], flight: RecordNumber) -> u8 {
+    let mut versions = Chain::from(cache, newest::<Sound>(cache, state.next_slot, flight));
     let committed = versions.find(|(_, slot)| state.time_of(slot_state(slot)).is_some());
     committed.map_or(NOBODY, |(_, slot)| slot_value(slot)[OWNER])
 }
 
 pub fn handover(
     random: &mut Random,
-    flight: u8,
+    flight: RecordNumber,
     state: &State,
     cache: &[u8],
     (began, ended): (u64, u64),

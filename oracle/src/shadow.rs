@@ -4,7 +4,7 @@
 
 use crate::book::{Book, Row};
 use crate::layout::*;
-use std::collections::HashSet;
+use std::collections::{HashMap, HashSet};
 
 #[derive(Clone)]
 pub struct Shadow {
@@ -82,9 +82,9 @@ impl Shadow {
     /// The page as a store of it leaves it: stamped where the commit row is stored.
     pub fn page(&self, book: &Book, page: usize) -> [u8; BLOCK] {
         let mut bytes = [0; BLOCK];
-        let mut newest = [NO_SLOT; 256];
+        let mut newest = HashMap::new();
         for (n, found) in book.slots().take((page + 1) * PAGE_SLOTS).enumerate() {
-            let earlier = std::mem::replace(&mut newest[found.record as usize], n as u16);
+            let earlier = newest.insert(found.record, n as u16).unwrap_or(NO_SLOT);
             if n / PAGE_SLOTS < page {
                 continue;
             }
@@ -94,7 +94,7 @@ impl Shadow {
             let commit = book.commit_of(found.number);
             let stamp = commit.filter(|&(row, _)| row < book.stored());
             slot[0] = if stamp.is_some() { 2 } else { 1 };
-            slot[1] = found.record;
+            [slot[1], slot[3]] = found.record.to_le_bytes();
             slot[2] = found.kind;
             put16(slot, 4, earlier);
             put64(slot, 8, stamp.map_or(found.number, |(_, time)| time));

@@ -23,6 +23,9 @@ pub const ANSWER_SHORT: Refusal = Refusal(14);
 pub const NO_NUMBER_LEFT: Refusal = Refusal(15);
 pub const MISFIT: Refusal = Refusal(16);
 pub const NOT_OWNER: Refusal = Refusal(17);
+pub const NO_RECORD: Refusal = Refusal(18);
+/// As many refusals as there are, with one more for 0.
+pub const REFUSALS: usize = 19;
 
 #[derive(Clone, Copy, PartialEq, Eq, Debug)]
 pub enum Life {

@@ -22,7 +22,7 @@ pub fn parse(line: &[u8]) -> Option<Line> {
             let [tx, record, content] = words(rest)?;
             Line::Write {
                 number: number(tx)?,
-                record: byte(record)?,
+                record: byte(record)?.into(),
                 value: [byte(content)?; 16],
             }
         }
@@ -36,7 +36,7 @@ pub fn parse(line: &[u8]) -> Option<Line> {
         b'Q' => {
             let [record, time] = words(rest)?;
             Line::AsOf {
-                record: byte(record)?,
+                record: byte(record)?.into(),
                 time: number(time)?,
             }
         }

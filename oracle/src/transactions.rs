@@ -25,43 +25,44 @@ pub fn begin(state: &mut State, medium: &[u8], cache: &[u8], clock: u64) -> Resu
     Ok(number)
 }
 
-pub fn write(
+pub fn write<R: Rules>(
     state: &mut State,
     medium: &mut [u8],
     cache: &mut [u8],
-    (number, record): (u64, u8),
+    (number, record): (u64, RecordNumber),
     value: &Value,
 ) -> Result<usize, Refusal> {
-    add_version(state, medium, cache, (number, record), PRESENT, value)
+    add_version::<R>(state, medium, cache, (number, record), PRESENT, value)
 }
 
-pub fn erase(
+pub fn erase<R: Rules>(
     state: &mut State,
     medium: &mut [u8],
     cache: &mut [u8],
-    (number, record): (u64, u8),
+    (number, record): (u64, RecordNumber),
 ) -> Result<usize, Refusal> {
-    add_version(state, medium, cache, (number, record), ERASED, &[0; 16])
+    add_version::<R>(state, medium, cache, (number, record), ERASED, &[0; 16])
 }
 
-fn add_version(
+fn add_version<R: Rules>(
     state: &mut State,
     medium: &mut [u8],
     cache: &mut [u8],
-    (number, record): (u64, u8),
+    (number, record): (u64, RecordNumber),
     kind: u8,
     value: &Value,
 ) -> Result<usize, Refusal> {
     state.check_fit(medium, cache)?;
-    let place = state.active_place(number)?;
-    let newest = chain::newest(cache, state.next_slot, record);
+    let place = chain::check_record_and_number::<R>(state, record, number)?;
+    let newest = chain::newest::<R>(cache, state.next_slot, record);
     chain::check_not_held(state, cache, newest, number)?;
     if state.next_slot >= state.slots() {
         return Err(NO_SLOT_LEFT);
     }
-    journal::check_room(state, medium, VERSION_BYTES)?;
+    journal::check_room(state, medium, R::WIDTH.record_bytes())?;
     let slot = state.next_slot;
     let version = Version {
+        width: R::WIDTH,
         slot: slot as u16,
         record,
         kind,
@@ -69,8 +70,8 @@ fn add_version(
         number,
         value: *value,
     };
-    let end = journal::append(state, medium, &Record::Version(version));
-    put_version(cache, &version, end);
+    let end = journal::append::<R>(state, medium, &Record::Version(version));
+    R::put_version(cache, &version, end);
     let changed = &mut state.first_changed[slot / PAGE_SLOTS];
     if *changed == 0 {
         *changed = state.tail_sequence;
@@ -103,7 +104,7 @@ pub fn commit<R: Rules>(
     }
     journal::check_room(state, medium, COMMIT_BYTES)?;
     let time = begun.max(clock).max(state.last_time + 1);
-    let end = journal::append(state, medium, &Record::Commit { number, time });
+    let end = journal::append::<R>(state, medium, &Record::Commit { number, time });
     state.places[place].life = Life::Committed { number, time, end };
     state.last_time = time;
     if R::STORED_AT_COMMIT {

@@ -3,13 +3,13 @@
 use crate::book::Book;
 use crate::chain::Strip;
 use crate::handover::{NOBODY, OWNER};
-use crate::layout::CHANGE_BYTES;
+use crate::layout::{RecordNumber, CHANGE_BYTES, RECORDS};
 use crate::machine::{Line, Machine, Reply};
 use crate::rules::Rules;
 use std::collections::BTreeSet;
 
 /// Of more records than this some are asked about, others after other calls.
-const RECORDS: usize = 12;
+const ASKED: usize = 12;
 /// The same for open numbers.
 const NUMBERS: usize = 3;
 /// As of so many of a record's last times.
@@ -18,15 +18,15 @@ const TIMES: usize = 2;
 #[derive(Clone, Copy, PartialEq, Eq, Debug)]
 pub enum Question {
     /// By a number that is open, or by the one that begin gives next.
-    Current { number: u64, record: u8 },
+    Current { number: u64, record: RecordNumber },
     /// By a number that begins for it.
-    New { record: u8 },
+    New { record: RecordNumber },
     /// As of a time, or the list up to one.
     Past(Line),
 }
 
 impl Question {
-    pub fn record(&self) -> u8 {
+    pub fn record(&self) -> RecordNumber {
         match *self {
             Question::Current { record, .. } | Question::New { record } => record,
             Question::Past(Line::AsOf { record, .. } | Line::Changes { record, .. }) => record,
@@ -61,12 +61,12 @@ fn some<T: Copy>(all: &[T], most: usize, turn: usize) -> impl Iterator<Item = T>
 impl Witness {
     /// Questions about the flight and other records, one without versions among them, by open numbers
     /// and new ones and as of times that are not refused.
-    pub fn new<R: Rules>(machine: &Machine<R>, book: &Book, flight: u8) -> Self {
+    pub fn new<R: Rules>(machine: &Machine<R>, book: &Book, flight: RecordNumber) -> Self {
         let turn = book.rows().len();
-        let in_use: BTreeSet<u8> = book.slots().map(|found| found.record).collect();
-        let in_use: Vec<u8> = in_use.into_iter().collect();
-        let mut records: BTreeSet<u8> = some(&in_use, RECORDS, turn).collect();
-        records.extend([flight, flight.wrapping_add(101)]);
+        let in_use: BTreeSet<RecordNumber> = book.slots().map(|found| found.record).collect();
+        let in_use: Vec<RecordNumber> = in_use.into_iter().collect();
+        let mut records: BTreeSet<RecordNumber> = some(&in_use, ASKED, turn).collect();
+        records.extend([flight, flight.wrapping_add(101) % RECORDS]);
         let open: Vec<u64> = book.open_numbers().collect();
         let mut numbers: Vec<u64> = some(&open, NUMBERS, turn).collect();
         numbers.extend(machine.state.as_ref().map(|state| state.next_number));

@@ -15,6 +15,11 @@ pub fn byte(word: &[u8]) -> Option<u8> {
     number(word)?.try_into().ok()
 }
 
+/// A record number of two bytes, whether or not there is such a record.
+pub fn record_number(word: &[u8]) -> Option<u16> {
+    number(word)?.try_into().ok()
+}
+
 fn hex_digit(digit: u8) -> Option<u8> {
     match digit {
         b'0'..=b'9' => Some(digit - b'0'),

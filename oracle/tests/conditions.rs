@@ -11,10 +11,15 @@ const PAGE: usize = 6 * BLOCK;
 const NEXT_PAGE: usize = 7 * BLOCK;
 const SLOT: usize = PAGE + PAGE_HEADER;
 // The log's records: three versions and their commits, one version without.
-const SECOND_COMMIT: usize = LOG + 128;
-const THIRD_VERSION: usize = LOG + 95;
-const LAST_VERSION: usize = LOG + 147;
-const USED: usize = 180;
+const FIRST_VERSION: usize = LOG + 10;
+const THIRD_VERSION: usize = LOG + 97;
+const SECOND_COMMIT: usize = LOG + 131;
+const LAST_VERSION: usize = LOG + 150;
+const USED: usize = 184;
+// Where a record number, a kind and a number lie in a version record.
+const RECORD: usize = 5;
+const KIND: usize = 7;
+const NUMBER: usize = 10;
 
 /// Three log blocks, two pages: number 1 stamped on page 0, number 2 committed in the log at 9,
 /// number 3 open; slots 2 and 3 are applied from the log.
@@ -104,7 +109,7 @@ fn sound_media_open() {
         opened(&[Byte(3 * BLOCK + 60, 5), Byte(5 * BLOCK, 7)]),
         Ok(9)
     );
-    assert_eq!(opened(&[Eight(LAST_VERSION + 9, u64::MAX - 1)]), Ok(9));
+    assert_eq!(opened(&[Eight(LAST_VERSION + NUMBER, u64::MAX - 1)]), Ok(9));
 }
 
 #[test]
@@ -115,15 +120,45 @@ fn fields() {
     assert_eq!(opened(&[Pair(40, 0, 1)]), Err((1, 2)));
     assert_eq!(opened(&[Byte(LOG + USED, 1)]), Err((1, 4)));
     assert_eq!(opened(&[Two(LOG + 8, 9)]), Err((1, 4)));
-    assert_eq!(opened(&[Byte(LAST_VERSION + 6, 1)]), Err((1, 4)));
+    assert_eq!(opened(&[Byte(LAST_VERSION + KIND, 1)]), Err((1, 4)));
     assert_eq!(opened(&[Byte(PAGE + 9, 1)]), Err((1, 6)));
     assert_eq!(opened(&[Byte(SLOT, 0)]), Err((1, 6)));
     assert_eq!(opened(&[Byte(SLOT, 3)]), Err((1, 6)));
     assert_eq!(opened(&[Byte(SLOT + 2, 1)]), Err((1, 6)));
-    assert_eq!(opened(&[Byte(SLOT + 3, 1)]), Err((1, 6)));
+    assert_eq!(opened(&[Byte(SLOT + 3, 4)]), Err((1, 6)));
+    assert_eq!(opened(&[Byte(SLOT + 3, 255)]), Err((1, 6)));
     assert_eq!(opened(&[Byte(SLOT + 7, 1)]), Err((1, 6)));
     assert_eq!(opened(&[Byte(NEXT_PAGE + 8, 16)]), Err((1, 7)));
     assert_eq!(opened(&[Byte(NEXT_PAGE + 511, 1)]), Err((1, 7)));
+}
+
+/// Record numbers below 1,024, of records that are applied and of those that are not.
+#[test]
+fn record_numbers() {
+    for version in [FIRST_VERSION, LAST_VERSION] {
+        assert_eq!(opened(&[Two(version + RECORD, 1023)]), Ok(9));
+        assert_eq!(opened(&[Two(version + RECORD, 1024)]), Err((1, 4)));
+        assert_eq!(opened(&[Two(version + RECORD, 65535)]), Err((1, 4)));
+    }
+    // Another high byte makes another record, of which the later slot does not know.
+    for high in 1..=3 {
+        assert_eq!(opened(&[Byte(SLOT + 3, high)]), Err((6, 6)));
+    }
+    let both = [Byte(SLOT + 3, 3), Byte(THIRD_VERSION + RECORD + 1, 3)];
+    assert_eq!(opened(&both), Ok(9));
+    // The last slot's record has no other version.
+    assert_eq!(opened(&[Byte(SLOT + SLOT_BYTES + 3, 3)]), Ok(9));
+}
+
+/// Tag 3 with length 30, tag 1 with length 31, and a length that leaves a byte.
+#[test]
+fn tags_and_lengths() {
+    for version in [FIRST_VERSION, LAST_VERSION] {
+        assert_eq!(opened(&[Two(version + 1, 30)]), Err((3, 4)));
+        assert_eq!(opened(&[Byte(version, 1)]), Err((3, 4)));
+        let narrow = [Byte(version, 1), Two(version + 1, 30)];
+        assert_eq!(opened(&narrow), Err((3, 4)));
+    }
 }
 
 #[test]
@@ -143,9 +178,9 @@ fn sequences() {
 
 #[test]
 fn log_records() {
-    assert_eq!(opened(&[Byte(LAST_VERSION, 3)]), Err((3, 4)));
+    assert_eq!(opened(&[Byte(LAST_VERSION, 4)]), Err((3, 4)));
     assert_eq!(opened(&[Byte(LAST_VERSION + 1, 16)]), Err((3, 4)));
-    let cut = [Two(LOG + 8, 179), Byte(LOG + 179, 0)];
+    let cut = [Two(LOG + 8, 183), Byte(LOG + 183, 0)];
     assert_eq!(opened(&cut), Err((3, 4)));
     assert_eq!(opened(&[Two(THIRD_VERSION + 3, 30)]), Err((3, 4)));
     assert_eq!(opened(&[Eight(SECOND_COMMIT + 11, 5)]), Err((3, 4)));
@@ -153,9 +188,9 @@ fn log_records() {
 
 #[test]
 fn end_places_and_applied_versions() {
-    assert_eq!(opened(&[Eight(NEXT_PAGE, 512 + 181)]), Err((4, 7)));
+    assert_eq!(opened(&[Eight(NEXT_PAGE, 512 + 185)]), Err((4, 7)));
     assert_eq!(opened(&[Two(THIRD_VERSION + 3, 3)]), Err((5, 4)));
-    assert_eq!(opened(&[Eight(PAGE, 512 + 75)]), Err((5, 4)));
+    assert_eq!(opened(&[Eight(PAGE, 512 + 77)]), Err((5, 4)));
 }
 
 #[test]
@@ -182,9 +217,12 @@ fn the_history_after_the_log() {
 fn numbers_and_times() {
     assert_eq!(opened(&[Eight(MASTER_NUMBER, 0)]), Err((7, 0)));
     assert_eq!(opened(&[Pair(0, 1, 0)]), Err((7, 1)));
-    assert_eq!(opened(&[Eight(LAST_VERSION + 9, 0)]), Err((7, 4)));
+    assert_eq!(opened(&[Eight(LAST_VERSION + NUMBER, 0)]), Err((7, 4)));
     assert_eq!(opened(&[Eight(SLOT + 8, 0)]), Err((7, 6)));
-    assert_eq!(opened(&[Eight(LAST_VERSION + 9, u64::MAX)]), Err((8, 4)));
+    assert_eq!(
+        opened(&[Eight(LAST_VERSION + NUMBER, u64::MAX)]),
+        Err((8, 4))
+    );
 }
 
 #[test]

@@ -1,4 +1,4 @@
-//! The examples of document 01, and of request #102.
+//! The examples of document 01, and of requests #102 and #104.
 
 use oracle::script;
 
@@ -103,33 +103,62 @@ fn two_writes_in_a_transaction() {
     ));
 }
 
+/// The blocks that a script shows, as hex digits.
+fn shown(text: &str) -> Vec<String> {
+    let mut out = Vec::new();
+    script::run(text.as_bytes(), &mut out);
+    let out = String::from_utf8(out).unwrap();
+    let blocks = out.lines().filter_map(|line| line.strip_prefix("M "));
+    blocks.map(str::to_string).collect()
+}
+
+/// A formatted and opened room in which number 1 writes so many records, from this one on.
+fn written(pages: u64, first: u64, count: u64) -> String {
+    let mut text = format!("F 2 {pages}\nO 0\nB 10\n");
+    text.extend((first..first + count).map(|record| format!("W 1 {record} {VALUE}\n")));
+    text
+}
+
+/// The 15th begins a second block (#104).
 #[test]
 fn the_sixteenth_write_on_one_page() {
     let mut lines = exchange(2, 1, &[("B 10", "B 0 1")]);
     lines.extend((0..15).map(|slot| write(1, slot, &format!("W 0 {slot}"))));
     lines.push(write(1, 15, "W 7 -"));
     check(&lines);
+    let blocks = shown(&(written(1, 0, 15) + "S\nM 4\nM 3\n"));
+    assert!(blocks[0].starts_with("0100000000000000e601"));
+    assert!(blocks[1].starts_with("02000000000000002c00031f000e000e00"));
 }
 
+/// #104: a commit record still fits behind them.
 #[test]
-fn fifteen_versions_use_505_bytes() {
-    let mut text = String::from("F 2 3\nO 0\nB 10\n");
-    text.extend((0..15).map(|record| format!("W 1 {record} {VALUE}\n")));
-    text.push_str("C 1 10\nM 4\nS\nM 3\n");
-    let mut out = Vec::new();
-    script::run(text.as_bytes(), &mut out);
-    let out = String::from_utf8(out).unwrap();
-    let shown: Vec<&str> = out.lines().filter(|line| line.starts_with('M')).collect();
-    // Sequence 1, 505 bytes used; then sequence 2 with the commit record alone.
-    assert!(shown[0].starts_with("M 0100000000000000f901"));
-    assert!(shown[1].starts_with("M 02000000000000001d00021000"));
+fn fourteen_versions_use_486_bytes() {
+    let text = written(3, 300, 14);
+    let blocks = shown(&(text + "S\nM 4\nC 1 10\nM 3\nS\nM 3\nM 4\n"));
+    // Sequence 1, 486 bytes used; with the commit 505, and no second block.
+    assert!(blocks[0].starts_with("0100000000000000e601"));
+    assert!(blocks[3].starts_with("0100000000000000f901"));
+    assert_eq!(blocks[3][2 * 486..][..6], *"021000");
+    assert!([&blocks[1], &blocks[2]].map(|block| block == &"0".repeat(1024)) == [true; 2]);
 }
 
+/// #104: tag 3, body 31: slot, record, kind, earlier slot, number, value; and the slot's high byte.
 #[test]
-fn thirty_versions_fit_two_blocks() {
+fn a_record_number_of_two_bytes() {
+    let blocks = shown(&(written(1, 1023, 1) + "S\nM 4\nP 0\nM 5\n"));
+    let record = format!("031f000000ff0300ffff0100000000000000{VALUE}");
+    assert_eq!(blocks[0][20..][..2 * 34], record);
+    let slot = format!("01ff0003ffff00000100000000000000{VALUE}");
+    assert_eq!(blocks[1][64..][..64], slot);
+}
+
+/// #104.
+#[test]
+fn twenty_eight_versions_fit_two_blocks() {
     let mut lines = exchange(2, 3, &[("B 10", "B 0 1")]);
-    lines.extend((0..30).map(|slot| write(1, slot, &format!("W 0 {slot}"))));
-    lines.push(write(1, 30, "W 8 -"));
+    lines.extend((0..28).map(|slot| write(1, slot, &format!("W 0 {slot}"))));
+    lines.push(write(1, 28, "W 8 -"));
     check(&lines);
 }
 
@@ -197,7 +226,7 @@ fn a_version_that_begins_a_block_stores_the_times_before_it() {
             ("B 11", "B 0 2"),
         ],
     );
-    // Fourteen versions and a commit leave 21 bytes of the block.
+    // Fourteen versions and a commit leave 7 bytes of the block.
     lines.extend((1..14).map(|slot| write(2, 20 + slot, &format!("W 0 {slot}"))));
     lines.extend(whole(&[
         ("Q 7 10", "Q 10 -"),
@@ -220,23 +249,26 @@ fn a_commit_that_begins_a_block_stores_the_times_before_its_own() {
             ("B 10", "B 0 1"),
             ("B 11", "B 0 2"),
             ("B 12", "B 0 3"),
-            ("W 2 7 VALUE", "W 0 0"),
-            ("W 3 8 VALUE", "W 0 1"),
+            ("B 13", "B 0 4"),
+            ("W 3 7 VALUE", "W 0 0"),
+            ("W 4 8 VALUE", "W 0 1"),
+            ("W 2 9 VALUE", "W 0 2"),
         ],
     );
-    lines.extend((2..14).map(|slot| write(1, 20 + slot, &format!("W 0 {slot}"))));
+    lines.extend((3..13).map(|slot| write(1, 20 + slot, &format!("W 0 {slot}"))));
     lines.extend(whole(&[
         ("C 1 10", "C 0 10"),
-        // Fourteen versions and two commits leave 2 bytes of the block.
         ("C 2 11", "C 0 11"),
-        ("Q 7 11", "Q 10 -"),
+        // Thirteen versions and three commits leave 3 bytes of the block.
         ("C 3 12", "C 0 12"),
-        ("Q 7 11", "Q 0 VALUE"),
-        ("Q 8 11", "Q 0 none"),
-        ("Q 8 12", "Q 10 -"),
+        ("Q 7 12", "Q 10 -"),
+        ("C 4 13", "C 0 13"),
+        ("Q 7 12", "Q 0 VALUE"),
+        ("Q 8 12", "Q 0 none"),
+        ("Q 8 13", "Q 10 -"),
         ("X", "X 0 0"),
-        ("O 0", "O 0 11"),
-        ("Q 7 11", "Q 0 VALUE"),
+        ("O 0", "O 0 12"),
+        ("Q 7 12", "Q 0 VALUE"),
     ]));
     check(&lines);
 }

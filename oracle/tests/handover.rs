@@ -148,6 +148,31 @@ fn from_and_to_may_be_the_same() {
     check(2, 1, &lines);
 }
 
+/// The read's 18 comes before 17, and leaves the number used.
+#[test]
+fn eighteen_comes_before_seventeen() {
+    let lines = pairs(&[
+        ("H 1024 1 2 1 1", "H 18 -"),
+        ("H 65535 0 0 1 1", "H 18 -"),
+        ("H 1023 0 0 1 1", "H 17 -"),
+        ("A 3", "A 5 -"),
+        ("B 1", "B 0 5"),
+        ("W 5 1023 S1", "W 0 1"),
+        ("W 5 263 S3", "W 0 2"),
+        ("C 5 1", "C 0 11"),
+        ("H 1023 1 2 1 1", "H 0 12"),
+        // Flights that share the low byte of their numbers are others.
+        ("H 7 1 4 1 1", "H 0 13"),
+        ("H 263 3 5 1 1", "H 0 14"),
+        ("B 1", "B 0 9"),
+        ("R 9 1023", "R 0 S2"),
+        ("R 9 7", "R 0 S4"),
+        ("R 9 263", "R 0 S5"),
+        ("R 9 255", "R 0 none"),
+    ]);
+    check(2, 1, &lines);
+}
+
 #[test]
 fn six_comes_before_seventeen() {
     let lines = pairs(&[
@@ -206,24 +231,29 @@ fn seven_leaves_its_number_used() {
     check(2, 1, &lines);
 }
 
-/// Version, commit and 13 versions use 491 bytes of the first block; 14 more use 472 of the second.
+/// Version, commit and 13 versions use 505 bytes of the first block; 13 more and a commit use 471 of the
+/// second.
 #[test]
 fn eight_at_the_commit_leaves_a_version() {
-    let mut lines = fill(27);
+    let mut lines = fill(25);
     lines.extend(pairs(&[
+        ("B 1", "B 0 3"),
+        ("W 3 300 S9", "W 0 26"),
+        ("C 3 1", "C 0 11"),
         ("H 7 1 2 1 1", "H 8 -"),
-        ("A 3", "A 5 -"),
+        ("A 4", "A 5 -"),
         ("R 2 7", "R 0 S1"),
-        // Its 33 bytes are used, so that neither a version nor a commit fits; with them its slot.
+        // Its 34 bytes are used, so that neither a version nor a commit fits; with them its slot.
         ("W 2 8 S9", "W 8 -"),
         ("C 2 1", "C 8 -"),
         ("H 7 1 2 1 1", "H 8 -"),
     ]));
     lines.extend(free());
     lines.extend(pairs(&[
-        ("B 1", "B 0 5"),
-        ("R 5 7", "R 0 S1"),
-        ("W 5 8 S9", "W 0 29"),
+        ("B 1", "B 0 6"),
+        ("R 6 7", "R 0 S1"),
+        ("W 6 8 S9", "W 0 28"),
+        ("W 6 9 S9", "W 0 29"),
         ("H 7 1 2 1 1", "H 7 -"),
     ]));
     check(2, 2, &lines);
@@ -231,7 +261,7 @@ fn eight_at_the_commit_leaves_a_version() {
 
 #[test]
 fn eight_at_the_write_leaves_its_number_used() {
-    let mut lines = fill(28);
+    let mut lines = fill(27);
     lines.extend(pairs(&[
         ("H 7 1 2 1 1", "H 8 -"),
         ("H 7 2 2 1 1", "H 17 -"),
@@ -242,7 +272,7 @@ fn eight_at_the_write_leaves_its_number_used() {
     lines.extend(pairs(&[
         ("H 7 1 2 1 1", "H 0 11"),
         ("B 1", "B 0 6"),
-        ("W 6 8 S9", "W 0 30"),
+        ("W 6 8 S9", "W 0 29"),
     ]));
     check(2, 3, &lines);
 }
@@ -271,13 +301,14 @@ fn nine_leaves_a_version() {
 #[test]
 fn a_refused_one_may_store_a_block() {
     let mut lines = pairs(&[("H 7 1 2 1 LAST", "H 0 LAST"), ("B 1", "B 0 3")]);
-    lines.extend((0..12).map(|n| (format!("W 3 {} S9", 100 + n), format!("W 0 {}", n + 2))));
+    lines.extend((0..11).map(|n| (format!("W 3 {} S9", 100 + n), format!("W 0 {}", n + 2))));
     lines.extend(pairs(&[
         ("Q 7 LAST", "Q 10 -"),
         ("H 7 2 3 1 1", "H 9 -"),
         ("Q 7 LAST", "Q 0 S2"),
         ("Q 7 10", "Q 0 S1"),
         ("S", "S 0 0"),
+        ("W 3 200 S9", "W 0 14"),
         ("H 7 2 3 1 1", "H 7 -"),
     ]));
     check(2, 1, &lines);
@@ -313,7 +344,11 @@ fn refusals_that_no_history_reaches() {
 
 #[test]
 fn forms() {
-    let right = ["H 255 255 255 0 18446744073709551615", "H 007 0 00 1 1"];
+    let right = [
+        "H 255 255 255 0 18446744073709551615",
+        "H 65535 1 2 1 1",
+        "H 007 0 00 1 1",
+    ];
     for line in right {
         let mut again = Vec::new();
         let hand = parse(line.as_bytes()).unwrap();
@@ -324,7 +359,7 @@ fn forms() {
         "H",
         "H ",
         "h 7 1 2 1 1",
-        "H 256 1 2 1 1",
+        "H 65536 1 2 1 1",
         "H 7 256 2 1 1",
         "H 7 1 256 1 1",
         "H 7 1 2 1",

@@ -22,19 +22,20 @@ fn histories_agree_with_the_book() {
     }
     println!("{all:?}\n{}", all.handovers);
     // What a run can be refused for by a history, each at least once.
-    for refusal in [2, 4, 5, 6, 7, 8, 9, 10, 11, 12, 13, 14, 17] {
+    for refusal in [2, 4, 5, 6, 7, 8, 9, 10, 11, 12, 13, 14, 17, 18] {
         assert!(
             all.refusals[refusal] > 0,
             "refusal {refusal} never occurred"
         );
     }
+    assert!(all.refusals[18] > 5_000 && all.high_records > 20_000);
     assert_eq!(all.live_commits, 64);
     assert!(all.table_pairs > 32);
     assert!(all.torn > 0 && all.none_matched > 0);
     assert!(all.places_reused > 0 && all.begun_over_dead > 0);
     assert!(all.unstored > 0 && all.asked_again > 0);
     // And every refusal that a handover can answer in a run, in profiles of all kinds.
-    for refusal in [4, 6, 7, 8, 9, 17] {
+    for refusal in [4, 6, 7, 8, 9, 17, 18] {
         let count = all.handovers.refused[refusal];
         assert!(count > 0, "no handover was refused {refusal}");
     }

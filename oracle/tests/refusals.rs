@@ -33,14 +33,15 @@ fn refused_as_misfit(state: &State, medium: &[u8], cache: &[u8]) {
     let (s, m, c) = (&mut after, &mut medium_after[..], &mut cache_after[..]);
     let value = [0; 16];
     assert_eq!(begin(s, m, c, 1), Err(MISFIT));
-    let written = oracle::transactions::write(s, m, c, (1, 1), &value);
+    let written = oracle::transactions::write::<Sound>(s, m, c, (1, 1024), &value);
     assert_eq!(written, Err(MISFIT));
-    assert_eq!(oracle::transactions::erase(s, m, c, (1, 1)), Err(MISFIT));
+    let erased = oracle::transactions::erase::<Sound>(s, m, c, (1, 1024));
+    assert_eq!(erased, Err(MISFIT));
     assert_eq!(commit::<Sound>(s, m, c, 1, 1), Err(MISFIT));
     assert_eq!(abort(s, m, c, 1), Err(MISFIT));
-    assert_eq!(chain::current_read(s, m, c, 1, 1), Err(MISFIT));
-    assert_eq!(chain::as_of::<Sound>(s, m, c, 1, 1), Err(MISFIT));
-    let listed = chain::changes::<Sound>(s, m, c, 1, (0, 1), &mut []);
+    assert_eq!(chain::current_read::<Sound>(s, m, c, 1, 1024), Err(MISFIT));
+    assert_eq!(chain::as_of::<Sound>(s, m, c, 1024, 1), Err(MISFIT));
+    let listed = chain::changes::<Sound>(s, m, c, 1024, (0, 1), &mut []);
     assert_eq!(listed, Err(MISFIT));
     assert_eq!(journal::store_log::<Sound>(s, m, c), Err(MISFIT));
     assert_eq!(pages::store_page::<Sound>(s, m, c, 99), Err(MISFIT));
@@ -95,6 +96,32 @@ fn script_forms() {
     assert_eq!(run("F 2 1\nV 0\nM 6\n"), "F 0 0\nV -\nM -\n");
     assert_eq!(run("F 2 1\nZ 99999 ff\nZ 0 FF\nO 0\n"), "F 0 0\nZ 0 0\n");
     assert_eq!(run("F 2 1\n\nO 0\n"), "F 0 0\n");
+}
+
+/// "18, is the record number below 1,024? It comes before 5, and before 10."
+#[test]
+fn eighteen() {
+    let text = "F 2 1\nO 0\nB 1\nB 1\nW 1 1023 VALUE\n";
+    let answers = "F 0 0\nO 0 0\nB 0 1\nB 0 2\nW 0 0\n";
+    for record in [1024, 1279, 65535] {
+        // No number 3 is active, and no time is stored.
+        let more = format!(
+            "W 3 {record} VALUE\nW 1 {record} VALUE\nE 3 {record}\nE 2 {record}\nR 3 {record}\n\
+             R 2 {record}\nQ {record} 0\nQ {record} 1\nL {record} 0 1 0\nL {record} 0 0 99\n\
+             H {record} 1 2 1 1\nR 2 1023\nR 2 1022\nB 1\n"
+        );
+        let refused = "W 18 -\nW 18 -\nE 18 -\nE 18 -\nR 18 -\nR 18 -\nQ 18 -\nQ 18 -\nL 18 -\n\
+                       L 18 -\nH 18 -\nR 6 -\nR 0 none\nB 0 4\n";
+        let value = "00112233445566778899aabbccddeeff";
+        assert_eq!(
+            run(&format!("{text}{more}").replace("VALUE", value)),
+            format!("{answers}{refused}")
+        );
+    }
+    // Larger ones are no record numbers, and end the run.
+    for line in ["R 1 65536", "E 1 65536", "Q 65536 0", "L 65536 0 0 9"] {
+        assert_eq!(run(&format!("F 2 1\nO 0\n{line}\nB 1\n")), "F 0 0\nO 0 0\n");
+    }
 }
 
 #[test]

@@ -36,7 +36,7 @@ pub fn commits_script(rooms: u64) -> Vec<u8> {
 
 pub struct Commit {
     pub slot: u64,
-    pub record: u8,
+    pub record: RecordNumber,
     pub value: Value,
     pub time: u64,
 }

@@ -65,7 +65,7 @@ impl Filler {
         let records = (self.slots() / self.size.chain).max(1);
         self.call(Line::Write {
             number,
-            record: (n % records) as u8,
+            record: (n % records) as RecordNumber,
             value: (n as u128 + 1).to_le_bytes(),
         });
     }

@@ -11,7 +11,7 @@ use crate::script::put_line;
 use crate::state::*;
 
 /// How many record numbers a room uses.
-const RECORDS: u64 = 60;
+const IN_USE: u64 = 60;
 /// How many transactions are open at once.
 const DESKS: usize = 3;
 /// So many commits go into one store of the log.
@@ -24,7 +24,7 @@ const ANSWER: u64 = 64 * CHANGE_BYTES as u64;
 /// An open transaction and the records that it writes.
 struct Desk {
     number: u64,
-    records: Vec<u8>,
+    records: Vec<RecordNumber>,
     written: usize,
 }
 
@@ -79,7 +79,7 @@ impl Rooms {
             0..=1 => self.cut(),
             2..=31 => self.changes(state),
             32..=349 => Line::AsOf {
-                record: self.random.below(RECORDS) as u8,
+                record: self.random.below(IN_USE) as RecordNumber,
                 time: self.time(state),
             },
             _ => self.step(state, machine),
@@ -114,7 +114,7 @@ impl Rooms {
     fn changes(&mut self, state: &State) -> Line {
         let (one, two) = (self.time(state), self.time(state));
         Line::Changes {
-            record: self.random.below(RECORDS) as u8,
+            record: self.random.below(IN_USE) as RecordNumber,
             from: if self.random.percent(50) {
                 0
             } else {
@@ -150,7 +150,7 @@ impl Rooms {
         }
         desk.written += 1;
         let (medium, cache) = (&machine.medium, &machine.cache);
-        let now = chain::current_read(state, medium, cache, number, record);
+        let now = chain::current_read::<Sound>(state, medium, cache, number, record);
         if matches!(now, Ok(Strip::Present(_))) && self.random.percent(5) {
             return Line::Erase { number, record };
         }
@@ -167,7 +167,7 @@ impl Rooms {
         let writes = if self.random.percent(50) { 1 } else { 3 };
         let mut records = Vec::new();
         while records.len() < writes {
-            let record = self.random.below(RECORDS) as u8;
+            let record = self.random.below(IN_USE) as RecordNumber;
             let held = self.desks.iter().any(|desk| desk.records.contains(&record));
             if !held && !records.contains(&record) {
                 records.push(record);

@@ -2,7 +2,7 @@
 //! whatever else it is doing.
 
 use crate::bench::commits::{self, Commit, Way};
-use crate::layout::{BLOCK, MAX_SLOTS};
+use crate::layout::{RecordNumber, BLOCK, MAX_SLOTS};
 use crate::script;
 use std::fs::File;
 use std::io::{ErrorKind, Read, Write};
@@ -230,7 +230,7 @@ fn check(
     files: [&PathBuf; 2],
     commits: &[Commit],
 ) -> Result<(), String> {
-    let newest: std::collections::BTreeMap<u8, String> = commits
+    let newest: std::collections::BTreeMap<RecordNumber, String> = commits
         .iter()
         .map(|commit| (commit.record, commit.hex()))
         .collect();

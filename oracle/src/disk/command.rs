@@ -1,17 +1,19 @@
 //! `oracle disk TEST PROGRAM LAUNCHER`: runs a test of `striproom` and prints what it counted.
 
 use crate::disk::process::{Folder, Setup};
-use crate::disk::{faults, kill, same, wrong};
+use crate::disk::{faults, kill, old, same, wrong};
 use std::path::{Path, PathBuf};
 use std::time::Duration;
 
-pub const USAGE: &str = "oracle disk same|kill|faults|spoilt PROGRAM LAUNCHER";
+pub const USAGE: &str = "oracle disk same|kill|faults PROGRAM LAUNCHER
+oracle disk media PROGRAM LAUNCHER FOLDER
+oracle disk spoilt PROGRAM LAUNCHER FOLDER [NAME]";
 
 /// Long enough for a busy machine.
 const PATIENCE: Duration = Duration::from_secs(30);
 
 pub fn run(words: &[String]) -> Result<String, String> {
-    let [test, program, launcher, only @ ..] = words else {
+    let [test, program, launcher, rest @ ..] = words else {
         return Err(USAGE.into());
     };
     let setup = setup(Path::new(program), Path::new(launcher), PATIENCE)?;
@@ -40,7 +42,26 @@ pub fn run(words: &[String]) -> Result<String, String> {
                 ways: faults::ways(),
             },
         ),
-        "spoilt" => wrong::run(&setup.launcher, only.first().map(String::as_str)),
+        _ => with_folder(test, &setup, rest),
+    }
+}
+
+/// The tests that need the folder of old media.
+fn with_folder(test: &str, setup: &Setup, rest: &[String]) -> Result<String, String> {
+    let (Some(folder), only) = (rest.first().map(Path::new), rest.get(1)) else {
+        return Err(USAGE.into());
+    };
+    match test {
+        "media" => old::run(
+            setup,
+            folder,
+            &old::Effort {
+                seeds: 60,
+                each: 20,
+                calls: 150,
+            },
+        ),
+        "spoilt" => wrong::run(&setup.launcher, folder, only.map(String::as_str)),
         _ => Err(USAGE.into()),
     }
 }

@@ -26,29 +26,29 @@ fn start(time: u64, versions: u8) -> String {
 }
 
 fn cases() -> [Case; 4] {
-    let last = u64::MAX;
+    let (last, other, hand) = (u64::MAX, "09".repeat(16), "H 7 1 2 20 20\n");
     [
         Case {
             name: "its version begins the next block",
-            text: start(10, 13) + "H 7 1 2 20 20\n",
+            text: start(10, 13) + hand,
             done: (10, 1),
             not_done: (10, 1),
         },
         Case {
             name: "its commit begins the next block",
-            text: start(10, 12) + "C 2 11\nH 7 1 2 20 20\n",
-            done: (11, 1),
+            text: start(10, 10) + &format!("B 3\nW 3 500 {other}\nC 2 11\nC 3 12\n{hand}"),
+            done: (12, 1),
             not_done: (10, 1),
         },
         Case {
             name: "its version begins the next block and its commit is refused",
-            text: start(last, 13) + "H 7 1 2 20 20\n",
+            text: start(last, 13) + hand,
             done: (last, 1),
             not_done: (last, 1),
         },
         Case {
             name: "the log is stored behind it",
-            text: start(10, 3) + "H 7 1 2 20 20\nS\n",
+            text: start(10, 3) + hand + "S\n",
             done: (20, 2),
             not_done: (10, 1),
         },

@@ -6,6 +6,7 @@ pub mod handed;
 pub mod kill;
 pub mod launch;
 pub mod locks;
+pub mod old;
 pub mod process;
 pub mod program;
 pub mod room;

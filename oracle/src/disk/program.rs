@@ -1,8 +1,10 @@
 //! The stand-in: plays docs/STRIPROOM.md on the oracle's machine, soundly or spoilt on purpose.
 
-use crate::disk::room::{Change, Room, Turn};
+use crate::disk::room::{Change, RoomOf, Turn};
 use crate::disk::spoilt::Spoilt;
 use crate::layout::{BLOCK, MAX_MEDIUM};
+use crate::rules::{Rules, Sound};
+use crate::widths::*;
 use std::fs::{File, OpenOptions};
 use std::io::{BufRead, ErrorKind, Write};
 use std::os::fd::FromRawFd;
@@ -36,14 +38,32 @@ pub struct Program {
     pub unwritten: Option<(usize, usize)>,
 }
 
+/// Plays the script on a medium, by the store that it is named for; answers the exit code.
+type Player = fn(&mut Program) -> u8;
+
+/// Stores that take record numbers wrongly, and the one that knew no others than of one byte.
+pub const STORES: [(&str, Player); 7] = [
+    ("before", Program::exit_code::<Before>),
+    ("old-tag", Program::exit_code::<OldTag>),
+    ("tag-one-refused", Program::exit_code::<TagOneRefused>),
+    ("kind-as-high", Program::exit_code::<KindAsHigh>),
+    ("high-not-written", Program::exit_code::<HighNotWritten>),
+    ("high-not-read", Program::exit_code::<HighNotRead>),
+    ("one-more-taken", Program::exit_code::<OneMoreTaken>),
+];
+
 /// `[--spoilt NAME] FILE [FD]`; answers the exit code.
 pub fn run(words: &[String]) -> u8 {
-    let (spoilt, words) = match words {
-        [option, name, rest @ ..] if option == "--spoilt" => match Spoilt::by_name(name) {
-            Some(spoilt) => (Some(spoilt), rest),
-            None => return used_wrong(),
-        },
-        _ => (None, words),
+    let (spoilt, player, words) = match words {
+        [option, name, rest @ ..] if option == "--spoilt" => {
+            let store = STORES.iter().find(|(store, _)| store == name);
+            match (Spoilt::by_name(name), store) {
+                (None, None) => return used_wrong(),
+                (None, Some((_, player))) => (None, *player, rest),
+                (spoilt, _) => (spoilt, Program::exit_code::<Sound> as Player, rest),
+            }
+        }
+        _ => (None, Program::exit_code::<Sound> as Player, words),
     };
     let fd = match words {
         [file] if !file.is_empty() => None,
@@ -53,7 +73,7 @@ pub fn run(words: &[String]) -> u8 {
         },
         _ => return used_wrong(),
     };
-    let code = Program::new(Path::new(&words[0]), spoilt).exit_code();
+    let code = player(&mut Program::new(Path::new(&words[0]), spoilt));
     match fd {
         None => code,
         Some(fd) => {
@@ -84,8 +104,8 @@ impl Program {
         self.spoilt == Some(spoilt)
     }
 
-    fn exit_code(&mut self) -> u8 {
-        match self.load().and_then(|mut room| self.play(&mut room)) {
+    fn exit_code<R: Rules>(&mut self) -> u8 {
+        match self.load::<R>().and_then(|mut room| self.play(&mut room)) {
             Ok(()) => 0,
             Err(Trouble(code, message)) => {
                 if !self.is(Spoilt::MessageLost) {
@@ -96,13 +116,13 @@ impl Program {
         }
     }
 
-    fn load(&mut self) -> Result<Room, Trouble> {
+    fn load<R: Rules>(&mut self) -> Result<RoomOf<R>, Trouble> {
         let mut options = OpenOptions::new();
         options.read(true).write(true);
         options.create(self.is(Spoilt::MadeAtStart));
         let file = match options.open(&self.path) {
             Ok(file) => file,
-            Err(error) if error.kind() == ErrorKind::NotFound => return Ok(Room::load(None)),
+            Err(error) if error.kind() == ErrorKind::NotFound => return Ok(RoomOf::load(None)),
             Err(error) if error.kind() == ErrorKind::IsADirectory => return Err(NOT_REGULAR),
             Err(_) => return Err(NO_ACCESS),
         };
@@ -124,12 +144,12 @@ impl Program {
             _ => return Err(NOT_READ),
         }
         self.file = Some(file);
-        let mut room = Room::load(Some(bytes));
+        let mut room = RoomOf::load(Some(bytes));
         self.spoil_room(&mut room);
         Ok(room)
     }
 
-    fn play(&mut self, room: &mut Room) -> Result<(), Trouble> {
+    fn play<R: Rules>(&mut self, room: &mut RoomOf<R>) -> Result<(), Trouble> {
         let mut input = std::io::stdin().lock();
         let (mut line, mut text) = (Vec::new(), Vec::new());
         loop {
@@ -154,7 +174,7 @@ impl Program {
     }
 
     /// Stores what a line changed.
-    pub fn store(&mut self, room: &Room, change: Change) -> Result<(), Trouble> {
+    pub fn store<R: Rules>(&mut self, room: &RoomOf<R>, change: Change) -> Result<(), Trouble> {
         match change {
             Change::Nothing => Ok(()),
             Change::Part { at, length } => {

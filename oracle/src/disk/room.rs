@@ -2,7 +2,7 @@
 
 use crate::layout::*;
 use crate::machine::{Line, Machine, Reply};
-use crate::rules::Sound;
+use crate::rules::{Rules, Sound};
 use crate::script::{parse, put_reply};
 use crate::state::SIZES;
 
@@ -30,17 +30,19 @@ pub enum Turn {
     Played(Change),
 }
 
-pub struct Room {
-    pub machine: Machine<Sound>,
+pub type Room = RoomOf<Sound>;
+
+pub struct RoomOf<R: Rules> {
+    pub machine: Machine<R>,
     /// The file's bytes, if there is one.
     pub file: Option<Vec<u8>>,
     /// A file without bytes is a medium all the same, and no opening accepts it.
     bare: bool,
 }
 
-impl Room {
+impl<R: Rules> RoomOf<R> {
     pub fn load(file: Option<Vec<u8>>) -> Self {
-        Room {
+        RoomOf {
             machine: Machine::loaded(file.clone().unwrap_or_default()),
             bare: file.as_ref().is_some_and(Vec::is_empty),
             file,

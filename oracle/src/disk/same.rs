@@ -50,11 +50,13 @@ pub fn run(setup: &Setup, effort: &Effort) -> Result<String, String> {
         processes,
         handovers,
         handover_stores,
+        high_records,
+        no_records,
     } = counts;
     Ok(format!(
         "same: {scripts} scripts, {processes} processes, {lines} lines: answers, calls and the file's bytes \
          after each as the oracle's; {stores} stores of one block, {formats} formats; {handovers} handovers, \
-         {handover_stores} with a store"
+         {handover_stores} with a store; {high_records} versions of records from 256 on, {no_records} refusals 18"
     ))
 }
 

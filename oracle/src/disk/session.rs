@@ -3,6 +3,8 @@
 use crate::disk::process::{Process, Setup};
 use crate::disk::room::{Change, Room, Turn};
 use crate::disk::trace::Reader;
+use crate::record_numbers::writes_high;
+use crate::script::parse;
 use std::path::{Path, PathBuf};
 
 #[derive(Clone, Copy, Default)]
@@ -14,6 +16,9 @@ pub struct Counts {
     /// Lines that hand a flight over, and those of them that store.
     pub handovers: u64,
     pub handover_stores: u64,
+    /// Versions of records from 256 on, and refusals 18.
+    pub high_records: u64,
+    pub no_records: u64,
 }
 
 impl Counts {
@@ -24,6 +29,8 @@ impl Counts {
         self.processes += other.processes;
         self.handovers += other.handovers;
         self.handover_stores += other.handover_stores;
+        self.high_records += other.high_records;
+        self.no_records += other.no_records;
     }
 }
 
@@ -121,6 +128,10 @@ impl<'a> Session<'a> {
             self.counts.handovers += 1;
             self.counts.handover_stores += u64::from(wanted.change != Change::Nothing);
         }
+        let code = wanted.answer.split(|&byte| byte == b' ').nth(1);
+        let high = parse(wanted.line).is_some_and(|line| writes_high(&line));
+        self.counts.high_records += u64::from(high && code == Some(b"0"));
+        self.counts.no_records += u64::from(code == Some(b"18"));
     }
 
     /// The file has the oracle's bytes.

@@ -1,9 +1,10 @@
 //! Wrong programs on purpose, each with one fault that the tests must find.
 
 use crate::disk::program::{print, Program, Trouble, NOT_STORED, NOT_WRITTEN, NO_FILE};
-use crate::disk::room::{Change, Room};
+use crate::disk::room::{Change, RoomOf};
 use crate::disk::session::hands;
 use crate::layout::{log_block, BLOCK, FIRST_LOG_BLOCK};
+use crate::rules::Rules;
 
 macro_rules! spoilt {
     ($($(#[$about:meta])* $kind:ident $name:literal,)*) => {
@@ -58,7 +59,7 @@ impl Spoilt {
 }
 
 impl Program {
-    pub fn spoil_room(&self, room: &mut Room) {
+    pub fn spoil_room<R: Rules>(&self, room: &mut RoomOf<R>) {
         let machine = &mut room.machine;
         if self.is(Spoilt::SizesFromLength) {
             let others = FIRST_LOG_BLOCK as u64 + machine.log_blocks;
@@ -67,12 +68,12 @@ impl Program {
     }
 
     /// What was kept back, at the end.
-    pub fn catch_up(&mut self, room: &Room) -> Result<(), Trouble> {
+    pub fn catch_up<R: Rules>(&mut self, room: &RoomOf<R>) -> Result<(), Trouble> {
         self.write_late(room)?;
         print(&std::mem::take(&mut self.kept_back))
     }
 
-    fn write_late(&mut self, room: &Room) -> Result<(), Trouble> {
+    fn write_late<R: Rules>(&mut self, room: &RoomOf<R>) -> Result<(), Trouble> {
         match self.unwritten.take() {
             Some((at, length)) => self.store(room, Change::Part { at, length }),
             None => Ok(()),
@@ -86,9 +87,9 @@ impl Program {
         Err(NO_FILE)
     }
 
-    pub fn turn_spoilt(
+    pub fn turn_spoilt<R: Rules>(
         &mut self,
-        room: &Room,
+        room: &RoomOf<R>,
         change: Change,
         line: &[u8],
         text: &[u8],
@@ -134,7 +135,7 @@ impl Program {
         }
     }
 
-    fn store_tail(&self, room: &Room) -> Result<(), Trouble> {
+    fn store_tail<R: Rules>(&self, room: &RoomOf<R>) -> Result<(), Trouble> {
         let Some(state) = &room.machine.state else {
             return Ok(());
         };
@@ -151,7 +152,12 @@ impl Program {
         }
     }
 
-    fn nothing_spoilt(&self, room: &Room, line: &[u8], text: &[u8]) -> Result<(), Trouble> {
+    fn nothing_spoilt<R: Rules>(
+        &self,
+        room: &RoomOf<R>,
+        line: &[u8],
+        text: &[u8],
+    ) -> Result<(), Trouble> {
         let medium = &room.machine.medium;
         let refused = text.ends_with(b" -\n");
         if self.is(Spoilt::RefusedFormatEmpties) && line.starts_with(b"F ") {
@@ -169,7 +175,12 @@ impl Program {
         self.sync()
     }
 
-    fn part_spoilt(&self, room: &Room, at: usize, length: usize) -> Result<(), Trouble> {
+    fn part_spoilt<R: Rules>(
+        &self,
+        room: &RoomOf<R>,
+        at: usize,
+        length: usize,
+    ) -> Result<(), Trouble> {
         let medium = &room.machine.medium;
         let bytes = &medium[at..at + length];
         match self.spoilt {
@@ -211,7 +222,7 @@ impl Program {
         self.sync()
     }
 
-    fn whole_spoilt(&mut self, room: &Room, length: usize) -> Result<(), Trouble> {
+    fn whole_spoilt<R: Rules>(&mut self, room: &RoomOf<R>, length: usize) -> Result<(), Trouble> {
         let (first, rest) = room.machine.medium.split_at(BLOCK);
         self.create()?;
         match self.spoilt {

@@ -3,7 +3,7 @@
 use crate::disk::room::{Change, Room, Turn};
 use crate::disk::session::{difference, hands, shown};
 use crate::judge::{Judge, Strictness};
-use crate::layout::{all_zero, BLOCK};
+use crate::layout::{all_zero, RecordNumber, BLOCK, RECORDS};
 use crate::machine::{Line, Machine, Reply};
 use crate::random::Random;
 use crate::rules::Sound;
@@ -108,13 +108,13 @@ impl Chain {
         self.judge.step(&Line::Cut)?;
         let last = self.judge.book.last_time();
         let records = self.judge.book.stored_slots().map(|found| found.record);
-        let records: BTreeSet<u8> = records.collect();
+        let records: BTreeSet<RecordNumber> = records.collect();
         let mut lines = vec![Line::Open {
             fill: random.below(256) as u8,
         }];
         lines.extend(self.judge.answered.lines());
         self.asked_again += lines.len() as u64 - 1;
-        for record in records.into_iter().chain([255]) {
+        for record in records.into_iter().chain([255, RECORDS - 1, RECORDS]) {
             let time = random.within((0, last));
             lines.push(Line::AsOf { record, time });
             lines.push(Line::AsOf { record, time: last });

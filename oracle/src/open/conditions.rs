@@ -6,6 +6,7 @@
 use super::pairs::Pairs;
 use super::survey::{table_block, Logged, Survey};
 use crate::layout::*;
+use crate::rules::Rules;
 
 type Judged = Result<(), usize>;
 
@@ -18,7 +19,7 @@ fn require(holds: bool, block: usize) -> Judged {
 }
 
 /// 1. Fields as laid out, the sizes as given. Pages are judged as they lie on the medium.
-pub fn fields_as_laid_out(survey: &Survey) -> Judged {
+pub fn fields_as_laid_out<R: Rules>(survey: &Survey<R>) -> Judged {
     let expected = master(
         (survey.log_blocks, survey.pages),
         survey.oldest,
@@ -34,44 +35,46 @@ pub fn fields_as_laid_out(survey: &Survey) -> Judged {
         require(log_block_as_laid_out(survey, i), survey.read_block_index(i))?;
     }
     for (page, bytes) in survey.pages_on_medium().chunks_exact(BLOCK).enumerate() {
-        require(page_as_laid_out(bytes), survey.page_index(page))?;
+        require(page_as_laid_out::<R>(bytes), survey.page_index(page))?;
     }
     Ok(())
 }
 
-fn log_block_as_laid_out(survey: &Survey, i: usize) -> bool {
+fn log_block_as_laid_out<R: Rules>(survey: &Survey<R>, i: usize) -> bool {
     let used = survey.used(i);
-    let kind_fits = |logged: Logged| match logged.record {
-        Record::Version(version) => kind_fits(version.kind, &version.value),
+    let fits = |logged: Logged| match logged.record {
+        Record::Version(version) => {
+            version.record < RECORDS && kind_fits(version.kind, &version.value)
+        }
         Record::Commit { .. } => true,
     };
     (LOG_HEADER..=BLOCK).contains(&used)
         && all_zero(&survey.read_block(i)[used..])
-        && survey.records_of(i).all(kind_fits)
+        && survey.records_of(i).all(fits)
 }
 
 fn kind_fits(kind: u8, value: &[u8]) -> bool {
     kind == PRESENT || (kind == ERASED && all_zero(value))
 }
 
-fn page_as_laid_out(page: &[u8]) -> bool {
+fn page_as_laid_out<R: Rules>(page: &[u8]) -> bool {
     let used = page[8] as usize;
     let mut slots = page[PAGE_HEADER..].chunks_exact(SLOT_BYTES);
     used <= PAGE_SLOTS
         && all_zero(&page[9..PAGE_HEADER])
-        && slots.by_ref().take(used).all(used_slot_as_laid_out)
+        && slots.by_ref().take(used).all(used_slot_as_laid_out::<R>)
         && slots.all(all_zero)
 }
 
-fn used_slot_as_laid_out(slot: &[u8]) -> bool {
+fn used_slot_as_laid_out<R: Rules>(slot: &[u8]) -> bool {
     slot_state(slot) != Slot::Empty
-        && slot[3] == 0
+        && R::high_byte_fits(slot[3])
         && get16(slot, 6) == 0
         && kind_fits(slot[2], &slot[16..32])
 }
 
 /// 2. Sequences from 1 to below 2^48.
-pub fn sequences_in_range(survey: &Survey) -> Judged {
+pub fn sequences_in_range<R: Rules>(survey: &Survey<R>) -> Judged {
     let sequences = 1..SEQUENCE_LIMIT;
     require(sequences.contains(&survey.oldest), 0)?;
     (0..survey.read).try_for_each(|i| {
@@ -81,7 +84,7 @@ pub fn sequences_in_range(survey: &Survey) -> Judged {
 }
 
 /// 3. Log records whole, their slots in range, commit times rising.
-pub fn log_records_sound(survey: &Survey) -> Judged {
+pub fn log_records_sound<R: Rules>(survey: &Survey<R>) -> Judged {
     let slots = PAGE_SLOTS * survey.pages;
     let mut last = None;
     for i in 0..survey.read {
@@ -104,7 +107,7 @@ pub fn log_records_sound(survey: &Survey) -> Judged {
 }
 
 /// 4. No page's end place above the log's end.
-pub fn pages_within_log(survey: &Survey) -> Judged {
+pub fn pages_within_log<R: Rules>(survey: &Survey<R>) -> Judged {
     let mut pages = survey.pages_on_medium().chunks_exact(BLOCK).enumerate();
     pages.try_for_each(|(page, bytes)| {
         require(get64(bytes, 0) <= survey.log_end, survey.page_index(page))
@@ -112,8 +115,8 @@ pub fn pages_within_log(survey: &Survey) -> Judged {
 }
 
 /// 5. Every applied version in the next slot of its page. Applies the log to the cached pages.
-pub fn applied_in_next_slot(
-    survey: &Survey,
+pub fn applied_in_next_slot<R: Rules>(
+    survey: &Survey<R>,
     cache: &mut [u8],
     first_changed: &mut [u64; MAX_PAGES],
 ) -> Judged {
@@ -128,7 +131,7 @@ pub fn applied_in_next_slot(
             continue;
         }
         require(n % PAGE_SLOTS == header[8] as usize, logged.block)?;
-        put_version(cache, &version, logged.end);
+        R::put_version(cache, &version, logged.end);
         if first_changed[page] == 0 {
             first_changed[page] = logged.sequence;
         }
@@ -139,7 +142,7 @@ pub fn applied_in_next_slot(
 /// 6. After the log: full pages, true earlier slots, bounds of numbers and times.
 ///
 /// Logged numbers and times make the bounds, so of the pairs only the table's are judged.
-pub fn history_true(survey: &Survey, cache: &[u8], pairs: &Pairs) -> Judged {
+pub fn history_true<R: Rules>(survey: &Survey<R>, cache: &[u8], pairs: &Pairs) -> Judged {
     let next = survey.next_number();
     for place in 0..TABLE_PLACES {
         let (number, time) = survey.table_pair(place);
@@ -147,12 +150,12 @@ pub fn history_true(survey: &Survey, cache: &[u8], pairs: &Pairs) -> Judged {
         require(holds, table_block(place))?;
     }
     let last_used = cache.chunks_exact(BLOCK).rposition(|page| page[8] != 0);
-    let mut records = [(NO_SLOT, 0); 256];
+    let mut records = [(NO_SLOT, 0); RECORDS as usize];
     for (page, bytes) in cache.chunks_exact(BLOCK).enumerate() {
         let full = bytes[8] as usize == PAGE_SLOTS || last_used.is_none_or(|last| page >= last);
         require(full, survey.page_index(page))?;
         for (n, slot) in used_slots(page, bytes) {
-            let newest = &mut records[slot[1] as usize];
+            let newest = &mut records[R::slot_record(slot) as usize];
             let holds = slot_true(survey, slot, next, pairs, newest);
             require(holds, survey.page_index(page))?;
             newest.0 = n as u16;
@@ -162,8 +165,8 @@ pub fn history_true(survey: &Survey, cache: &[u8], pairs: &Pairs) -> Judged {
 }
 
 /// Judges a slot by the newest slot and time of its record so far, and keeps that time.
-fn slot_true(
-    survey: &Survey,
+fn slot_true<R: Rules>(
+    survey: &Survey<R>,
     slot: &[u8],
     next: u128,
     pairs: &Pairs,
@@ -190,7 +193,7 @@ fn used_slots(page: usize, bytes: &[u8]) -> impl Iterator<Item = (usize, &[u8])>
 }
 
 /// 7. Numbers at least 1, times too but for the master's and an empty place's.
-pub fn numbers_and_times_from_one(survey: &Survey, cache: &[u8]) -> Judged {
+pub fn numbers_and_times_from_one<R: Rules>(survey: &Survey<R>, cache: &[u8]) -> Judged {
     require(survey.master_number() >= 1, 0)?;
     for place in 0..TABLE_PLACES {
         let (number, time) = survey.table_pair(place);
@@ -215,7 +218,7 @@ pub fn numbers_and_times_from_one(survey: &Survey, cache: &[u8]) -> Judged {
 }
 
 /// 8. Logged numbers below 2^64 - 1, so that a next one remains.
-pub fn logged_numbers_leave_a_next(survey: &Survey) -> Judged {
+pub fn logged_numbers_leave_a_next<R: Rules>(survey: &Survey<R>) -> Judged {
     let mut records = survey.records();
     records.try_for_each(|logged| require(logged.record.number() < u64::MAX, logged.block))
 }

@@ -44,10 +44,10 @@ pub fn open<R: Rules>(
     if cache.len() != BLOCK * pages as usize {
         return Err(Fault::CacheLength);
     }
-    let survey = Survey::of(medium, log_blocks as usize, pages as usize);
+    let survey = Survey::<R>::of(medium, log_blocks as usize, pages as usize);
     let mut first_changed = [0; MAX_PAGES];
     match judge(&survey, cache, &mut first_changed) {
-        Ok(pairs) => Ok(found_state::<R>(&survey, cache, first_changed, &pairs)),
+        Ok(pairs) => Ok(found_state(&survey, cache, first_changed, &pairs)),
         Err(fault) => {
             cache.fill(0);
             Err(fault)
@@ -56,8 +56,8 @@ pub fn open<R: Rules>(
 }
 
 /// The ten conditions in their order; the fifth is judged as the log is applied.
-fn judge(
-    survey: &Survey,
+fn judge<R: Rules>(
+    survey: &Survey<R>,
     cache: &mut [u8],
     first_changed: &mut [u64; MAX_PAGES],
 ) -> Result<Pairs, Fault> {
@@ -80,7 +80,7 @@ fn judge(
 
 /// The state after an accepted opening.
 fn found_state<R: Rules>(
-    survey: &Survey,
+    survey: &Survey<R>,
     cache: &[u8],
     first_changed: [u64; MAX_PAGES],
     pairs: &Pairs,

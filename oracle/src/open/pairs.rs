@@ -2,6 +2,7 @@
 
 use super::survey::{table_block, Survey};
 use crate::layout::*;
+use crate::rules::Rules;
 use crate::state::*;
 
 const MOST: usize = TABLE_PLACES + MAX_LOG_BLOCKS * BLOCK_COMMITS;
@@ -43,7 +44,7 @@ pub struct Pairs {
 }
 
 impl Pairs {
-    pub fn of(survey: &Survey) -> Self {
+    pub fn of<R: Rules>(survey: &Survey<R>) -> Self {
         let mut pairs = Pairs {
             all: [NO_PAIR; MOST],
             count: 0,

@@ -1,8 +1,10 @@
 //! What opening reads from the medium before it judges.
 
 use crate::layout::*;
+use crate::rules::Rules;
+use std::marker::PhantomData;
 
-pub struct Survey<'a> {
+pub struct Survey<'a, R: Rules> {
     pub medium: &'a [u8],
     pub log_blocks: usize,
     pub pages: usize,
@@ -13,9 +15,10 @@ pub struct Survey<'a> {
     pub log_end: u64,
     pub highest_logged: Option<u64>,
     pub last_time: u64,
+    rules: PhantomData<R>,
 }
 
-impl<'a> Survey<'a> {
+impl<'a, R: Rules> Survey<'a, R> {
     pub fn of(medium: &'a [u8], log_blocks: usize, pages: usize) -> Self {
         let oldest = get64(medium, MASTER_OLDEST);
         let matches = |&i: &usize| {
@@ -32,6 +35,7 @@ impl<'a> Survey<'a> {
             log_end: 0,
             highest_logged: None,
             last_time: get64(medium, MASTER_TIME),
+            rules: PhantomData,
         };
         survey.log_end = match survey.read {
             0 => end_place(oldest, LOG_HEADER),
@@ -76,16 +80,16 @@ impl<'a> Survey<'a> {
         get16(self.read_block(i), 8) as usize
     }
 
-    pub fn records(&self) -> Records<'a> {
+    pub fn records(&self) -> Records<'a, R> {
         self.records_from(0, self.read)
     }
 
     /// The whole records of one block read.
-    pub fn records_of(&self, i: usize) -> Records<'a> {
+    pub fn records_of(&self, i: usize) -> Records<'a, R> {
         self.records_from(i, i + 1)
     }
 
-    fn records_from(&self, first: usize, end: usize) -> Records<'a> {
+    fn records_from(&self, first: usize, end: usize) -> Records<'a, R> {
         Records {
             medium: self.medium,
             log_blocks: self.log_blocks,
@@ -93,6 +97,7 @@ impl<'a> Survey<'a> {
             i: first,
             end,
             at: LOG_HEADER,
+            rules: PhantomData,
         }
     }
 
@@ -125,16 +130,17 @@ pub struct Logged {
 }
 
 /// The log's whole records in order; a block's rest behind one that is not whole is left out.
-pub struct Records<'a> {
+pub struct Records<'a, R: Rules> {
     medium: &'a [u8],
     log_blocks: usize,
     oldest: u64,
     i: usize,
     end: usize,
     at: usize,
+    rules: PhantomData<R>,
 }
 
-impl Iterator for Records<'_> {
+impl<R: Rules> Iterator for Records<'_, R> {
     type Item = Logged;
 
     fn next(&mut self) -> Option<Logged> {
@@ -143,7 +149,7 @@ impl Iterator for Records<'_> {
             let index = log_block(sequence, self.log_blocks);
             let bytes = block(self.medium, index);
             let used = (get16(bytes, 8) as usize).min(BLOCK);
-            if let Some(record) = get_record(bytes, self.at, used) {
+            if let Some(record) = R::get_record(bytes, self.at, used) {
                 self.at += record.bytes();
                 return Some(Logged {
                     record,

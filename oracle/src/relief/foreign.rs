@@ -170,7 +170,7 @@ impl Foreign {
         let at = self.below(BLOCK);
         match self.random.below(3) {
             0 => {
-                let used = self.pick(&[0, 9, 10, 11, 43, 511, 512, 513, 522, 65535]);
+                let used = self.pick(&[0, 9, 10, 11, 44, 511, 512, 513, 522, 65535]);
                 put16(&mut self.room.tail, 8, used as u16);
             }
             1 => {

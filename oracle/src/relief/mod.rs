@@ -69,10 +69,11 @@ pub fn next<R: Rules>(state: &State, medium: &[u8], cache: &[u8]) -> Option<Line
 /// has made its first call, with a block before the tail as the oldest.
 pub fn longest<R: Rules>(pages: u64) -> (Machine<R>, Line) {
     let mut machine = Machine::default();
-    let write = |number, record| Line::Write {
+    let (clock, slots) = (1, PAGE_SLOTS as u64);
+    let write = |number, record: u64| Line::Write {
         number,
-        record,
-        value: [record; 16],
+        record: record as RecordNumber,
+        value: [record as u8; 16],
     };
     let mut lines = vec![
         Line::Format {
@@ -80,20 +81,21 @@ pub fn longest<R: Rules>(pages: u64) -> (Machine<R>, Line) {
             pages,
         },
         Line::Open { fill: 0 },
-        Line::Begin { clock: 1 },
-        Line::Begin { clock: 1 },
     ];
-    // A block takes just the versions of one page.
+    lines.extend((1..2 * slots).map(|_| Line::Begin { clock }));
     for page in 0..pages - 1 {
-        lines.extend((0..PAGE_SLOTS).map(|record| write(1, record as u8)));
-        lines.extend([Line::StoreLog, Line::StorePage { page }]);
-        lines.extend([Line::Checkpoint; ONE_MORE]);
+        // From a full tail on, the log takes half a page before it is freed, and not a whole one.
+        for half in [1..slots / 2, slots / 2..slots + 1] {
+            lines.extend(half.map(|number| write(number, number)));
+            lines.extend([Line::StoreLog, Line::StorePage { page }]);
+            lines.extend([Line::Checkpoint; ONE_MORE]);
+        }
     }
     lines.push(Line::Checkpoint);
-    lines.extend((1..PAGE_SLOTS).map(|record| write(1, record as u8)));
-    let (number, clock) = (1, 1);
-    let refused = write(2, 200);
-    lines.extend([Line::Commit { number, clock }, refused]);
+    lines.extend((slots + 1..2 * slots).map(|number| write(number, number)));
+    // The versions of the last page leave room for some of the commits, and never for all.
+    lines.extend((1..2 * slots).map(|number| Line::Commit { number, clock }));
+    let refused = write(2 * slots - 1, 200);
     for line in &lines {
         machine.call(line);
     }
