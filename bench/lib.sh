@@ -41,15 +41,25 @@ least() {
     awk '{ print $1 + $2 }' "$1" | sort -g | head -n 1
 }
 
+# FILE ARGUMENTS..: a script of the oracle; where `earlier` names another oracle, one of that beside it.
+write() {
+    local file=$1
+    shift
+    "$oracle" script "$@" >"$file"
+    if [ -n "${earlier:-}" ]; then "$earlier" script "$@" >"$file.earlier"; fi
+}
+
 # NAME IN FIRST SECOND: two programs, each one word with its arguments, play a script after another and must give the same
-# answers. Their times go behind NAME-first.log and NAME-second.log.
+# answers. With an earlier oracle the first plays that one's script, and the answers are others. Their times go behind
+# NAME-first.log and NAME-second.log.
 race() {
-    local first second
+    local first second in=$2
+    if [ -n "${earlier:-}" ]; then in=$2.earlier; fi
     read -ra first <<<"$3"
     read -ra second <<<"$4"
-    timed "$work/$1-first.log" "$2" "$work/want" "${first[@]}"
+    timed "$work/$1-first.log" "$in" "$work/want" "${first[@]}"
     timed "$work/$1-second.log" "$2" "$work/got" "${second[@]}"
-    cmp "$work/want" "$work/got" || { echo "other answers by $4 than by $3" >&2; exit 1; }
+    [ -n "${earlier:-}" ] || cmp "$work/want" "$work/got" || { echo "other answers by $4 than by $3" >&2; exit 1; }
 }
 
 # LETTER CHAIN: how often a call is made, so that it takes some tenths of a second.
@@ -66,9 +76,9 @@ count() {
 measure() {
     local n without=M size=(--log "$2" --pages "$3" --chain "$4") program script
     n=$(count "$1" "$4")
-    "$oracle" script --growth "$1" "${size[@]}" --calls "$n" >"$work/with"
+    write "$work/with" --growth "$1" "${size[@]}" --calls "$n"
     if [ "$1" = P ]; then without=Z; fi
-    "$oracle" script --growth "$without" "${size[@]}" --calls "$([ "$1" = P ] && echo "$n" || echo 0)" >"$work/without"
+    write "$work/without" --growth "$without" "${size[@]}" --calls "$([ "$1" = P ] && echo "$n" || echo 0)"
     rm -f "$work"/*.log
     for _ in $(seq "$turns"); do
         for script in with without; do

@@ -2,7 +2,7 @@
 -- its slots. Assumes nothing.
 use mathlib.Core.Path.{_≡_, ap, subst}
 use mathlib.Core.Bool.{true}
-use Prim.Native.Nat.{ℕ, suc, _+_, _-_, _≤_, _<_}
+use Prim.Native.Nat.{ℕ, suc, _+_, _-_, _%_, _≤_, _<_}
 use native.Mathlib.Omega.{arith}
 use mathlib.Core.List.{List}
 use lib.ListN.{take, drop, getD}
@@ -57,6 +57,10 @@ byte-read c n a i e h = rw (e, getD-take 32 (drop (slotAt n) c) i 0 h, getD-drop
 part-read : (c : List ℕ) (n a i m : ℕ) → a ≡ slotAt n → i + m ≤ 32 → part c (a + i) m ≡ part (cacheSlot c n) i m
 unfolding cacheSlot
 part-read c n a i m e h = rw (e, part-part c (slotAt n) 32 i m h)
+
+pub low-read : (c : List ℕ) (n a : ℕ) → a ≡ slotAt n → getD c (a + 1) 0 < 256 → getD c (a + 1) 0 ≡ cellAt c n .key % 256
+unfolding cellAt cellOf slotKey
+low-read c n a e h = let q : getD c (a + 1) 0 ≡ getD (cacheSlot c n) 1 0 = byte-read c n a 1 e (omega arith) in omega arith
 
 pub kind-read : (c : List ℕ) (n a : ℕ) → a ≡ slotAt n → getD c (a + 2) 0 ≡ cellAt c n .kind
 unfolding cellAt cellOf

@@ -1,7 +1,7 @@
 // A slot of the cache, by its number in the store.
 use layout::slot::Slot;
 ghost use mathlib.Core.Path.{_≡_};
-ghost use Prim.Native.Nat.{suc, _+_};
+ghost use Prim.Native.Nat.{suc, _+_, _%_};
 ghost use lib.ListN.{length};
 ghost use Rattle.store.specs.Chain.{cellAt, isVersion};
 ghost use Rattle.cached.specs.Room.{Room};
@@ -22,6 +22,15 @@ pub fn key_at(cache: &[u8], n: u64) -> u16
 {
     let a = layout::place::slot_at(n);
     layout::slot::key(&cache[a..a + 32])
+}
+
+// The low byte of a slot's record number.
+pub fn low_at(cache: &[u8], n: u64) -> u8
+    requires { ⌜ Room (length (now cache)) (suc n) ⌝ }
+    ensures { λ r. ⌜ r ≡ cellAt (now (cache .entry)) n .key % 256 ⌝ }
+{
+    let a = layout::place::slot_at(n);
+    cache[a + 1]
 }
 
 // The earlier slot that a slot names.

@@ -1,7 +1,7 @@
 -- The newest version: a slot that holds one is found, another is passed. Assumes nothing.
 use mathlib.Core.Path.{_≡_, sym, ap, subst, _∙_}
 use mathlib.Core.Bool.{Bool, true, false, and-true, and-false}
-use Prim.Native.Nat.{ℕ, zero, suc, _-_, _<_}
+use Prim.Native.Nat.{ℕ, zero, suc, _-_, _%_, _<_}
 use native.Mathlib.Omega.{arith}
 use mathlib.Core.List.{List}
 use borrow.Author.Tests.{eq-eqb, ne-eqb}
@@ -13,7 +13,11 @@ use Rattle.store.specs.Chain.{cellAt, isVersion, versionOf, newest}
 use Rattle.cached.specs.Room.{Room, Head}
 use Rattle.cached.proofs.RoomLaws.{room-lower}
 
--- k and b are what the code read
+-- k, b and the low byte are what the code read
+pub holds-low : (c : List ℕ) (key n low : ℕ) → low ≡ cellAt c n .key % 256 → (low ≡ key % 256 → ⊥) → false ≡ versionOf c key n
+unfolding versionOf
+holds-low c key n low e h = simp (ne-eqb (cellAt c n .key) key (λ q. h (e ∙ ap (λ (k : ℕ). k % 256) q)), and-false)
+
 pub holds-not : (c : List ℕ) (key n k : ℕ) → k ≡ cellAt c n .key → (k ≡ key → ⊥) → false ≡ versionOf c key n
 unfolding versionOf
 holds-not c key n k e h = simp (← e, ne-eqb _ _ h, and-false)
