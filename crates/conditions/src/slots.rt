@@ -110,7 +110,7 @@ fn slot_ok(
     n: u64,
     next: u64,
     last: u64,
-    newest: &mut [u64],
+    newest: &mut [u16],
     times: &mut [u64],
 ) -> bool
     requires { ⌜ Ready blocks (length (now medium)) ⌝ }
@@ -128,10 +128,10 @@ fn slot_ok(
     }
     let key = cached::key_at(cache, n);
     let k = key as usize;
-    if newest[k] != cached::earlier_at(cache, n) {
+    if newest[k] as u64 != cached::earlier_at(cache, n) {
         return false;
     }
-    newest[k] = n;
+    newest[k] = n as u16;
     let time = time_of(medium, blocks, used, commits, slot);
     if !follows(times, key, time) {
         return false;
@@ -157,7 +157,7 @@ pub fn all_ok(
     requires { ⌜ (next ≡ nextNumber (now medium) blocks) × (last ≡ lastTime (now medium) blocks) ⌝ }
     ensures { λ r. ⌜ r ≡ allOf (slotOk (now (medium .entry)) blocks pages (now (cache .entry))) 0 (15 * pages) ⌝ }
 {
-    let mut newest = [65535u64; 1024];
+    let mut newest = [65535u16; 1024];
     let mut times = [0u64; 1024];
     let mut n: u64 = 0;
     while n < 15 * pages {

@@ -57,6 +57,9 @@ mul-if2 c = search needs
 slice-read-if2 : tie.Need-slice-read-if2
 slice-read-if2 c = search needs
 
+cast-if2 : tie.Need-cast-if2
+cast-if2 c = let b = c .slice-known3 .given (c .before .key-at .result) .fits in omega arith
+
 earlier-at-requires : tie.Need-earlier-at-requires
 earlier-at-requires c κs = search needs
 
@@ -67,6 +70,11 @@ returns-2 c =
       ok-earlier _ _ _ _ _ (k .key-at .result) _ _ _ (version (k .before)) (k .key-at .ensures) (c .before .earlier-at .ensures) (omega arith) (a .pre .1 .1 .1 .1 .1 .1) (c .if2 .taken),
       λ q. let z : _≡_ {A = ℕ} 0 1 = cc q in absurd (omega arith),
     )
+
+cast-newest : tie.Need-cast-newest
+cast-newest c =
+    let r = c .before .before .before .before .before .before .before .before .before .before .before .before .pre .1 .1 .0 in
+    omega (arith, r .below, r .few)
 
 mul-newest : tie.Need-mul-newest
 mul-newest c = search needs
@@ -131,8 +139,10 @@ slot-ok-spec =
     cast-k
     mul-if2
     slice-read-if2
+    cast-if2
     earlier-at-requires
     returns-2
+    cast-newest
     mul-newest
     slice-write-newest
     time-of-requires
