@@ -16,7 +16,6 @@ use Rattle.layout.specs.Page.{pageUsed, pageSlot, pageForm, pageEnd, putVersion
 use Rattle.layout.specs.Journal.{Record, version, commit, usedForm, recordForm, parsed}
 use Rattle.layout.specs.Master.{oldestOn}
 use Rattle.fields.proofs.Choose.{and-0, and-1}
-use Rattle.fields.proofs.PartLaws.{part-part}
 use Rattle.fields.proofs.FieldLaws.{Bytes}
 use Rattle.fields.proofs.EqualLaws.{zero-true}
 use Rattle.fields.proofs.BlockLaws.{length-blk}
@@ -32,6 +31,7 @@ use Rattle.store.specs.Chain.{cellAt}
 use Rattle.store.specs.OpenLog.{Placed, placeFrom, blockOf, loggedFrom, readCount, readLog, logEnd}
 use Rattle.store.specs.OpenRedo.{Redone, pagesOn, applies, redoIf, redoRecord, redoOne, redo}
 use Rattle.store.specs.OpenConditions.{lowAfterAll, copied, redone}
+use Rattle.store.proofs.CopyLaws.{page-copied}
 use Rattle.conditions.specs.Lookup.{KeysBelow}
 use Rattle.conditions.specs.Passes.{allOf, recordsOk, masterOk, blocksOk, pageOk, mediumOk}
 use Rattle.conditions.proofs.AllOfLaws.{all-at}
@@ -99,12 +99,6 @@ record Kept (d : ℕ) (c : List ℕ) : Type 0 where
   keys : KeysBelow c d
 
 module _ (m : List ℕ) (l d : ℕ) (long : length m ≡ mediumLength l d) (bytes : Bytes m) where
-  page-copied : (p : ℕ) → p < d → blk (pagesOn m l d) p ≡ blk m (pageBlockAt l p)
-  unfolding pagesOn blk pageBlockAt
-  page-copied p h =
-      let e : 512 * (3 + l) + 512 * p ≡ 512 * (3 + l + p) = omega arith in
-      part-part m (512 * (3 + l)) (512 * d) (512 * p) 512 (omega arith) ∙ rw e
-
   page-fine : (p i : ℕ) → p < d → i < 15 → pageOk m l d p ≡ true → cellOf (pageSlot (blk m (pageBlockAt l p)) i) .key < 1024
   unfolding pageOk
   page-fine p i h k e =
@@ -118,7 +112,7 @@ module _ (m : List ℕ) (l d : ℕ) (long : length m ≡ mediumLength l d) (byte
     size = simp (length-take, length-drop) (omega arith);
     keys = λ n h.
         let p : pageOf n < d = slot-page-below d n h in
-        rw (cache-slot (pagesOn m l d) n, page-copied (pageOf n) p)
+        rw (cache-slot (pagesOn m l d) n, page-copied m l d (pageOf n) p)
         (page-fine (pageOf n) (n % 15) p (omega arith) (all-at (pageOk m l d) 0 d (pageOf n) e (omega arith) (omega arith)));
   }
 

@@ -35,10 +35,10 @@ use Rattle.store.specs.Chain.{cellAt, versionOf, newest}
 use Rattle.store.specs.OpenLog.{Placed, placeFrom, blockOf, loggedFrom}
 use Rattle.store.specs.OpenRedo.{Redone, pagesOn, applies, redoIf, redoRecord, redoOne, redo}
 use Rattle.store.specs.OpenConditions.{each, formsOf, lowAfterAll, recordsFrom}
+use Rattle.store.proofs.CopyLaws.{page-copied}
 use Rattle.runs.specs.Event.{areBytes}
 use Rattle.runs.specs.Earlier.{headBefore, itemBefore, moreBefore, parseBefore, parsedBefore, recordFormBefore, formsBefore, loggedBefore, recordsBefore, oldWidth, oldRecord, oldLog, cellBefore, slotFormBefore, slotsFormBefore, pageFormBefore, cellAtBefore, versionOfBefore, newestBefore}
 use Rattle.runs.proofs.Lengths.{length-redo}
-use Rattle.runs.proofs.OpenFits.{page-copied}
 
 -- ---- one record
 

@@ -18,7 +18,7 @@ use Rattle.layout.specs.Table.{tablePair, pairForm}
 use Rattle.layout.specs.declared.CommitTime.{CommitTime}
 use Rattle.layout.specs.declared.item.VersionHead.{VersionHead}
 use Rattle.fields.proofs.Choose.{and-0, and-1}
-use Rattle.fields.proofs.PartLaws.{part-part, part-before}
+use Rattle.fields.proofs.PartLaws.{part-before}
 use Rattle.fields.proofs.BlockLaws.{length-blk}
 use Rattle.layout.proofs.PlaceLaws.{log-in-medium}
 use Rattle.layout.proofs.PageLaws.{page-form}
@@ -37,6 +37,7 @@ use Rattle.store.specs.OpenPairs.{tablePlaces, takeAt, takeFree, openPlaces}
 use Rattle.store.specs.OpenConditions.{Checks, holds, allHold, each, tableChecks, blockChecks, sizesAre, formsOf, fieldsInForm, sequencesInRange, conditions, wellFormed, copied, redone}
 use Rattle.store.specs.Open.{openedState, openOf}
 use Rattle.store.proofs.FitLaws.{InRange, TailFit, Fit, range-of, fit-is}
+use Rattle.store.proofs.CopyLaws.{page-copied}
 use Rattle.runs.proofs.Fitting.{empty-fits}
 use Rattle.runs.proofs.Lengths.{length-pagesOn}
 use Rattle.runs.proofs.Refusals.{Opening, bad-sizes, bad-cache, malformed, opened, opening-way}
@@ -159,13 +160,6 @@ matching-at m l s (suc k) n lo hi = go (eqb (sequenceOf (blockOf m l s)) s) refl
         further (no a) = let q : n ≡ s = omega arith in rw q (eqb-true (sequenceOf (blockOf m l s)) s t)
 
 -- ---- what the conditions say
-
--- a page copied is the medium's
-pub page-copied : (m : List ℕ) (l d p : ℕ) → p < d → blk (pagesOn m l d) p ≡ blk m (pageBlockAt l p)
-unfolding pagesOn blk pageBlockAt
-page-copied m l d p h =
-    let e : 512 * (3 + l) + 512 * p ≡ 512 * (3 + l + p) = omega arith in
-    rw e at (part-part m (512 * (3 + l)) (512 * d) (512 * p) 512 (omega arith))
 
 module _ (m : List ℕ) (l d : ℕ) (well : wellFormed m l d ≡ true) where
   fields-hold : holds (fieldsInForm m l d) ≡ true

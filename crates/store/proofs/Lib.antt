@@ -3,3 +3,4 @@ pub mod FitLaws
 pub mod SearchLaws
 pub mod ChainLaws
 pub mod LengthLaws
+pub mod CopyLaws

@@ -18,11 +18,12 @@ use Rattle.layout.specs.Slot.{Cell}
 use Rattle.layout.specs.Journal.{Record, version, commit}
 use Rattle.fields.proofs.CellLaws.{each-at}
 use Rattle.layout.proofs.CacheLaws.{length-putVersion}
-use Rattle.fields.proofs.PartLaws.{length-part, part-part}
+use Rattle.fields.proofs.PartLaws.{length-part}
 use Rattle.store.specs.Write.{cellFor, touched}
 use Rattle.store.specs.OpenLog.{Placed, readLog}
 use Rattle.store.specs.OpenRedo.{Redone, pagesOn, applies, redoIf, redoRecord, redo, redoOne, nextInPage, redoChecks, usedIn, untouched}
 use Rattle.store.specs.OpenConditions.{holds, redone, copied, appliedNext}
+use Rattle.store.proofs.CopyLaws.{page-copied}
 use Rattle.agreement.proofs.history.Ghost.{versionsOf, placeAll, LoggedVersion, asVersion, versionsIn, noVersion, at, waitingCell, endOfPage, pageWith, full, Disk, closedOf, tailOf}
 use Rattle.agreement.proofs.history.ListLaws.{split, same?}
 use Rattle.agreement.proofs.history.VersionLaws.{rise, near, seqs, versions-append, place-versions}
@@ -237,12 +238,6 @@ module _ {l d : ℕ} {m : List ℕ} {disk : Disk} (medium : OnMedium l d m disk 
       let r = rw (records-taken medium) at (near d (taken disk) (medium-taken medium .log .shape .sound) n) in
       omega (arith, r h, length-append (closedOf (disk .oldest) (disk .stored)) (tailOf (disk .oldest) (disk .stored) ∷ []))
 
-  page-copied : (p : ℕ) → p < d → blk (pagesOn m l d) p ≡ blk m (pageBlockAt l p)
-  unfolding pagesOn blk pageBlockAt
-  page-copied p h =
-      let e : 512 * (3 + l) + 512 * p ≡ 512 * (3 + l + p) = omega arith in
-      rw (part-part m (512 * (3 + l)) (512 * d) (512 * p) 512 (omega arith), e)
-
   untouched-at : (p : ℕ) → getD untouched p 0 ≡ 0
   unfolding untouched
   untouched-at p = go (split p 64)
@@ -263,7 +258,7 @@ module _ {l d : ℕ} {m : List ℕ} {disk : Disk} (medium : OnMedium l d m disk 
   unfolding copied
   start = record {
     size = copied-size;
-    pages = λ p h. page-copied p h ∙ medium .pages .page p h ∙ ap (pageWith vs (disk .cells) p) (on p (split (disk .on p) (full (length (versionsIn front)) p)));
+    pages = λ p h. page-copied m l d p h ∙ medium .pages .page p h ∙ ap (pageWith vs (disk .cells) p) (on p (split (disk .on p) (full (length (versionsIn front)) p)));
     firsts = record {
       size = untouched-size;
       noted = λ n h z. absurd (omega (arith, before n h, medium .pages .kept n (omega (arith, front-length)) z));
