@@ -8,7 +8,7 @@ pub mod Start
 pub mod opening
 pub mod reads
 pub mod Main
-pub mod OldMedia
+pub mod earlier
 pub mod plain
 pub mod stable
 pub mod relief

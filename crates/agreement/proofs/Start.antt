@@ -60,12 +60,12 @@ module _ (l d : ℕ) (r : inRange l d ≡ true) where
   abbrev first : Fields
   first = record { blocks = l; pages = d; oldest = 1; next = record { 0 = 1 }; last = record { 0 = 0 } }
 
-  master-block : blk (freshMedium l d) 0 ≡ masterBytes first
+  pub master-block : blk (freshMedium l d) 0 ≡ masterBytes first
   unfolding blk freshMedium
   master-block = take-append-le 512 (masterBytes first) _ (omega (arith, length-masterBytes first)) ∙ take-all 512 (masterBytes first) (omega (arith, length-masterBytes first))
 
   -- every other block is zeros
-  rest-zeros : (k : ℕ) → 0 < k → k < 3 + l + d → blk (freshMedium l d) k ≡ zeros 512
+  pub rest-zeros : (k : ℕ) → 0 < k → k < 3 + l + d → blk (freshMedium l d) k ≡ zeros 512
   unfolding blk freshMedium
   rest-zeros k h a =
       let e : 512 * k ≡ length (masterBytes first) + (512 * k - 512) = omega (arith, length-masterBytes first) in

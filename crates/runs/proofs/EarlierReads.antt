@@ -267,7 +267,7 @@ put-past : (c : List ℕ) (n e : ℕ) (v : Cell) → length c ≤ 512 * pageOf n
 unfolding putVersion put
 put-past c n e v h = splice-past c (512 * pageOf n) _ h
 
-byte-low : (v : Cell) → v .key < 256 → getD (slotBytes v) 3 0 ≡ 0
+pub byte-low : (v : Cell) → v .key < 256 → getD (slotBytes v) 3 0 ≡ 0
 unfolding slotBytes
 byte-low v h = omega arith
 

@@ -7,5 +7,5 @@ pub mod Plain
 pub mod Stable
 pub mod Relief
 pub mod Unstuck
-pub mod OldMedia
 pub mod Earlier
+pub mod OldMedia

@@ -1,5 +1,5 @@
 -- Old media: those that runs of the store as it was before #104 leave at a cut. Its writes logged tag 1 alone, with record numbers of
--- one byte; its other calls, on record numbers below 256, and its openings, on media without tag 3, were those of today.
+-- one byte; its openings had the readers of `Earlier`; its other calls, on record numbers below 256, were those of today.
 use Prim.Native.Nat.{ℕ, _*_}
 use mathlib.Core.Path.{_≡_}
 use mathlib.Core.Bool.{Bool, true, not, _&&_}
@@ -21,8 +21,9 @@ use Rattle.store.specs.Chain.{newest, held}
 use Rattle.store.specs.Write.{orNone, writeAt}
 use Rattle.runs.specs.Event.{Call, Event, opening, cut, call, begin, write, erase, current-read, commit, abort, as-of, changes, store-log, store-page, checkpoint, typed}
 use Rattle.runs.specs.Book.{Book, blank, fall, feed, Fits}
-use Rattle.runs.specs.Machine.{World, down, up, mediumOf, Step, called, after, seenOf, step, allowed, isRun, formatted}
+use Rattle.runs.specs.Machine.{World, down, up, mediumOf, Step, called, after, seenOf, opens, step, allowed, isRun, formatted}
 use Rattle.runs.specs.Demand.{Agrees}
+use Rattle.runs.specs.Earlier.{openBefore, Old}
 
 -- ---- the store as it was
 
@@ -89,7 +90,7 @@ oldTyped (call k) = typed (call k) && ofByte k
 module _ (l d : ℕ) where
   -- 01: "Each call gets the state, medium and cache that the call before it left"
   unfoldable pub oldStep : World → Event → Step
-  oldStep w (opening c) = step l d w (opening c)
+  oldStep w (opening c) = opens l d w (openBefore (mediumOf w) c l d)
   oldStep w cut = step l d w cut
   oldStep (down m) (call k) = step l d (down m) (call k)
   oldStep (up m c s) (call k) = record { world = after (oldCalled m c s k); seen = seenOf l m (oldCalled m c s k) [] }
@@ -122,12 +123,16 @@ module _ (l d : ℕ) where
   abbrev pub bookOver : List Event → Book
   bookOver es = fall (oldBook (formatted l d) blank es)
 
--- 02, #104: "Old media open unchanged, for their byte 3 is zero; new versions use tag 3 only": whatever a run of the store as it was
--- has left, every run from there agrees with the book that has come so far, and so had that run
+-- 02, #104: "Old media open unchanged, for their byte 3 is zero; new versions use tag 3 only": a run of the store as it was agrees with
+-- its book; what it has left at any moment is old, so that it opens as it did; and every run of today's store from there agrees with
+-- the book that has come so far
 pub record OldMedia : Type 0 where
   pub before : (l d : ℕ) → inRange l d ≡ true
       → (es : List Event) → isOldRun l d (formatted l d) es ≡ true
       → OldAgrees l d (formatted l d) blank es
+  pub left : (l d : ℕ) → inRange l d ≡ true
+      → (es : List Event) → isOldRun l d (formatted l d) es ≡ true
+      → Old (oldMedium l d es) l d
   pub since : (l d : ℕ) → inRange l d ≡ true
       → (es : List Event) → isOldRun l d (formatted l d) es ≡ true
       → (fs : List Event) → isRun l d (down (oldMedium l d es)) fs ≡ true

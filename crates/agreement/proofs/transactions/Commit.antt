@@ -227,7 +227,7 @@ module _ {l d : ℕ} {m c : List ℕ} {s : State} {b : Book} {disk : Disk} {clos
 
 module _ {l d : ℕ} {m c : List ℕ} {s : State} {b : Book} {disk : Disk} {closed : List (List Record)} {tail : List Record} (u : Up l d m c s b disk closed tail) where
   -- the record that the call takes is sound: its time is above the last one, and below 2^64 by the questions
-  taken : (n clock i : ℕ) → clock < 2 ^ 64 → findActive (s .places) n ≡ At i → s .last .0 < 2 ^ 64 - 1
+  pub taken : (n clock i : ℕ) → clock < 2 ^ 64 → findActive (s .places) n ≡ At i → s .last .0 < 2 ^ 64 - 1
       → Sound d (commit (record { number = record { 0 = n }; time = commitTime s i clock }))
   unfolding commitTime recordForm
   taken n clock i h f a = record {

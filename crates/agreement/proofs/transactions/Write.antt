@@ -238,7 +238,7 @@ module _ {l d : ℕ} {m c : List ℕ} {s : State} {b : Book} {disk : Disk} {clos
   not-true false e = refl
 
   -- the record that the call takes is sound by the questions and the types
-  taken : (width : Width) (n key kind i : ℕ) (v : List ℕ) → key < 256 ^ bytesOf width → keyForm key ≡ true → kind < 2 → length v ≡ 16 → Bytes v → kindForm kind v ≡ true
+  pub taken : (width : Width) (n key kind i : ℕ) (v : List ℕ) → key < 256 ^ bytesOf width → keyForm key ≡ true → kind < 2 → length v ≡ 16 → Bytes v → kindForm kind v ≡ true
       → findActive (s .places) n ≡ At i → s .slots < 15 * d → Sound d (versionRecord (headAs width s c n key kind) v)
   unfolding recordForm
   taken width n key kind i v hk low hd size bytes form f room = record {

@@ -1,0 +1,5 @@
+pub mod Blocks
+pub mod Rows
+pub mod Old
+pub mod Calls
+pub mod OldMedia
