@@ -103,6 +103,9 @@ module _ (m : List ℕ) (l d : ℕ) (old : Old m l d) where
         let q : length (pagesOn m l d) ≡ cacheLength d = length-pagesOn m l d size in
         low-redo d (copied m l d) (logBefore m l) q (rw log-same at records) (low-within (pagesOn m l d) d q (old .slots))
 
+    pub low-opened : Low (redone m l d .cache)
+    low-opened = rw redone-same low-redone
+
     history-same : historyTrue m l d (redone m l d .cache) ≡ historyBefore m l d
     unfolding historyTrue historyBefore
     history-same =

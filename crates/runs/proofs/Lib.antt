@@ -8,3 +8,4 @@ pub mod Named
 pub mod Lengths
 pub mod EarlierReads
 pub mod Earlier
+pub mod EarlierCalls

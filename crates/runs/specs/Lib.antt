@@ -8,4 +8,5 @@ pub mod Stable
 pub mod Relief
 pub mod Unstuck
 pub mod Earlier
+pub mod EarlierCalls
 pub mod OldMedia

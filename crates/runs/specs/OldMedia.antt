@@ -1,71 +1,23 @@
--- Old media: those that runs of the store as it was before #104 leave at a cut. Its writes logged tag 1 alone, with record numbers of
--- one byte; its openings had the readers of `Earlier`; its other calls, on record numbers below 256, were those of today.
-use Prim.Native.Nat.{ℕ, _*_}
+-- Old media: those that runs of the store as it was before #104 leave at a cut. Its openings are those of `Earlier`, its calls those of
+-- `EarlierCalls`, and what an opening finds is read as it was; its record numbers have one byte.
+use Prim.Native.Nat.{ℕ, zero, suc, _+_}
 use mathlib.Core.Path.{_≡_}
-use mathlib.Core.Bool.{Bool, true, not, _&&_}
-use mathlib.Core.Option.{Option, none, some}
+use mathlib.Core.Bool.{Bool, true, _&&_}
 use mathlib.Core.List.{List, [], _∷_}
-use lib.ListN.{length}
 use lib.Dec.{ltb}
-use Rattle.fields.specs.Block.{zeros}
-use Rattle.layout.specs.declared.item.Width.the-variants.{One}
-use Rattle.layout.specs.declared.item.VersionHead.{VersionHead}
-use Rattle.store.specs.declared.Refusal.{Refusal}
-use Rattle.store.specs.declared.Refusal.the-variants.{Unfit, NotActive, Held, NoSlot, LogFull}
-use Rattle.store.specs.declared.State.{State}
-use Rattle.store.specs.Answer.{Outcome, refuses, ask}
-use Rattle.store.specs.Places.{isAt, findActive}
-use Rattle.store.specs.State.{fits, inRange}
-use Rattle.store.specs.Tail.{mayLog}
-use Rattle.store.specs.Chain.{newest, held}
-use Rattle.store.specs.Write.{orNone, writeAt}
-use Rattle.runs.specs.Event.{Call, Event, opening, cut, call, begin, write, erase, current-read, commit, abort, as-of, changes, store-log, store-page, checkpoint, typed}
+use Rattle.store.specs.declared.Place.{Place}
+use Rattle.store.specs.Answer.{Outcome}
+use Rattle.store.specs.Places.{timeUnder}
+use Rattle.store.specs.State.{inRange}
+use Rattle.store.specs.Chain.{versionTime}
+use Rattle.runs.specs.Event.{Call, Event, opening, cut, call, begin, write, erase, current-read, commit, abort, as-of, changes, store-log, store-page, checkpoint, Sight, typed}
 use Rattle.runs.specs.Book.{Book, blank, fall, feed, Fits}
-use Rattle.runs.specs.Machine.{World, down, up, mediumOf, Step, called, after, seenOf, opens, step, allowed, isRun, formatted}
+use Rattle.runs.specs.Machine.{World, down, up, mediumOf, timeIn, Step, after, openedTo, seenOf, step, allowed, isRun, formatted}
 use Rattle.runs.specs.Demand.{Agrees}
-use Rattle.runs.specs.Earlier.{openBefore, Old}
+use Rattle.runs.specs.Earlier.{cellAtBefore, openBefore, Old}
+use Rattle.runs.specs.EarlierCalls.{oldCalled}
 
 -- ---- the store as it was
-
--- 01, 'Questions put to a call', without #104: no 18, and "may the log take it? 8" of a version record of 33 bytes
-abbrev pub oldAsks : State → List ℕ → List ℕ → ℕ → ℕ → List (Bool × Refusal)
-oldAsks s m c n key =
-    (fits s (length m) (length c), Unfit)
-    ∷ (isAt (findActive (s .places) n), NotActive)
-    ∷ (not (held c (s .places) (s .slots) key n), Held)
-    ∷ (ltb (s .slots) (15 * s .pages), NoSlot)
-    ∷ (mayLog s m 33, LogFull)
-    ∷ []
-
--- 01: "Tag 1, version", "record number (1)"
-unfoldable pub oldHead : State → List ℕ → ℕ → ℕ → ℕ → VersionHead
-oldHead s c n key kind = record {
-  width = One;
-  slot = s .slots;
-  key = key;
-  kind = kind;
-  earlier = orNone (newest c key (s .slots));
-  number = record { 0 = n };
-}
-
--- 01: "on "no", this number with zeros": a write or erase refused, or done at the number's place
-unfoldable pub oldIf : Option Refusal → State → List ℕ → List ℕ → ℕ → ℕ → ℕ → List ℕ → Outcome
-oldIf (some r) s m c n key kind value = refuses r s m c
-oldIf none s m c n key kind value = writeAt (findActive (s .places) n) s m c (oldHead s c n key kind) value
-
--- 01: "A write or erase takes the next slot and a version record"; 02, #104: other calls are as they were
-unfoldable pub oldCalled : List ℕ → List ℕ → State → Call → Outcome
-oldCalled m c s (begin k) = called m c s (begin k)
-oldCalled m c s (write n key v) = oldIf (ask (oldAsks s m c n key)) s m c n key 0 v
-oldCalled m c s (erase n key) = oldIf (ask (oldAsks s m c n key)) s m c n key 1 (zeros 16)
-oldCalled m c s (current-read n key) = called m c s (current-read n key)
-oldCalled m c s (commit n k) = called m c s (commit n k)
-oldCalled m c s (abort n) = called m c s (abort n)
-oldCalled m c s (as-of key t) = called m c s (as-of key t)
-oldCalled m c s (changes key t1 t2 b) = called m c s (changes key t1 t2 b)
-oldCalled m c s store-log = called m c s store-log
-oldCalled m c s (store-page p) = called m c s (store-page p)
-oldCalled m c s checkpoint = called m c s checkpoint
 
 -- 01: "record number (1)": is the record number that a call names one of a byte?
 abbrev pub ofByte : Call → Bool
@@ -87,10 +39,31 @@ oldTyped (opening c) = typed (opening c)
 oldTyped cut = typed cut
 oldTyped (call k) = typed (call k) && ofByte k
 
+-- 01: "each with its row's record, kind and value, and its time or none": what stands in slot n, by the earlier reader of a slot
+unfoldable pub oldSight : List ℕ → List Place → ℕ → Sight
+oldSight c ps n = record {
+  key = cellAtBefore c n .key;
+  kind = cellAtBefore c n .kind;
+  value = cellAtBefore c n .value;
+  time = timeIn (versionTime (timeUnder ps) (cellAtBefore c n .state));
+}
+
+-- 01: "as many used slots as version rows": what stands in the k slots from slot n on
+unfoldable pub oldSights : List ℕ → List Place → ℕ → ℕ → List Sight
+oldSights c ps n zero = []
+oldSights c ps n (suc k) = oldSight c ps n ∷ oldSights c ps (n + 1) k
+
 module _ (l d : ℕ) where
+  -- 01: "An opening brings the formatting's sizes and any cache"
+  unfoldable pub oldOpens : World → Outcome → Step
+  oldOpens w o = record {
+    world = openedTo (o .answer) w o;
+    seen = seenOf l (mediumOf w) o (oldSights (o .cache) (o .state .places) 0 (o .state .slots));
+  }
+
   -- 01: "Each call gets the state, medium and cache that the call before it left"
   unfoldable pub oldStep : World → Event → Step
-  oldStep w (opening c) = opens l d w (openBefore (mediumOf w) c l d)
+  oldStep w (opening c) = oldOpens w (openBefore (mediumOf w) c l d)
   oldStep w cut = step l d w cut
   oldStep (down m) (call k) = step l d (down m) (call k)
   oldStep (up m c s) (call k) = record { world = after (oldCalled m c s k); seen = seenOf l m (oldCalled m c s k) [] }

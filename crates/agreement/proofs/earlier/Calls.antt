@@ -38,6 +38,7 @@ use Rattle.runs.specs.Event.{Call, opening, begin, write, erase, current-read, 
 use Rattle.runs.specs.Book.{Book}
 use Rattle.runs.specs.Machine.{World, up, down, mediumOf, opens, openedTo}
 use Rattle.runs.proofs.Asks.{Way, refused, begins, writes, erases, looks, commits, ends, aborts, logs, pages, checks, asked}
+use Rattle.runs.proofs.EarlierCalls.{isAdding}
 use Rattle.runs.proofs.OneBlock.{length-stampedPage, length-tableBlock, page-length}
 use Rattle.agreement.proofs.history.Ghost.{Disk}
 use Rattle.agreement.proofs.invariant.Invariant.{Up}
@@ -57,20 +58,6 @@ abbrev pub KeptWorld : ℕ → World → Type 0
 KeptWorld l w = Kept l (mediumOf w) × ShortTail w
 
 -- ---- a call
-
--- the calls that log a version
-abbrev pub isAdding : Call → Bool
-isAdding (begin k) = false
-isAdding (write n key v) = true
-isAdding (erase n key) = true
-isAdding (current-read n key) = false
-isAdding (commit n k) = false
-isAdding (abort n) = false
-isAdding (as-of key t) = false
-isAdding (changes key t1 t2 b) = false
-isAdding store-log = false
-isAdding (store-page p) = false
-isAdding checkpoint = false
 
 module _ {l d : ℕ} {m c : List ℕ} {s : State} {b : Book} {disk : Disk} {closed : List (List Record)} {tail : List Record} (u : Up l d m c s b disk closed tail)
     (kept : Kept l m) (old : ShortBlock (s .tail)) where

@@ -1,12 +1,12 @@
 -- Every run from an old medium agrees with the book: the invariant says nothing of a record's width, so a write under tag 1 keeps it as
 -- one under tag 3 does, and what the store as it was leaves at a cut is a start like any other. Its medium is an old one at every
--- moment, so an opening as it was is the opening of today.
+-- moment, and byte 3 of its slots zero in the cache too, so that all but its writes is what it is today.
 use Prim.Native.Nat.{ℕ, _*_, _<_}
 use native.Mathlib.Omega.{arith}
-use mathlib.Core.Bool.{true, false, false≢true}
-use mathlib.Core.List.{List, [], _∷_}
+use mathlib.Core.Bool.{true, false, not, false≢true}
+use mathlib.Core.List.{List, [], _∷_, _++_}
 use mathlib.Core.Option.{Option}
-use mathlib.Core.Path.{_≡_, refl, sym, ap}
+use mathlib.Core.Path.{_≡_, refl, subst}
 use lib.Dec.{eqb}
 use lib.ListN.{length}
 use borrow.Author.Tests.{eqb-true, ltb-true, lt-ltb}
@@ -17,7 +17,7 @@ use Rattle.fields.proofs.CellLaws.{Each, bytes-zeros}
 use Rattle.fields.proofs.EqualLaws.{zero-zeros}
 use Rattle.layout.specs.Item.{bytesOf}
 use Rattle.layout.specs.Journal.{Record, version as versionRecord}
-use Rattle.layout.specs.Slot.{keyForm, kindForm}
+use Rattle.layout.specs.Slot.{kindForm}
 use Rattle.layout.specs.declared.item.Width.the-variants.{One}
 use Rattle.store.specs.declared.Found.{Found}
 use Rattle.store.specs.declared.Refusal.{Refusal}
@@ -25,27 +25,28 @@ use Rattle.store.specs.declared.State.{State}
 use Rattle.store.specs.Answer.{Outcome, refusalNumber, answerNumber, answerValue, ask}
 use Rattle.store.specs.Places.{findActive}
 use Rattle.store.specs.State.{inRange}
+use Rattle.store.specs.Chain.{held}
 use Rattle.store.specs.Write.{writeStep, writeAt, written}
 use Rattle.runs.specs.Event.{Call, Event, opening, cut, call, begin, write, erase, current-read, commit, abort, as-of, changes, store-log, store-page, checkpoint, areBytes, isWord, isRecord, callTyped, typed}
-use Rattle.runs.specs.Book.{Book, blank, version, versions, add, fall, entered, unlessRefused, feed, Fits}
-use Rattle.runs.specs.Machine.{World, up, down, mediumOf, after, seenOf, opens, step, allowed, isRun, formatted, logChanged}
+use Rattle.runs.specs.Book.{Book, Row, blank, version, versions, add, fall, entered, unlessRefused, feed, Fits}
+use Rattle.runs.specs.Machine.{World, up, down, mediumOf, after, seenOf, step, allowed, isRun, formatted, logChanged}
 use Rattle.runs.specs.Demand.{Agrees}
-use Rattle.runs.specs.Earlier.{OpensAsBefore}
-use Rattle.runs.specs.OldMedia.{oldAsks, oldHead, oldIf, oldCalled, ofByte, oldTyped, oldStep, isOldRun, oldWorld, oldBook, OldAgrees, OldMedia}
-use Rattle.runs.proofs.EarlierReads.{bytes-of}
-use Rattle.runs.proofs.Earlier.{opens-as-before}
+use Rattle.runs.specs.EarlierCalls.{oldAsks, oldHead, oldIf, oldCalled}
+use Rattle.runs.specs.OldMedia.{ofByte, oldTyped, oldStep, isOldRun, oldWorld, oldBook, OldAgrees, OldMedia}
+use Rattle.runs.proofs.EarlierReads.{bytes-of, Low, newest-same}
+use Rattle.runs.proofs.EarlierCalls.{isAdding, byte-form, held-same, call-same, opening-same}
 use Rattle.runs.proofs.Asks.{asked, found, way}
-use Rattle.agreement.proofs.history.Ghost.{Disk}
-use Rattle.agreement.proofs.invariant.Invariant.{Up, Down, Inv, running, fallen}
+use Rattle.agreement.proofs.history.Ghost.{records, Disk}
+use Rattle.agreement.proofs.invariant.Invariant.{SizesOn, Up, Down, Inv, running, fallen}
 use Rattle.agreement.proofs.transactions.Write.{headAs, slot-row, taken, wrote-as}
 use Rattle.agreement.proofs.reads.ReadFacts.{positive}
 use Rattle.agreement.proofs.Cut.{cut-down, fall-down}
 use Rattle.agreement.proofs.Start.{start}
 use Rattle.agreement.proofs.Main.{old-book, keeps, runs}
 use Rattle.agreement.proofs.earlier.Blocks.{ShortBlock, Kept, kept-logged}
-use Rattle.agreement.proofs.earlier.Rows.{LowRow, low-feed}
+use Rattle.agreement.proofs.earlier.Rows.{LowRow, low-feed, low-versions, low-cache}
 use Rattle.agreement.proofs.earlier.Old.{old-medium}
-use Rattle.agreement.proofs.earlier.Calls.{KeptWorld, isAdding, by-way, kept-opening, kept-start}
+use Rattle.agreement.proofs.earlier.Calls.{KeptWorld, by-way, kept-opening, kept-start}
 
 -- ---- what holds at every moment of a run
 
@@ -61,13 +62,8 @@ OldKeeps l d w b e =
 
 -- ---- a version under tag 1
 
--- a record number of one byte is below 1,024
-byte-form : (key : ℕ) → key < 256 → keyForm key ≡ true
-unfolding keyForm
-byte-form key h = lt-ltb key 1024 (omega arith)
-
 module _ {l d : ℕ} {m c : List ℕ} {s : State} {b : Book} {disk : Disk} {closed : List (List Record)} {tail : List Record} (u : Up l d m c s b disk closed tail)
-    (kept : Kept l m) (short : ShortBlock (s .tail)) where
+    (kept : Kept l m) (short : ShortBlock (s .tail)) (low : Low c) where
   -- the slot answered is the version's row, and the book has one row more where the call is not refused
   abbrev Adds : ℕ → ℕ → ℕ → List ℕ → Outcome → Type 0
   Adds n key kind v o =
@@ -76,65 +72,76 @@ module _ {l d : ℕ} {m c : List ℕ} {s : State} {b : Book} {disk : Disk} {clos
       (add b (version (record { number = n; key = key; kind = kind; value = v })) (logChanged l m (o .medium)) (b .opened)))
       × KeptWorld l (after o)
 
+  -- the head that it logs, with both readers
+  head-same : (n key kind : ℕ) → oldHead s c n key kind ≡ headAs One s c n key kind
+  unfolding oldHead
+  head-same n key kind = rw (newest-same c low key (s .slots))
+
   added : (n key kind : ℕ) (v : List ℕ) → key < 256 → kind < 2 → length v ≡ 16 → Bytes v → kindForm kind v ≡ true
       → Adds n key kind v (oldIf (ask (oldAsks s m c n key)) s m c n key kind v)
-  unfolding oldIf oldHead answerNumber answerValue writeStep written bytesOf
-  added n key kind v low hd size bytes form =
+  unfolding oldIf answerNumber answerValue writeStep written bytesOf
+  added n key kind v byte hd size bytes form =
       asked (λ (a : Option Refusal). Adds n key kind v (oldIf a s m c n key kind v)) (oldAsks s m c n key)
       (λ r e. (λ z. absurd (omega (arith, positive r)), rw (old-book (refusalNumber r) b _ (positive r)) (running u), (kept, short)))
-      (λ p. found (λ (f : Found). Adds n key kind v (writeAt f s m c (oldHead s c n key kind) v)) (findActive (s .places) n) (p .1 .0)
+      (λ p. rw (head-same n key kind) (found (λ (f : Found). Adds n key kind v (writeAt f s m c (headAs One s c n key kind) v)) (findActive (s .places) n) (p .1 .0)
       (λ i f.
+      let free : not (held c (s .places) (s .slots) key n) ≡ true = rw (held-same m c s low key n) at (p .1 .1 .0) in
       let room : s .slots < 15 * d = omega (arith, ltb-true (s .slots) (15 * s .pages) (p .1 .1 .1 .0), u .state .pages) in (
         λ z. slot-row u,
-        wrote-as u One n key kind i v low (byte-form key low) hd size bytes form f (p .1 .1 .0) (p .1 .1 .1 .0) (p .1 .1 .1 .1 .0),
-        kept-logged u (versionRecord (headAs One s c n key kind) v) (taken u One n key kind i v low (byte-form key low) hd size bytes form f room .sized) refl short kept,
-      )))
+        wrote-as u One n key kind i v byte (byte-form key byte) hd size bytes form f free (p .1 .1 .1 .0) (p .1 .1 .1 .1 .0),
+        kept-logged u (versionRecord (headAs One s c n key kind) v) (taken u One n key kind i v byte (byte-form key byte) hd size bytes form f room .sized) refl short kept,
+      ))))
 
 -- ---- an event
 
--- the calls that were as they are
-same-call : {l d : ℕ} {m c : List ℕ} {s : State} {b : Book} (x : Call) → Inv l d (up m c s) b → KeptWorld l (up m c s) → isAdding x ≡ false → callTyped x ≡ true
-    → oldStep l d (up m c s) (call x) ≡ step l d (up m c s) (call x) → OldKeeps l d (up m c s) b (call x)
-unfolding typed
-same-call {l} {d} {m} {c} {s} {b} x (running u) k h t q =
-    let e = keeps l d (up m c s) b (call x) (running u) refl t in
-    rw q (e .0, e .1, unfold step in by-way u (k .0) (k .1) h t (way m c s x))
+module _ {l d : ℕ} {m c : List ℕ} {s : State} {b : Book} {disk : Disk} {closed : List (List Record)} {tail : List Record} (u : Up l d m c s b disk closed tail)
+    (kept : Kept l m) (short : ShortBlock (s .tail)) (rows : Each LowRow (b .rows)) where
+  low : Low c
+  low = low-cache (u .medium) (low-versions (records (closed ++ (tail ∷ []))) (subst (λ (rs : List Row). Each LowRow rs) (u .rows) rows)) (u .cache)
 
-call-keeps : (l d : ℕ) (m c : List ℕ) (s : State) (b : Book) (x : Call) → Inv l d (up m c s) b → KeptWorld l (up m c s) → callTyped x ≡ true → ofByte x ≡ true
-    → OldKeeps l d (up m c s) b (call x)
-unfolding oldStep oldCalled step feed seenOf entered callTyped kindForm
-call-keeps l d m c s b (begin k) i w t h = same-call (begin k) i w refl t refl
-call-keeps l d m c s b (write n key v) (running u) w t h =
-    let t1 = and-1 (isWord n) _ t in
-    let t2 = and-1 (isRecord key) _ t1 in
-    added u (w .0) (w .1) n key 0 v (ltb-true key 256 h) (omega arith) (eqb-true (length v) 16 (and-0 (eqb (length v) 16) (areBytes v) t2)) (bytes-of v (and-1 (eqb (length v) 16) (areBytes v) t2)) refl
-call-keeps l d m c s b (erase n key) (running u) w t h =
-    added u (w .0) (w .1) n key 1 (zeros 16) (ltb-true key 256 h) (omega arith) refl (bytes-zeros 16) (zero-zeros 16)
-call-keeps l d m c s b (current-read n key) i w t h = same-call (current-read n key) i w refl t refl
-call-keeps l d m c s b (commit n k) i w t h = same-call (commit n k) i w refl t refl
-call-keeps l d m c s b (abort n) i w t h = same-call (abort n) i w refl t refl
-call-keeps l d m c s b (as-of key k) i w t h = same-call (as-of key k) i w refl t refl
-call-keeps l d m c s b (changes key t1 t2 y) i w t h = same-call (changes key t1 t2 y) i w refl t refl
-call-keeps l d m c s b store-log i w t h = same-call store-log i w refl t refl
-call-keeps l d m c s b (store-page p) i w t h = same-call (store-page p) i w refl t refl
-call-keeps l d m c s b checkpoint i w t h = same-call checkpoint i w refl t refl
+  -- the calls that are as they were
+  same : (x : Call) → isAdding x ≡ false → callTyped x ≡ true → ofByte x ≡ true → OldKeeps l d (up m c s) b (call x)
+  unfolding typed oldStep step
+  same x a t h =
+      let k = keeps l d (up m c s) b (call x) (running u) refl t in
+      rw (call-same m c s low x a h) (k .0, k .1, by-way u kept short a t (way m c s x))
 
-some-blocks : {l d : ℕ} {w : World} {b : Book} → Inv l d w b → 0 < l
-some-blocks (running u) = omega (arith, u .medium .sizes .range .blocks-low)
-some-blocks (fallen x) = omega (arith, x .medium .sizes .range .blocks-low)
+  call-keeps : (x : Call) → callTyped x ≡ true → ofByte x ≡ true → OldKeeps l d (up m c s) b (call x)
+  unfolding oldStep oldCalled feed seenOf entered callTyped kindForm
+  call-keeps (begin k) t h = same (begin k) refl t h
+  call-keeps (write n key v) t h =
+      let t1 = and-1 (isWord n) _ t in
+      let t2 = and-1 (isRecord key) _ t1 in
+      added u kept short low n key 0 v (ltb-true key 256 h) (omega arith) (eqb-true (length v) 16 (and-0 (eqb (length v) 16) (areBytes v) t2)) (bytes-of v (and-1 (eqb (length v) 16) (areBytes v) t2)) refl
+  call-keeps (erase n key) t h = added u kept short low n key 1 (zeros 16) (ltb-true key 256 h) (omega arith) refl (bytes-zeros 16) (zero-zeros 16)
+  call-keeps (current-read n key) t h = same (current-read n key) refl t h
+  call-keeps (commit n k) t h = same (commit n k) refl t h
+  call-keeps (abort n) t h = same (abort n) refl t h
+  call-keeps (as-of key k) t h = same (as-of key k) refl t h
+  call-keeps (changes key t1 t2 y) t h = same (changes key t1 t2 y) refl t h
+  call-keeps store-log t h = same store-log refl t h
+  call-keeps (store-page p) t h = same (store-page p) refl t h
+  call-keeps checkpoint t h = same checkpoint refl t h
 
--- an opening as it was is that of today, for the medium is an old one
-same-opening : {l d : ℕ} {w : World} {b : Book} (y : List ℕ) → Holds l d w b → oldStep l d w (opening y) ≡ step l d w (opening y)
-unfolding oldStep step OpensAsBefore
-same-opening {l} {d} {w} y h = ap (opens l d w) (sym (opens-as-before (mediumOf w) y l d (old-medium (h .inv) (h .kept .0) (h .low))))
+sizes-on : {l d : ℕ} {w : World} {b : Book} → Inv l d w b → SizesOn l d (mediumOf w)
+sizes-on (running u) = u .medium .sizes
+sizes-on (fallen x) = x .medium .sizes
+
+open-keeps : {l d : ℕ} {w : World} {b : Book} (y : List ℕ) → Holds l d w b → allowed l d w (opening y) ≡ true → typed (opening y) ≡ true → OldKeeps l d w b (opening y)
+unfolding oldStep step
+open-keeps {l} {d} {w} {b} y i a t =
+    let k = keeps l d w b (opening y) (i .inv) a t in
+    let z = sizes-on (i .inv) in
+    rw (opening-same l d w y (old-medium (i .inv) (i .kept .0) (i .low)) (z .size)) (k .0, k .1, kept-opening l d w y (omega (arith, z .range .blocks-low)) (i .kept))
 
 old-keeps : (l d : ℕ) (w : World) (b : Book) (e : Event) → Holds l d w b → allowed l d w e ≡ true → oldTyped e ≡ true → OldKeeps l d w b e
 unfolding oldTyped typed
-old-keeps l d w b (opening y) i a t =
-    let k = keeps l d w b (opening y) (i .inv) a t in
-    rw (same-opening y i) (k .0, k .1, unfold step in kept-opening l d w y (some-blocks (i .inv)) (i .kept))
+old-keeps l d w b (opening y) i a t = open-keeps y i a t
 old-keeps l d w b cut i a t = let k = keeps l d w b cut (i .inv) a t in unfold oldStep step in (k .0, k .1, (i .kept .0, tt))
-old-keeps l d (up m c s) b (call x) i a t = call-keeps l d m c s b x (i .inv) (i .kept) (and-0 (callTyped x) (ofByte x) t) (and-1 (callTyped x) (ofByte x) t)
+old-keeps l d (up m c s) b (call x) i a t = go (i .inv)
+  where
+    go : Inv l d (up m c s) b → OldKeeps l d (up m c s) b (call x)
+    go (running u) = call-keeps u (i .kept .0) (i .kept .1) (i .low) x (and-0 (callTyped x) (ofByte x) t) (and-1 (callTyped x) (ofByte x) t)
 old-keeps l d (down m) b (call x) i a t = absurd (false≢true a)
 
 -- ---- a run
