@@ -1,30 +1,35 @@
 -- The calls as they were are those of today, but for writes and erases, on a record number of one byte and a cache in which byte 3 of
--- every slot is zero: both readers then find the same newest version of a record, and question 18 is passed. So is what an opening finds.
-use Prim.Native.Nat.{ℕ, zero, suc, _+_, _<_}
+-- every slot is zero: both readers then find the same newest version of a record, and question 18 is passed. So is what an opening
+-- finds. Written with such a record number, a slot and a record of tag 1 are the bytes that they were.
+use Prim.Native.Nat.{ℕ, zero, suc, _+_, _/_, _%_, _<_}
 use native.Mathlib.Omega.{arith}
 use mathlib.Core.Bool.{Bool, true, false, false≢true}
-use mathlib.Core.List.{List, _∷_}
+use mathlib.Core.List.{List, [], _∷_}
 use mathlib.Core.Option.{Option, none, some}
 use mathlib.Core.Path.{_≡_, refl, sym, ap, _∙_}
 use lib.ListN.{length}
-use borrow.Author.Tests.{eqb-true, ltb-true, lt-ltb}
+use borrow.Author.Tests.{ltb-true, lt-ltb}
+use Rattle.fields.specs.Field.{enc}
 use Rattle.fields.specs.Block.{mediumLength}
-use Rattle.fields.proofs.Choose.{and-1}
-use Rattle.layout.specs.Slot.{keyForm}
+use Rattle.layout.specs.Item.{bytesOf, tagOf}
+use Rattle.layout.specs.Journal.{version, versionBody, recordBytes}
+use Rattle.layout.specs.Slot.{Cell, slotBytes, keyForm}
+use Rattle.layout.specs.declared.item.Width.the-variants.{One}
+use Rattle.layout.specs.declared.item.VersionHead.{VersionHead}
 use Rattle.store.specs.declared.Place.{Place}
 use Rattle.store.specs.declared.Refusal.{Refusal}
 use Rattle.store.specs.declared.State.{State}
 use Rattle.store.specs.Answer.{ask}
 use Rattle.store.specs.State.{noState}
 use Rattle.store.specs.Chain.{held}
-use Rattle.store.specs.CurrentRead.{currentAsks, currentIf, currentOf}
-use Rattle.store.specs.AsOf.{asOfAsks, asOfIf, asOfOf}
-use Rattle.store.specs.Changes.{Line, changeLines, changesAsks, changesIf, changesOf}
+use Rattle.store.specs.CurrentRead.{currentIf, currentOf}
+use Rattle.store.specs.AsOf.{asOfIf, asOfOf}
+use Rattle.store.specs.Changes.{changeLines, changesOf}
 use Rattle.store.specs.Open.{openAsks, openedState, openIf, openOf}
-use Rattle.runs.specs.Event.{Call, Sight, begin, write, erase, current-read, commit, abort, as-of, changes, store-log, store-page, checkpoint}
+use Rattle.runs.specs.Event.{Call, begin, write, erase, current-read, commit, abort, as-of, changes, store-log, store-page, checkpoint}
 use Rattle.runs.specs.Machine.{World, mediumOf, called, opens, sightAt, sightsFrom}
 use Rattle.runs.specs.Earlier.{Old, OpensAsBefore, openBefore}
-use Rattle.runs.specs.EarlierCalls.{heldBefore, oldHead, oldCurrentAsks, oldCurrentIf, oldAsOfAsks, oldAsOfIf, oldLines, oldChangesAsks, oldCalled}
+use Rattle.runs.specs.EarlierCalls.{heldBefore, oldCurrentAsks, oldCurrentIf, oldAsOfAsks, oldAsOfIf, oldLines, oldCalled, slotBefore, versionBefore, WritesAsBefore}
 use Rattle.runs.specs.OldMedia.{ofByte, oldSight, oldSights, oldOpens}
 use Rattle.runs.proofs.Asks.{asked}
 use Rattle.runs.proofs.EarlierReads.{Low, at-same, newest-same}
@@ -106,3 +111,23 @@ opening-same l d w y old size =
     ∙ asked (λ (a : Option Refusal). oldOpens l d w (openIf a (mediumOf w) y l d) ≡ opens l d w (openIf a (mediumOf w) y l d)) (openAsks (mediumOf w) y l d)
     (λ r e. unfold oldOpens opens openIf noState oldSights sightsFrom in refl)
     (λ p. unfold oldOpens opens openIf openedState in rw (sights-same _ _ (low-opened (mediumOf w) l d old size) 0 _))
+
+-- ---- the bytes that were written
+
+slot-as-before : (c : Cell) → c .key < 256 → slotBytes c ≡ slotBefore c
+unfolding slotBytes slotBefore
+slot-as-before c h =
+    let a : c .key % 256 ≡ c .key = omega arith in
+    let b : c .key / 256 % 256 ≡ 0 = omega arith in
+    rw (a, b)
+
+enc-one : (n : ℕ) → n < 256 → enc 1 n ≡ n ∷ []
+unfolding enc
+enc-one n h = let a : n % 256 ≡ n = omega arith in rw a
+
+version-as-before : (h : VersionHead) (v : List ℕ) → h .width ≡ One → h .key < 256 → recordBytes (version h v) ≡ versionBefore h v
+unfolding recordBytes versionBefore versionBody tagOf bytesOf
+version-as-before h v w k = rw (w, enc-one (h .key) k)
+
+pub writes-as-before : WritesAsBefore
+writes-as-before = record { slot = slot-as-before; logged = version-as-before }

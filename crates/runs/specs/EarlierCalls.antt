@@ -1,12 +1,17 @@
 -- The calls as they were before request #104: no question 18, a version record of 33 bytes under tag 1, and a record's newest version
--- by the earlier reader of a slot. What reads no record number is the store's own: states, earlier slots, kinds and values of slots.
-use Prim.Native.Nat.{ℕ, suc, _*_}
+-- by the earlier reader of a slot. What reads no record number is the store's own, and so are the writers of a slot and of a record.
+use Prim.Native.Nat.{ℕ, suc, _*_, _<_}
 use mathlib.Core.Bool.{Bool, not}
 use mathlib.Core.Option.{Option, none, some}
-use mathlib.Core.List.{List, [], _∷_}
+use mathlib.Core.List.{List, [], _∷_, _++_}
+use mathlib.Core.Path.{_≡_}
 use lib.ListN.{length}
 use lib.Dec.{leb, ltb}
+use Rattle.fields.specs.Field.{enc}
 use Rattle.fields.specs.Block.{zeros}
+use Rattle.layout.specs.Item.{itemBytes}
+use Rattle.layout.specs.Journal.{version, recordBytes}
+use Rattle.layout.specs.Slot.{Cell, codeOf, sharedField, slotBytes}
 use Rattle.layout.specs.declared.item.Width.the-variants.{One}
 use Rattle.layout.specs.declared.item.VersionHead.{VersionHead}
 use Rattle.store.specs.declared.Place.{Place}
@@ -109,3 +114,22 @@ oldCalled m c s (changes key t1 t2 b) =
 oldCalled m c s store-log = called m c s store-log
 oldCalled m c s (store-page p) = called m c s (store-page p)
 oldCalled m c s checkpoint = called m c s checkpoint
+
+-- ---- the bytes that were written
+
+-- 01: "Slot bytes: 0 state, 1 record number, 2 kind (0 present, 1 erased), 3 zero, 4-5 earlier slot of that record (65535: none), 6-7
+-- zero, 8-15 number or time, 16-31 value"
+unfoldable pub slotBefore : Cell → List ℕ
+slotBefore c =
+    codeOf (c .state) ∷ c .key ∷ c .kind ∷ 0 ∷
+    (enc 2 (c .earlier) ++ (0 ∷ 0 ∷ (enc 8 (sharedField (c .state)) ++ c .value)))
+
+-- 01: "Tag 1, version, body 30 bytes: slot (2), record number (1), kind (1), earlier slot (2), transaction number (8), value (16)"
+unfoldable pub versionBefore : VersionHead → List ℕ → List ℕ
+versionBefore h v =
+    itemBytes 1 (enc 2 (h .slot) ++ (h .key ∷ h .kind ∷ (enc 2 (h .earlier) ++ (enc 8 (h .number .0) ++ v))))
+
+-- 02, #104: "Old media": on a record number of one byte the store writes a slot, and under tag 1 a version record, as it did
+pub record WritesAsBefore : Type 0 where
+  pub slot : (c : Cell) → c .key < 256 → slotBytes c ≡ slotBefore c
+  pub logged : (h : VersionHead) (v : List ℕ) → h .width ≡ One → h .key < 256 → recordBytes (version h v) ≡ versionBefore h v

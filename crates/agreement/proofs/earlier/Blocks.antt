@@ -1,11 +1,11 @@
 -- What stands before the pages of a medium is bytes, and each log block holds records of tag 1 and commits alone. A call stores at
 -- most one block, and one that it stores in the log is the tail, which grew by such records: so this is kept, whatever is stored.
-use Prim.Native.Nat.{ℕ, _+_, _-_, _*_, _≤_, _<_}
+use Prim.Native.Nat.{ℕ, _+_, _-_, _≤_, _<_}
 use native.Mathlib.Omega.{arith}
 use mathlib.Core.Bool.{Bool, true, false}
 use mathlib.Core.List.{List, [], _∷_, _++_}
 use mathlib.Core.Logic.{_⊎_, inl, inr, _≢_}
-use mathlib.Core.Path.{_≡_, refl, sym, ap, _∙_, subst}
+use mathlib.Core.Path.{_≡_, refl, sym, subst}
 use lib.ListN.{length}
 use borrow.Author.Tests.{leb-true}
 use Rattle.fields.specs.Field.{enc, dec}
@@ -21,7 +21,6 @@ use Rattle.layout.specs.declared.item.Width.{Width}
 use Rattle.layout.specs.declared.item.Width.the-variants.{One, Two}
 use Rattle.layout.proofs.RecordLaws.{RecordSized, bytes-few}
 use Rattle.layout.proofs.JournalLaws.{parsed-logBytes, length-emptyBlock, used-emptyBlock, parsed-emptyBlock, parsed-addRecord}
-use Rattle.layout.proofs.PlaceLaws.{log-block-low}
 use Rattle.layout.proofs.TableLaws.{bytes-pairBytes}
 use Rattle.store.specs.declared.State.{State}
 use Rattle.store.specs.Tail.{tailFits, storedTail, loggedIf, logged}
@@ -32,7 +31,7 @@ use Rattle.agreement.proofs.history.Ghost.{Sound, Disk}
 use Rattle.agreement.proofs.history.ListLaws.{same?}
 use Rattle.agreement.proofs.history.PlacingLaws.{block-size}
 use Rattle.agreement.proofs.logging.GrowthLaws.{fits-up, tail-sound}
-use Rattle.agreement.proofs.invariant.Invariant.{SizesOn, Up}
+use Rattle.agreement.proofs.invariant.Invariant.{Up}
 
 -- ---- a block
 

@@ -1,42 +1,38 @@
--- Each event of a run of the store as it was keeps the blocks before the pages and the tail as they are to be. A call stores nothing, or the
+-- Every event but a write or an erase keeps the blocks before the pages, and the tail, free of tag 3. A call stores nothing, or the
 -- tail, a page, a block of pairs or a master; the tail of an opening is a block of the log, or empty.
 use Prim.Native.Nat.{ℕ, zero, suc, _+_, _-_, _^_, _<_}
 use native.Mathlib.Omega.{arith}
-use mathlib.Core.Bool.{Bool, true, false, false≢true}
-use mathlib.Core.List.{List, [], _∷_}
-use mathlib.Core.Option.{Option, none, some}
+use mathlib.Core.Bool.{true, false, false≢true}
+use mathlib.Core.List.{List}
+use mathlib.Core.Option.{Option}
 use mathlib.Core.Path.{_≡_, refl, sym, _∙_}
 use lib.Dec.{ltb}
-use lib.ListN.{length}
 use borrow.Author.Tests.{ltb-true}
-use Rattle.fields.specs.Block.{blk, pageBlockAt, zeros}
+use Rattle.fields.specs.Block.{blk, pageBlockAt}
 use Rattle.fields.proofs.Choose.{and-1}
-use Rattle.fields.proofs.CellLaws.{Each, bytes-zeros}
-use Rattle.layout.specs.Journal.{Record, version, commit as commitRecord}
-use Rattle.layout.specs.Master.{masterBytes, oldestOn}
+use Rattle.fields.proofs.CellLaws.{bytes-zeros}
+use Rattle.layout.specs.Journal.{Record}
+use Rattle.layout.specs.Master.{oldestOn}
 use Rattle.layout.proofs.MasterLaws.{length-masterBytes, bytes-masterBytes}
 use Rattle.layout.proofs.PlaceLaws.{page-block-low}
-use Rattle.layout.proofs.RecordLaws.{RecordSized}
 use Rattle.layout.proofs.TableLaws.{bytes-pairs}
 use Rattle.store.specs.declared.Phase.{Phase}
 use Rattle.store.specs.declared.Phase.the-variants.{Idle, FirstStored, SecondStored}
-use Rattle.store.specs.declared.Place.{Place}
 use Rattle.store.specs.declared.Refusal.{Refusal}
 use Rattle.store.specs.declared.State.{State}
-use Rattle.store.specs.Answer.{Outcome, ask}
+use Rattle.store.specs.Answer.{Outcome}
 use Rattle.store.specs.State.{inRange, withPlace, withPhase}
 use Rattle.store.specs.Begin.{begun}
-use Rattle.store.specs.Write.{writeStep, written}
-use Rattle.store.specs.Commit.{commitStep, committed, commitTime}
+use Rattle.store.specs.Commit.{commitStep, committed}
 use Rattle.store.specs.StoreLog.{storeLogIf, logStored}
-use Rattle.store.specs.StorePage.{storePageIf, pageStored, stampedPage}
+use Rattle.store.specs.StorePage.{storePageIf, pageStored}
 use Rattle.store.specs.Checkpoint.{pairsFrom, tableBlock, checkpointStep}
 use Rattle.store.specs.Open.{openAsks, openIf, openOf, openedState}
-use Rattle.store.specs.OpenLog.{blockOf, readCount, tailAfter, readTail}
+use Rattle.store.specs.OpenLog.{readCount, tailAfter, readTail}
 use Rattle.store.specs.Format.{freshMedium}
-use Rattle.runs.specs.Event.{Call, opening, begin, write, erase, current-read, commit, abort, as-of, changes, store-log, store-page, checkpoint, callTyped}
+use Rattle.runs.specs.Event.{Call, callTyped}
 use Rattle.runs.specs.Book.{Book}
-use Rattle.runs.specs.Machine.{World, up, down, mediumOf, opens, openedTo}
+use Rattle.runs.specs.Machine.{World, up, down, mediumOf, opens}
 use Rattle.runs.proofs.Asks.{Way, refused, begins, writes, erases, looks, commits, ends, aborts, logs, pages, checks, asked}
 use Rattle.runs.proofs.EarlierCalls.{isAdding}
 use Rattle.runs.proofs.OneBlock.{length-stampedPage, length-tableBlock, page-length}
@@ -44,7 +40,7 @@ use Rattle.agreement.proofs.history.Ghost.{Disk}
 use Rattle.agreement.proofs.invariant.Invariant.{Up}
 use Rattle.agreement.proofs.transactions.Commit.{taken}
 use Rattle.agreement.proofs.Start.{master-block, rest-zeros}
-use Rattle.agreement.proofs.earlier.Blocks.{Short, ShortBlock, KeptBlock, Kept, kept-put, short-empty, short-zeros, kept-tail, kept-logged}
+use Rattle.agreement.proofs.earlier.Blocks.{ShortBlock, KeptBlock, Kept, kept-put, short-empty, short-zeros, kept-tail, kept-logged}
 use Rattle.agreement.proofs.earlier.Old.{short-block}
 
 -- ---- a world

@@ -1,6 +1,6 @@
 -- Every run from an old medium agrees with the book: the invariant says nothing of a record's width, so a write under tag 1 keeps it as
 -- one under tag 3 does, and what the store as it was leaves at a cut is a start like any other. Its medium is an old one at every
--- moment, and byte 3 of its slots zero in the cache too, so that all but its writes is what it is today.
+-- moment, and byte 3 of every slot is zero in its cache too: so its openings, and its calls but for writes, are those of today.
 use Prim.Native.Nat.{ℕ, _*_, _<_}
 use native.Mathlib.Omega.{arith}
 use mathlib.Core.Bool.{true, false, not, false≢true}
@@ -9,7 +9,7 @@ use mathlib.Core.Option.{Option}
 use mathlib.Core.Path.{_≡_, refl, subst}
 use lib.Dec.{eqb}
 use lib.ListN.{length}
-use borrow.Author.Tests.{eqb-true, ltb-true, lt-ltb}
+use borrow.Author.Tests.{eqb-true, ltb-true}
 use Rattle.fields.specs.Block.{zeros}
 use Rattle.fields.proofs.Choose.{and-0, and-1}
 use Rattle.fields.proofs.FieldLaws.{Bytes}

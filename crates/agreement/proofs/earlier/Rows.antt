@@ -5,8 +5,8 @@ use native.Mathlib.Omega.{arith}
 use mathlib.Core.Bool.{Bool, true, false}
 use mathlib.Core.List.{List, [], _∷_, _++_}
 use mathlib.Core.Logic.{_⊎_, inl, inr}
-use mathlib.Core.Path.{_≡_, refl, sym, ap, _∙_}
-use lib.ListN.{length, take, drop, getD, length-take, length-drop}
+use mathlib.Core.Path.{_≡_, sym, ap, _∙_}
+use lib.ListN.{length, take, drop, getD, length-take}
 use borrow.Author.Tests.{ltb-true}
 use Rattle.fields.specs.Block.{blk, pageBlockAt, pageOf}
 use Rattle.fields.proofs.Choose.{and-1}
@@ -14,7 +14,6 @@ use Rattle.fields.proofs.FieldLaws.{Bytes}
 use Rattle.fields.proofs.CellLaws.{Each, each-append, each-at}
 use Rattle.layout.specs.Journal.{Record, version as versionRecord, commit as commitRecord}
 use Rattle.layout.specs.Page.{pageSlot, cacheSlot}
-use Rattle.layout.specs.Slot.{Cell, slotBytes}
 use Rattle.layout.proofs.PageLaws.{free-pageBytes, bytes-pageBytes}
 use Rattle.layout.proofs.CacheLaws.{cache-slot}
 use Rattle.layout.proofs.SlotLaws.{SlotSized}
