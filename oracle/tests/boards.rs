@@ -1,16 +1,16 @@
 //! Handovers (request #101) in random histories, and wrong ones, each of which must be found out.
 
-use oracle::boards::*;
 use oracle::disk::room::{Change, Room, Turn};
+use oracle::fuzz::shrink::failure;
 use oracle::fuzz::{report, run_seed, Handovers};
+use oracle::handover::boards::*;
+use oracle::history::profiles::{by_name, Profile};
 use oracle::history::History;
 use oracle::judge::Strictness;
-use oracle::layout::changed_blocks;
-use oracle::machine::Line;
-use oracle::profiles::{by_name, Profile};
-use oracle::rules::{Rules, Sound};
+use oracle::script::machine::Line;
 use oracle::script::put_line;
-use oracle::shrink::failure;
+use oracle::store::layout::changed_blocks;
+use oracle::store::rules::{Rules, Sound};
 use std::collections::BTreeMap;
 
 fn sectors() -> &'static Profile {

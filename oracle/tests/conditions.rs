@@ -1,10 +1,10 @@
 //! Near misses of opening's ten conditions, each with the block of the first item at fault.
 
 use oracle::damage::crowd;
-use oracle::layout::*;
-use oracle::machine::{Line, Machine};
-use oracle::open::{open, Fault};
-use oracle::rules::Sound;
+use oracle::script::machine::{Line, Machine};
+use oracle::store::layout::*;
+use oracle::store::open::{open, Fault};
+use oracle::store::rules::Sound;
 
 const LOG: usize = 4 * BLOCK;
 const PAGE: usize = 6 * BLOCK;

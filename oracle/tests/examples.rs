@@ -309,7 +309,7 @@ fn sixty_four_live() {
 #[test]
 fn stripbook_listing() {
     let mut out = Vec::new();
-    oracle::stripbook::run(b"B 10\nW 1 7 65\nC 1 5\nQ 7 10\nX\nQ 7 10\n", &mut out);
+    oracle::script::stripbook::run(b"B 10\nW 1 7 65\nC 1 5\nQ 7 10\nX\nQ 7 10\n", &mut out);
     assert_eq!(out, b"B 0 1\nW 0 0\nC 0 10\nQ 10 -\nX 0 0\nQ 10 -\n");
 }
 
@@ -317,7 +317,7 @@ fn stripbook_listing() {
 fn stripbook_forms() {
     let run = |text: &str| {
         let mut out = Vec::new();
-        oracle::stripbook::run(text.as_bytes(), &mut out);
+        oracle::script::stripbook::run(text.as_bytes(), &mut out);
         String::from_utf8(out).unwrap()
     };
     assert_eq!(run(""), "");

@@ -1,9 +1,9 @@
 //! Handovers (request #101) by example.
 
-use oracle::machine::{Line, Machine, Reply};
-use oracle::rules::Sound;
+use oracle::script::machine::{Line, Machine, Reply};
 use oracle::script::{parse, put_line, run};
-use oracle::state::*;
+use oracle::store::rules::Sound;
+use oracle::store::state::*;
 
 const LAST: u64 = u64::MAX;
 
@@ -382,5 +382,5 @@ fn forms() {
     out.clear();
     run(b"F 2 1\nO 0\nH 7 1 2 1 1\nX\nH 7 1 2 1 1\nO 0\n", &mut out);
     assert_eq!(out, b"F 0 0\nO 0 0\nH 17 -\nX 0 0\n");
-    assert_eq!(oracle::stripbook::parse(b"H 7 1 2 1 1"), None);
+    assert_eq!(oracle::script::stripbook::parse(b"H 7 1 2 1 1"), None);
 }

@@ -6,10 +6,10 @@ use oracle::bench::growth::growth_script;
 use oracle::bench::rooms::rooms_script;
 use oracle::damage::{self, Tally};
 use oracle::fuzz::{report, run_seed, Reached};
+use oracle::history::profiles::{by_name, by_seed, PROFILES};
+use oracle::history::scripts::{script, stripbook_script, Options};
 use oracle::judge::Strictness;
-use oracle::profiles::{by_name, by_seed, PROFILES};
-use oracle::rules::Sound;
-use oracle::scripts::{script, stripbook_script, Options};
+use oracle::store::rules::Sound;
 
 #[test]
 fn histories_agree_with_the_book() {
@@ -109,8 +109,8 @@ fn stripbook_scripts_end_at_a_line_of_another_form() {
         let whole = stripbook_script(seed, 100, false);
         let ended = stripbook_script(seed, 100, true);
         let (mut out, mut same) = (Vec::new(), Vec::new());
-        oracle::stripbook::run(&whole, &mut out);
-        oracle::stripbook::run(&ended, &mut same);
+        oracle::script::stripbook::run(&whole, &mut out);
+        oracle::script::stripbook::run(&ended, &mut same);
         assert_eq!(out, same);
         assert_eq!(out.iter().filter(|&&byte| byte == b'\n').count(), 100);
     }
@@ -121,7 +121,7 @@ fn stripbook_scripts_end_at_a_line_of_another_form() {
 fn stripbook_scripts_find_strips_of_stored_times() {
     for seed in 0..40 {
         let mut out = Vec::new();
-        oracle::stripbook::run(&stripbook_script(seed, 2000, false), &mut out);
+        oracle::script::stripbook::run(&stripbook_script(seed, 2000, false), &mut out);
         let mut lines = out.split(|&byte| byte == b'\n');
         let found = lines.any(|line| line.starts_with(b"Q 0 ") && !line.ends_with(b"-"));
         assert!(found, "seed {seed}");

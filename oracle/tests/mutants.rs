@@ -1,12 +1,12 @@
 //! Wrong stores, each caught by the book and by asking again what was answered.
 
-use oracle::answered::Answered;
+use oracle::fuzz::shrink::failure;
 use oracle::fuzz::{report, run_seed, Disagreement};
+use oracle::history::profiles::by_seed;
+use oracle::judge::answered::Answered;
 use oracle::judge::Strictness;
-use oracle::machine::{Line, Machine};
-use oracle::profiles::by_seed;
-use oracle::rules::*;
-use oracle::shrink::failure;
+use oracle::script::machine::{Line, Machine};
+use oracle::store::rules::*;
 
 const SEEDS: std::ops::Range<u64> = 0..75;
 const CALLS: u64 = 1500;

@@ -1,12 +1,12 @@
 //! Media from before request #104: they open as they did, and the store goes on with them.
 
-use oracle::going_on::go_on;
 use oracle::judge::Verdict;
-use oracle::layout::*;
-use oracle::old_media::*;
-use oracle::rules::{Rules, Sound};
-use oracle::widths::{Before, KindAsHigh, TagOneRefused};
-use oracle::{media, old_media};
+use oracle::media::going_on::go_on;
+use oracle::media::old::*;
+use oracle::media::{self, old};
+use oracle::store::layout::*;
+use oracle::store::rules::{Rules, Sound};
+use oracle::store::widths::{Before, KindAsHigh, TagOneRefused};
 use std::path::Path;
 
 fn all_kept() -> Vec<Kept> {
@@ -101,7 +101,7 @@ const SEEDS: u64 = 240;
 
 fn compare_all<R: Rules>(seeds: std::ops::Range<u64>) -> Verdict<Counts> {
     let mut counts = Counts::default();
-    for left in seeds.flat_map(old_media::random) {
+    for left in seeds.flat_map(old::random) {
         compare::<R>(&left, &mut counts)?;
     }
     Ok(counts)
@@ -129,7 +129,7 @@ fn wrong_readers_of_tag_one_are_found_out() {
         assert!(found.is_some());
     }
     // And the media that are passed over would differ.
-    let damaged = (0..SEEDS).flat_map(old_media::random);
+    let damaged = (0..SEEDS).flat_map(old::random);
     let other = damaged.filter(|left| !is_old(&left.medium, left.sizes));
     let opens = |left: &Left| {
         let opened = |play: fn(&[u8], &[u8]) -> Vec<u8>| play(&left.medium, b"O 0\n");

@@ -1,11 +1,11 @@
 //! Refusals that no history reaches, and the forms of the script language.
 
-use oracle::layout::*;
-use oracle::machine::{Line, Machine};
-use oracle::rules::Sound;
-use oracle::state::*;
-use oracle::transactions::{abort, begin, commit};
-use oracle::{chain, checkpoint, journal, pages};
+use oracle::script::machine::{Line, Machine};
+use oracle::store::layout::*;
+use oracle::store::rules::Sound;
+use oracle::store::state::*;
+use oracle::store::transactions::{abort, begin, commit};
+use oracle::store::{chain, checkpoint, journal, pages};
 
 fn opened() -> (State, Vec<u8>, Vec<u8>) {
     let mut machine = Machine::<Sound>::default();
@@ -33,9 +33,9 @@ fn refused_as_misfit(state: &State, medium: &[u8], cache: &[u8]) {
     let (s, m, c) = (&mut after, &mut medium_after[..], &mut cache_after[..]);
     let value = [0; 16];
     assert_eq!(begin(s, m, c, 1), Err(MISFIT));
-    let written = oracle::transactions::write::<Sound>(s, m, c, (1, 1024), &value);
+    let written = oracle::store::transactions::write::<Sound>(s, m, c, (1, 1024), &value);
     assert_eq!(written, Err(MISFIT));
-    let erased = oracle::transactions::erase::<Sound>(s, m, c, (1, 1024));
+    let erased = oracle::store::transactions::erase::<Sound>(s, m, c, (1, 1024));
     assert_eq!(erased, Err(MISFIT));
     assert_eq!(commit::<Sound>(s, m, c, 1, 1), Err(MISFIT));
     assert_eq!(abort(s, m, c, 1), Err(MISFIT));

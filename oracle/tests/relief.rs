@@ -1,21 +1,21 @@
 //! Ways out of a full log (request #114): in random histories, at the ends, and wrong ones, each of which
 //! must be found out.
 
-use oracle::checkpoint::new_oldest;
-use oracle::journal::check_store;
+use oracle::history::profiles::{by_seed, FULL};
 use oracle::judge::Verdict;
-use oracle::layout::*;
-use oracle::machine::{Line, Machine, Reply};
-use oracle::pages::may_store;
-use oracle::profiles::{by_seed, FULL};
 use oracle::random::Random;
 use oracle::relief::freed::{judge, run_seed, Freed, Tally, WayOut};
 use oracle::relief::room::{expect, lay, Next, Room, MOST_CALLS, WORDS};
 use oracle::relief::rooms::rooms;
 use oracle::relief::same::{compare, compare_ends, Counts};
 use oracle::relief::{list, longest, most, next, ONE_MORE};
-use oracle::rules::{KeepFirstChange, Rules, Sound};
-use oracle::state::*;
+use oracle::script::machine::{Line, Machine, Reply};
+use oracle::store::checkpoint::new_oldest;
+use oracle::store::journal::check_store;
+use oracle::store::layout::*;
+use oracle::store::pages::may_store;
+use oracle::store::rules::{KeepFirstChange, Rules, Sound};
+use oracle::store::state::*;
 use std::collections::BTreeMap;
 
 #[test]

@@ -1,7 +1,7 @@
 //! What `striproom` must do where `replay` says nothing: the file that is missing, empty, cut, or kept.
 
 use oracle::disk::room::{Change, Room, Turn};
-use oracle::layout::BLOCK;
+use oracle::store::layout::BLOCK;
 
 fn play(room: &mut Room, line: &str) -> (Turn, String) {
     let mut text = Vec::new();

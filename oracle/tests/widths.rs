@@ -1,11 +1,11 @@
 //! Stores that take the record numbers of request #104 wrongly, each of which must be caught.
 
+use oracle::fuzz::shrink::failure;
 use oracle::fuzz::{report, run_seed, Disagreement};
+use oracle::history::profiles::by_seed;
 use oracle::judge::Strictness;
-use oracle::profiles::by_seed;
-use oracle::rules::{Rules, Sound};
-use oracle::shrink::failure;
-use oracle::widths::*;
+use oracle::store::rules::{Rules, Sound};
+use oracle::store::widths::*;
 
 const SEEDS: u64 = 15;
 const CALLS: u64 = 600;

@@ -2,11 +2,11 @@
 //! transaction to a commit.
 
 use crate::bench::filler::{Filler, Size};
-use crate::layout::*;
-use crate::machine::{Line, Machine, Reply};
-use crate::rules::Sound;
+use crate::script::machine::{Line, Machine, Reply};
 use crate::script::parse;
-use crate::words::{lines, put_hex};
+use crate::script::words::{lines, put_hex};
+use crate::store::layout::*;
+use crate::store::rules::Sound;
 
 const SIZE: Size = Size {
     log_blocks: MAX_LOG_BLOCKS,

@@ -1,11 +1,11 @@
 //! Fills a medium by transactions of one version, the records in rotation, and notes the script.
 
-use crate::journal::check_room;
-use crate::layout::*;
-use crate::machine::{Line, Machine, Reply};
-use crate::rules::Sound;
+use crate::script::machine::{Line, Machine, Reply};
 use crate::script::put_line;
-use crate::state::State;
+use crate::store::journal::check_room;
+use crate::store::layout::*;
+use crate::store::rules::Sound;
+use crate::store::state::State;
 
 #[derive(Clone, Copy, Debug)]
 pub struct Size {

@@ -1,9 +1,9 @@
 //! The bench's scripts of one call, over a medium filled to a given size.
 
 use crate::bench::filler::{Filler, Size};
-use crate::layout::*;
-use crate::machine::{Line, MAX_BUFFER};
+use crate::script::machine::{Line, MAX_BUFFER};
 use crate::script::put_line;
+use crate::store::layout::*;
 
 /// So many versions of the last page wait under a number that stays open.
 const OPEN_VERSIONS: usize = 7;

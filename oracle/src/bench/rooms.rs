@@ -2,13 +2,13 @@
 //!
 //! No call in it is refused, and no record is written twice by one transaction or twice alike.
 
-use crate::chain::{self, Strip};
-use crate::layout::*;
-use crate::machine::{Line, Machine};
 use crate::random::Random;
-use crate::rules::Sound;
+use crate::script::machine::{Line, Machine};
 use crate::script::put_line;
-use crate::state::*;
+use crate::store::chain::{self, Strip};
+use crate::store::layout::*;
+use crate::store::rules::Sound;
+use crate::store::state::*;
 
 /// How many record numbers a room uses.
 const IN_USE: u64 = 60;

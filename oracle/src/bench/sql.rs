@@ -4,10 +4,10 @@
 //! their clocks. One SQL transaction goes from store to store of the log, so that a cut is its
 //! rollback. Page stores, checkpoints and openings have no counterpart, refused calls neither.
 
-use crate::machine::{Line, Machine, Reply};
-use crate::rules::Sound;
+use crate::script::machine::{Line, Machine, Reply};
 use crate::script::parse;
-use crate::words::{lines, put_hex};
+use crate::script::words::{lines, put_hex};
+use crate::store::rules::Sound;
 
 const SCHEMA: &str = "\
 .mode list

@@ -2,8 +2,8 @@
 //! whatever else it is doing.
 
 use crate::bench::commits::{self, Commit, Way};
-use crate::layout::{RecordNumber, BLOCK, MAX_SLOTS};
 use crate::script;
+use crate::store::layout::{RecordNumber, BLOCK, MAX_SLOTS};
 use std::fs::File;
 use std::io::{ErrorKind, Read, Write};
 use std::os::fd::AsRawFd;

@@ -5,7 +5,7 @@ use crate::disk::process::{Folder, Setup};
 use crate::disk::program::*;
 use crate::disk::unfit::{medium, modelled, place};
 use crate::disk::{locks, stores, unfit};
-use crate::layout::*;
+use crate::store::layout::*;
 use std::ffi::OsStr;
 use std::os::unix::fs::{symlink, PermissionsExt};
 use std::path::Path;

@@ -6,7 +6,7 @@ use crate::disk::process::Setup;
 use crate::disk::session::shown;
 use crate::disk::verdict::{Allowed, Chain, Fate};
 use crate::random::Random;
-use crate::words::lines;
+use crate::script::words::lines;
 
 /// A script whose last line stores a block, and what an opening finds where that line is done and where
 /// it is not: the last time, and the owner of flight 7.

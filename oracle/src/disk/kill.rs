@@ -6,11 +6,11 @@ use crate::disk::room::{Change, Room, Turn};
 use crate::disk::same::save;
 use crate::disk::session::{difference, shown};
 use crate::disk::verdict::{Allowed, Chain, Fate};
-use crate::machine::Machine;
-use crate::profiles::by_seed;
+use crate::history::profiles::by_seed;
+use crate::history::scripts::{script_from, Options};
 use crate::random::Random;
-use crate::scripts::{script_from, Options};
-use crate::words::lines;
+use crate::script::machine::Machine;
+use crate::script::words::lines;
 use std::path::Path;
 use std::time::{Duration, Instant};
 

@@ -3,16 +3,16 @@
 use crate::disk::kill::ask;
 use crate::disk::process::Setup;
 use crate::disk::session::{difference, shown, Counts, Session};
-use crate::going_on::go_on;
-use crate::layout::{get16, Width, MASTER_LOG_BLOCKS, MASTER_PAGES};
-use crate::machine::Machine;
+use crate::history::scripts::{script_from, Options, NEW_PROCESS};
+use crate::media::going_on::go_on;
+use crate::media::old::{is_old, kept, play, random, widths};
 use crate::media::probe;
-use crate::old_media::{is_old, kept, play, random, widths};
 use crate::random::Random;
+use crate::script::machine::Machine;
 use crate::script::put_line;
-use crate::scripts::{script_from, Options, NEW_PROCESS};
-use crate::widths::Before;
-use crate::words::lines;
+use crate::script::words::lines;
+use crate::store::layout::{get16, Width, MASTER_LOG_BLOCKS, MASTER_PAGES};
+use crate::store::widths::Before;
 use std::path::Path;
 
 pub struct Effort {

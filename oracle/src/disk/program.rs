@@ -2,9 +2,9 @@
 
 use crate::disk::room::{Change, RoomOf, Turn};
 use crate::disk::spoilt::Spoilt;
-use crate::layout::{BLOCK, MAX_MEDIUM};
-use crate::rules::{Rules, Sound};
-use crate::widths::*;
+use crate::store::layout::{BLOCK, MAX_MEDIUM};
+use crate::store::rules::{Rules, Sound};
+use crate::store::widths::*;
 use std::fs::{File, OpenOptions};
 use std::io::{BufRead, ErrorKind, Write};
 use std::os::fd::FromRawFd;

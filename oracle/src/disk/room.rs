@@ -1,10 +1,10 @@
 //! What `striproom` must do with a line: what it prints, and which bytes of the file it changes.
 
-use crate::layout::*;
-use crate::machine::{Line, Machine, Reply};
-use crate::rules::{Rules, Sound};
+use crate::script::machine::{Line, Machine, Reply};
 use crate::script::{parse, put_reply};
-use crate::state::SIZES;
+use crate::store::layout::*;
+use crate::store::rules::{Rules, Sound};
+use crate::store::state::SIZES;
 
 /// What a line asks of the file.
 #[derive(Clone, Copy, PartialEq, Eq, Debug)]

@@ -2,10 +2,10 @@
 
 use crate::disk::process::Setup;
 use crate::disk::session::{Counts, Session};
-use crate::layout::*;
+use crate::history::scripts::{script, Options, NEW_PROCESS};
 use crate::random::Random;
-use crate::scripts::{script, Options, NEW_PROCESS};
-use crate::words::lines;
+use crate::script::words::lines;
+use crate::store::layout::*;
 use std::path::{Path, PathBuf};
 
 /// How the lines of a script reach the program.

@@ -3,7 +3,7 @@
 use crate::disk::process::{Process, Setup};
 use crate::disk::room::{Change, Room, Turn};
 use crate::disk::trace::Reader;
-use crate::record_numbers::writes_high;
+use crate::history::record_numbers::writes_high;
 use crate::script::parse;
 use std::path::{Path, PathBuf};
 

@@ -3,8 +3,8 @@
 use crate::disk::program::{print, Program, Trouble, NOT_STORED, NOT_WRITTEN, NO_FILE};
 use crate::disk::room::{Change, RoomOf};
 use crate::disk::session::hands;
-use crate::layout::{log_block, BLOCK, FIRST_LOG_BLOCK};
-use crate::rules::Rules;
+use crate::store::layout::{log_block, BLOCK, FIRST_LOG_BLOCK};
+use crate::store::rules::Rules;
 
 macro_rules! spoilt {
     ($($(#[$about:meta])* $kind:ident $name:literal,)*) => {

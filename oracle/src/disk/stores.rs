@@ -7,11 +7,11 @@ use crate::disk::program::*;
 use crate::disk::room::{Change, Room, Turn};
 use crate::disk::session::difference;
 use crate::disk::unfit::{medium, modelled, place};
-use crate::layout::*;
-use crate::machine::Machine;
+use crate::history::scripts::{script_from, Options};
 use crate::random::Random;
-use crate::scripts::{script_from, Options};
-use crate::words::lines;
+use crate::script::machine::Machine;
+use crate::script::words::lines;
+use crate::store::layout::*;
 use std::path::{Path, PathBuf};
 use std::process::Command;
 

@@ -1,7 +1,7 @@
 //! The calls that a program made, and those that lines ask of it.
 
 use crate::disk::room::Change;
-use crate::layout::BLOCK;
+use crate::store::layout::BLOCK;
 
 #[derive(Clone, PartialEq, Eq, Debug)]
 pub struct Call {

@@ -4,14 +4,14 @@ use crate::damage::damage;
 use crate::disk::launch::{Launch, Wanted};
 use crate::disk::program::NO_FILE;
 use crate::disk::room::{Room, Turn};
+use crate::history::profiles::by_seed;
+use crate::history::scripts::{script_from, Options};
 use crate::history::History;
-use crate::layout::*;
-use crate::machine::Machine;
-use crate::profiles::by_seed;
 use crate::random::Random;
-use crate::rules::Sound;
-use crate::scripts::{script_from, Options};
-use crate::words::lines;
+use crate::script::machine::Machine;
+use crate::script::words::lines;
+use crate::store::layout::*;
+use crate::store::rules::Sound;
 use std::path::Path;
 
 /// A file's bytes before a case, put in place.

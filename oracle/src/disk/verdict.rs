@@ -3,12 +3,12 @@
 use crate::disk::room::{Change, Room, Turn};
 use crate::disk::session::{difference, hands, shown};
 use crate::judge::{Judge, Strictness};
-use crate::layout::{all_zero, RecordNumber, BLOCK, RECORDS};
-use crate::machine::{Line, Machine, Reply};
 use crate::random::Random;
-use crate::rules::Sound;
+use crate::script::machine::{Line, Machine, Reply};
 use crate::script::{parse, put_line, put_reply};
-use crate::state::Checkpoint;
+use crate::store::layout::{all_zero, RecordNumber, BLOCK, RECORDS};
+use crate::store::rules::Sound;
+use crate::store::state::Checkpoint;
 use std::collections::BTreeSet;
 
 /// What became of the line under way.

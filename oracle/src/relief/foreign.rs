@@ -2,9 +2,9 @@
 //! each question of the calls is met from both sides.
 
 use super::room::*;
-use crate::checkpoint::new_oldest;
-use crate::layout::*;
 use crate::random::Random;
+use crate::store::checkpoint::new_oldest;
+use crate::store::layout::*;
 
 struct Foreign {
     room: Room,

@@ -2,13 +2,13 @@
 //! the next one names, and then the refused call is made again.
 
 use super::{left_of, list, most, next, ONE_MORE};
+use crate::history::profiles::Profile;
 use crate::history::History;
 use crate::judge::{demand, Verdict};
-use crate::layout::*;
-use crate::machine::{Line, Machine, Reply};
-use crate::profiles::Profile;
-use crate::rules::Rules;
-use crate::state::*;
+use crate::script::machine::{Line, Machine, Reply};
+use crate::store::layout::*;
+use crate::store::rules::Rules;
+use crate::store::state::*;
 use std::fmt;
 
 /// A way out of a full log: the whole list, and the next call of it.

@@ -7,13 +7,13 @@ pub mod room;
 pub mod rooms;
 pub mod same;
 
-use crate::checkpoint::new_oldest;
-use crate::journal;
-use crate::layout::*;
-use crate::machine::{Line, Machine, Reply};
-use crate::pages;
-use crate::rules::Rules;
-use crate::state::*;
+use crate::script::machine::{Line, Machine, Reply};
+use crate::store::checkpoint::new_oldest;
+use crate::store::journal;
+use crate::store::layout::*;
+use crate::store::pages;
+use crate::store::rules::Rules;
+use crate::store::state::*;
 
 /// "A checkpoint is three calls".
 pub const ONE_MORE: usize = 3;

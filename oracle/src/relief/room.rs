@@ -1,15 +1,15 @@
 //! A room as the program `relief` is given it and prints it: the lengths of medium and cache, the 448
 //! words that hold the state, the tail, the medium and the cache. Any words hold a state.
 
-use crate::checkpoint::checkpoint;
-use crate::journal::store_log;
-use crate::layout::*;
-use crate::machine::Line;
-use crate::pages::store_page;
-use crate::rules::Sound;
+use crate::script::machine::Line;
 use crate::script::put_line;
-use crate::state::*;
-use crate::words::put_number;
+use crate::script::words::put_number;
+use crate::store::checkpoint::checkpoint;
+use crate::store::journal::store_log;
+use crate::store::layout::*;
+use crate::store::pages::store_page;
+use crate::store::rules::Sound;
+use crate::store::state::*;
 
 pub const WORDS: usize = 448;
 pub const MAX_CACHE: usize = BLOCK * MAX_PAGES;

@@ -4,12 +4,12 @@
 use super::foreign::edited;
 use super::longest;
 use super::room::{lay, Room, WORDS};
+use crate::history::profiles::{by_seed, Profile, FULL};
 use crate::history::History;
-use crate::machine::{Machine, Reply};
-use crate::profiles::{by_seed, Profile, FULL};
 use crate::random::Random;
-use crate::rules::Sound;
-use crate::state::LOG_FULL;
+use crate::script::machine::{Machine, Reply};
+use crate::store::rules::Sound;
+use crate::store::state::LOG_FULL;
 
 pub struct Sample {
     pub room: Room,
