@@ -24,7 +24,7 @@ type Sync = extern "C" fn(c_int) -> c_int;
 
 fn opened(path: *const c_char, flags: c_int, mode: c_int) -> c_int {
     // The address is that of the C library's function of this type.
-    let call: Open = unsafe { std::mem::transmute(real(c"open")) };
+    let call: Open = unsafe { std::mem::transmute(real(Name::Open)) };
     if flags & UPDATES == 0 {
         return call(path, flags, mode);
     }
@@ -32,21 +32,21 @@ fn opened(path: *const c_char, flags: c_int, mode: c_int) -> c_int {
 }
 
 fn read_at(fd: c_int, to: *mut c_void, count: usize, at: i64) -> isize {
-    let call: Read = unsafe { std::mem::transmute(real(c"pread")) };
+    let call: Read = unsafe { std::mem::transmute(real(Name::Pread)) };
     around(Name::Pread, [fd.into(), at, count as i64], |short| {
         call(fd, to, short.unwrap_or(count).min(count), at)
     })
 }
 
 fn write_at(fd: c_int, from: *const c_void, count: usize, at: i64) -> isize {
-    let call: Write = unsafe { std::mem::transmute(real(c"pwrite")) };
+    let call: Write = unsafe { std::mem::transmute(real(Name::Pwrite)) };
     around(Name::Pwrite, [fd.into(), at, count as i64], |short| {
         call(fd, from, short.unwrap_or(count).min(count), at)
     })
 }
 
 fn resize(fd: c_int, length: i64) -> c_int {
-    let call: Resize = unsafe { std::mem::transmute(real(c"ftruncate")) };
+    let call: Resize = unsafe { std::mem::transmute(real(Name::Ftruncate)) };
     around(Name::Ftruncate, [fd.into(), 0, length], |_| {
         call(fd, length) as isize
     }) as c_int
@@ -76,13 +76,13 @@ exported! {
 
 #[no_mangle]
 pub extern "C" fn fdatasync(fd: c_int) -> c_int {
-    let call: Sync = unsafe { std::mem::transmute(real(c"fdatasync")) };
+    let call: Sync = unsafe { std::mem::transmute(real(Name::Fdatasync)) };
     around(Name::Fdatasync, [fd.into(), 0, 0], |_| call(fd) as isize) as c_int
 }
 
 #[no_mangle]
 pub extern "C" fn write(fd: c_int, from: *const c_void, count: usize) -> isize {
-    let call: Plain = unsafe { std::mem::transmute(real(c"write")) };
+    let call: Plain = unsafe { std::mem::transmute(real(Name::Write)) };
     let noted = [fd.into(), 0, count as i64];
     if fd != 1 {
         note(Name::Write, noted);

@@ -1,7 +1,7 @@
 //! What is asked for by the environment, and the calls counted so far.
 
 use std::ffi::{c_char, c_int, c_void, CStr, CString};
-use std::sync::atomic::{AtomicU64, Ordering};
+use std::sync::atomic::{AtomicPtr, AtomicU64, Ordering};
 use std::sync::OnceLock;
 
 extern "C" {
@@ -22,7 +22,14 @@ const FAR: c_int = 200;
 /// O_WRONLY, O_CREAT, O_APPEND.
 const NOTES: c_int = 0o1 | 0o100 | 0o2000;
 
-const NAMES: [&str; 6] = ["open", "pread", "pwrite", "ftruncate", "fdatasync", "write"];
+const NAMES: [&CStr; 6] = [
+    c"open",
+    c"pread",
+    c"pwrite",
+    c"ftruncate",
+    c"fdatasync",
+    c"write",
+];
 
 #[derive(Clone, Copy)]
 pub enum Name {
@@ -32,6 +39,12 @@ pub enum Name {
     Ftruncate,
     Fdatasync,
     Write,
+}
+
+impl Name {
+    fn text(self) -> &'static str {
+        NAMES[self as usize].to_str().unwrap_or_default()
+    }
 }
 
 #[derive(Clone, Copy, PartialEq)]
@@ -51,9 +64,18 @@ struct Plan {
 static PLAN: OnceLock<Plan> = OnceLock::new();
 static COUNTS: [AtomicU64; 6] = [const { AtomicU64::new(0) }; 6];
 
+/// The C library's own functions, as far as they were looked up.
+static REAL: [AtomicPtr<c_void>; 6] = [const { AtomicPtr::new(std::ptr::null_mut()) }; 6];
+
 /// The C library's own function.
-pub fn real(name: &CStr) -> *mut c_void {
-    unsafe { dlsym(NEXT, name.as_ptr()) }
+pub fn real(name: Name) -> *mut c_void {
+    let known = &REAL[name as usize];
+    let mut function = known.load(Ordering::Relaxed);
+    if function.is_null() {
+        function = unsafe { dlsym(NEXT, NAMES[name as usize].as_ptr()) };
+        known.store(function, Ordering::Relaxed);
+    }
+    function
 }
 
 fn plan() -> &'static Plan {
@@ -85,7 +107,7 @@ fn words(variable: &str) -> Option<Vec<String>> {
 fn open_notes() -> Option<c_int> {
     let path = CString::new(std::env::var("DISK_TRACE").ok()?).ok()?;
     type Open = extern "C" fn(*const c_char, c_int, c_int) -> c_int;
-    let call: Open = unsafe { std::mem::transmute(real(c"open")) };
+    let call: Open = unsafe { std::mem::transmute(real(Name::Open)) };
     let near = call(path.as_ptr(), NOTES, 0o666);
     let far = unsafe { fcntl(near, COPY, FAR) };
     unsafe { close(near) };
@@ -97,16 +119,16 @@ pub fn note(name: Name, [fd, at, count]: [i64; 3]) {
     if notes < 0 {
         return;
     }
-    let line = format!("{} {fd} {at} {count}\n", NAMES[name as usize]);
+    let line = format!("{} {fd} {at} {count}\n", name.text());
     type Plain = extern "C" fn(c_int, *const c_void, usize) -> isize;
-    let call: Plain = unsafe { std::mem::transmute(real(c"write")) };
+    let call: Plain = unsafe { std::mem::transmute(real(Name::Write)) };
     call(notes, line.as_ptr().cast(), line.len());
 }
 
 /// Ends the process if this is the moment.
 fn end_at(when: &str, name: Name, turn: u64) {
     if let Some((asked, call, number)) = &plan().kill {
-        if asked == when && call == NAMES[name as usize] && *number == turn {
+        if asked == when && call == name.text() && *number == turn {
             unsafe { kill(getpid(), SIGKILL) };
         }
     }
@@ -118,7 +140,7 @@ pub fn around(name: Name, noted: [i64; 3], call: impl FnOnce(Option<usize>) -> i
     note(name, noted);
     end_at("before", name, turn);
     let fault = plan().fail.as_ref().and_then(|(asked, number, fault)| {
-        (asked == NAMES[name as usize] && *number == turn).then_some(*fault)
+        (asked == name.text() && *number == turn).then_some(*fault)
     });
     let result = match fault {
         Some(Fault::Errno(number)) => {
