@@ -1,5 +1,6 @@
 //! `oracle disk TEST PROGRAM LAUNCHER`: runs a test of `striproom` and prints what it counted.
 
+use crate::disk::cores::cores;
 use crate::disk::process::{Folder, Setup};
 use crate::disk::{faults, kill, old, same, wrong};
 use std::path::{Path, PathBuf};
@@ -16,15 +17,19 @@ pub fn run(words: &[String]) -> Result<String, String> {
     let [test, program, launcher, rest @ ..] = words else {
         return Err(USAGE.into());
     };
-    let setup = setup(Path::new(program), Path::new(launcher), PATIENCE)?;
+    let own = || setup(Path::new(program), Path::new(launcher), PATIENCE);
+    let setup = own()?;
     match test.as_str() {
         "same" => same::run(
-            &setup,
+            &(0..cores()).map(|_| own()).collect::<Result<Vec<_>, _>>()?,
+            // The histories of `.ci/scripts`, whole.
             &same::Effort {
-                // Those of `.ci/scripts`, each up to its first 400 calls, or 100 with damage.
-                seeds: 451,
-                calls: 400,
-                damaged: 226,
+                seeds: 450,
+                calls: 2500,
+                damaged: 225,
+                damaged_calls: 800,
+                restarts: 2,
+                same_answers: 25,
                 odd: 60,
             },
         ),

@@ -16,6 +16,8 @@ struct PollFd {
 }
 
 const READABLE: i16 = 1;
+/// How much is read at once.
+const PART: usize = 65536;
 
 extern "C" {
     fn poll(fds: *mut PollFd, count: std::ffi::c_ulong, milliseconds: i32) -> i32;
@@ -83,6 +85,7 @@ impl Setup {
             input,
             output: output.ok_or("no output")?,
             notes: File::open(&notes).map_err(|error| error.to_string())?,
+            part: vec![0; PART],
             patience: self.patience,
         })
     }
@@ -99,6 +102,8 @@ pub struct Process {
     input: Option<ChildStdin>,
     output: ChildStdout,
     notes: File,
+    /// What the last read brought.
+    part: Vec<u8>,
     patience: Duration,
 }
 
@@ -120,10 +125,9 @@ impl Process {
 
     /// Reads on until the answers have so many bytes; false at their end, or if none come.
     pub fn receive(&mut self, answers: &mut Vec<u8>, count: usize) -> bool {
-        let mut part = [0; 65536];
         while answers.len() < count {
-            match self.readable().then(|| self.output.read(&mut part)) {
-                Some(Ok(length @ 1..)) => answers.extend_from_slice(&part[..length]),
+            match self.readable().then(|| self.output.read(&mut self.part)) {
+                Some(Ok(length @ 1..)) => answers.extend_from_slice(&self.part[..length]),
                 _ => return false,
             }
         }
@@ -142,10 +146,15 @@ impl Process {
 
     /// The calls noted since the last time.
     pub fn calls(&mut self) -> Result<Vec<Call>, String> {
-        let mut text = String::new();
-        let read = self.notes.read_to_string(&mut text);
-        read.map_err(|error| format!("trace: {error}"))?;
-        trace::parse(&text)
+        let mut text = Vec::new();
+        loop {
+            let read = self.notes.read(&mut self.part);
+            let length = read.map_err(|error| format!("trace: {error}"))?;
+            text.extend_from_slice(&self.part[..length]);
+            if length < self.part.len() {
+                return trace::parse(&String::from_utf8_lossy(&text));
+            }
+        }
     }
 
     pub fn kill(&mut self) {

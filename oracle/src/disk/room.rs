@@ -1,6 +1,6 @@
 //! What `striproom` must do with a line: what it prints, and which bytes of the file it changes.
 
-use crate::script::machine::{Line, Machine, Reply};
+use crate::script::machine::{named_sizes, Line, Machine, Reply};
 use crate::script::{parse, put_reply};
 use crate::store::layout::*;
 use crate::store::rules::{Rules, Sound};
@@ -78,6 +78,26 @@ impl<R: Rules> RoomOf<R> {
             true => self.make(),
             false => self.change(),
         })
+    }
+
+    /// Would a new process print and change the same from this line on? It knows the file alone: not what is open, nor sizes
+    /// that are others than the file names, nor that a format was refused.
+    pub fn needs_no_past(&self, line: &[u8]) -> bool {
+        let Some(line) = parse(line) else {
+            return false;
+        };
+        let machine = &self.machine;
+        let sizes = (machine.log_blocks, machine.pages);
+        let known = !machine.medium.is_empty() && sizes == named_sizes(&machine.medium);
+        match line {
+            Line::Format { .. } => true,
+            Line::Cut => known,
+            // A refused opening leaves open what is.
+            Line::Open { .. } | Line::OpenSized { .. } if machine.state.is_some() => {
+                known && matches!(machine.clone().call(&line), Reply::Answer(_))
+            }
+            _ => known && machine.state.is_none(),
+        }
     }
 
     fn make(&mut self) -> Change {

@@ -1,134 +1,243 @@
 //! The same answers and bytes as the oracle, in one process and in many.
 
+use crate::disk::cores::deal;
+use crate::disk::odd::odd;
 use crate::disk::process::Setup;
 use crate::disk::session::{Counts, Session};
 use crate::history::scripts::{script, Options, NEW_PROCESS};
 use crate::random::Random;
+use crate::script;
 use crate::script::words::lines;
-use crate::store::layout::*;
-use std::path::{Path, PathBuf};
+use std::path::PathBuf;
 
 /// How the lines of a script reach the program.
 #[derive(Clone, Copy, PartialEq, Eq, Debug)]
 enum Way {
     /// One process, a line when the last is answered.
     OneProcess,
-    /// The same, with new processes between the lines.
+    /// The same lines, with new processes where they take nothing away: the answers are the same.
+    SameAnswers,
+    /// With new processes between any two lines; the script knows of them and opens the file again.
     NewProcesses,
     /// Many lines at once, and new processes.
     AtOnce,
 }
 
+const WAYS: [Way; 4] = [
+    Way::OneProcess,
+    Way::SameAnswers,
+    Way::NewProcesses,
+    Way::AtOnce,
+];
+
 pub struct Effort {
-    /// Seeds of histories; a seed takes the profile at its rest by 15.
+    /// Seeds of histories, from 1 on; a seed takes the profile at its rest by 15.
     pub seeds: u64,
     pub calls: u64,
+    /// Seeds of histories with damage, and their calls.
     pub damaged: u64,
+    pub damaged_calls: u64,
+    /// After so many calls in a hundred a new process goes on.
+    pub restarts: u64,
+    /// Of the places where a new process takes nothing away, so many in a hundred get one.
+    pub same_answers: u64,
     pub odd: u64,
 }
 
-pub fn run(setup: &Setup, effort: &Effort) -> Result<String, String> {
-    let mut counts = Counts::default();
-    for seed in 0..effort.seeds {
-        history(setup, seed, effort.calls, false, &mut counts)?;
-    }
-    for seed in 0..effort.damaged {
-        history(setup, seed, effort.calls / 4, true, &mut counts)?;
-    }
-    for seed in 0..effort.odd {
-        let (file, text) = odd(seed);
-        let path = setup.memory.join("odd");
-        std::fs::write(&path, &file).map_err(|error| error.to_string())?;
-        let played = play(setup, &path, &text, Way::OneProcess, &mut Random::new(seed));
-        counts.add(&played.map_err(|e| format!("odd file {seed} of {} bytes, {e}", file.len()))?);
-    }
-    let scripts = 3 * (effort.seeds + effort.damaged) + effort.odd;
-    let Counts {
-        lines,
-        stores,
-        formats,
-        processes,
-        handovers,
-        handover_stores,
-        high_records,
-        no_records,
-    } = counts;
-    Ok(format!(
-        "same: {scripts} scripts, {processes} processes, {lines} lines: answers, calls and the file's bytes \
-         after each as the oracle's; {stores} stores of one block, {formats} formats; {handovers} handovers, \
-         {handover_stores} with a store; {high_records} versions of records from 256 on, {no_records} refusals 18"
-    ))
+/// A script that a worker plays.
+enum Job {
+    History { seed: u64, damage: bool, way: Way },
+    Odd { seed: u64 },
 }
 
-/// A seed's history in each way.
-fn history(
-    setup: &Setup,
-    seed: u64,
-    calls: u64,
-    damage: bool,
-    counts: &mut Counts,
-) -> Result<(), String> {
-    for way in [Way::OneProcess, Way::NewProcesses, Way::AtOnce] {
-        let text = script(&Options {
-            shows: true,
-            damage,
-            restarts: if way == Way::OneProcess { 0 } else { 6 },
-            ..Options::plain(seed, calls)
-        });
-        // Storing on a disk takes time, so most files lie in memory.
-        let on_disk = seed % 15 == 1 && !damage;
-        let folder = if on_disk { &setup.disk } else { &setup.memory };
-        let played = play(
-            setup,
-            &folder.join("room"),
-            &text,
-            way,
-            &mut Random::new(seed),
-        );
-        let name = format!("seed {seed}, {way:?}, damage {damage}");
-        counts.add(&played.map_err(|complaint| format!("{name}, {complaint}"))?);
+impl Effort {
+    fn jobs(&self) -> Vec<Job> {
+        let sound = (1..=self.seeds).map(|seed| (seed, false));
+        let damaged = (1..=self.damaged).map(|seed| (seed, true));
+        let ways = |(seed, damage)| WAYS.map(|way| Job::History { seed, damage, way });
+        let histories = sound.chain(damaged).flat_map(ways);
+        let odd = (0..self.odd).map(|seed| Job::Odd { seed });
+        histories.chain(odd).collect()
     }
-    Ok(())
 }
 
-fn play(
-    setup: &Setup,
-    path: &Path,
-    text: &[u8],
-    way: Way,
-    random: &mut Random,
-) -> Result<Counts, String> {
-    let mut session = Session::new(setup, path)?;
-    let lines: Vec<&[u8]> = lines(text).collect();
-    let mut at = 0;
-    while at < lines.len() {
-        let step = match way {
-            Way::AtOnce => random.within((1, 40)) as usize,
-            _ => 1,
-        };
-        let next = &lines[at..lines.len().min(at + step)];
-        let batch = next
-            .split(|line| *line == NEW_PROCESS)
-            .next()
-            .unwrap_or(next);
-        let done = match batch {
-            [] => session.restart(random.percent(50)).map(|()| true),
-            _ => session.lines(batch),
-        };
-        match done {
-            Ok(true) => at += batch.len().max(1),
-            Ok(false) => break,
-            Err(complaint) => {
-                let saved = save(text);
-                return Err(format!("line {} of {saved}: {complaint}", at + 1));
+/// What a worker counted: in each of the ways, and with odd files.
+#[derive(Default)]
+struct Tally {
+    ways: [Counts; WAYS.len()],
+    odd: Counts,
+}
+
+/// Each setup is a worker's own.
+pub fn run(setups: &[Setup], effort: &Effort) -> Result<String, String> {
+    let jobs = effort.jobs();
+    let work = |setup: &Setup, job: usize, tally: &mut Tally| {
+        match jobs[job] {
+            Job::History { seed, damage, way } => {
+                tally.ways[way as usize].add(&history(setup, effort, seed, damage, way)?);
             }
+            Job::Odd { seed } => tally.odd.add(&odd_file(setup, seed)?),
+        }
+        Ok(())
+    };
+    let mut all = Tally::default();
+    for tally in deal(setups, jobs.len(), work)? {
+        all.odd.add(&tally.odd);
+        for (sum, counts) in all.ways.iter_mut().zip(&tally.ways) {
+            sum.add(counts);
         }
     }
-    session
-        .end()
-        .map_err(|text| format!("at the end: {text}"))?;
-    std::fs::remove_file(path).map_err(|error| error.to_string())?;
-    Ok(session.counts)
+    Ok(all.told(effort))
+}
+
+impl Tally {
+    fn told(&self, effort: &Effort) -> String {
+        let scripts = effort.seeds + effort.damaged;
+        let [one, again, any, batches] = &self.ways;
+        // The first process of a script takes over from none.
+        let new = |counts: &Counts| counts.processes - scripts;
+        let mut all = self.odd;
+        self.ways.iter().for_each(|counts| all.add(counts));
+        format!(
+            "same: {scripts} scripts whole, {} lines in one process and again with {} new ones that change no answer; {} lines \
+             with {} new ones between any two; {} lines in batches, with {} new ones; {} odd files: answers, calls and \
+             the file's bytes after each line or batch as the oracle's; {} stores of one block, {} formats; {} handovers, \
+             {} with a store; {} versions of records from 256 on, {} refusals 18",
+            one.lines,
+            new(again),
+            any.lines,
+            new(any),
+            batches.lines,
+            new(batches),
+            effort.odd,
+            all.stores,
+            all.formats,
+            all.handovers,
+            all.handover_stores,
+            all.high_records,
+            all.no_records
+        )
+    }
+}
+
+/// A seed's history in one of the ways.
+fn history(
+    setup: &Setup,
+    effort: &Effort,
+    seed: u64,
+    damage: bool,
+    way: Way,
+) -> Result<Counts, String> {
+    let calls = match damage {
+        true => effort.damaged_calls,
+        false => effort.calls,
+    };
+    let text = script(&Options {
+        shows: true,
+        damage,
+        restarts: match way {
+            Way::OneProcess | Way::SameAnswers => 0,
+            Way::NewProcesses | Way::AtOnce => effort.restarts,
+        },
+        ..Options::plain(seed, calls)
+    });
+    // Storing on a disk takes time, so most files lie in memory.
+    let on_disk = seed % 15 == 1 && !damage;
+    let folder = if on_disk { &setup.disk } else { &setup.memory };
+    let mut player = Player {
+        session: Session::new(setup, &folder.join("room"))?,
+        way,
+        same_answers: effort.same_answers,
+        may_end: false,
+        random: Random::new(seed),
+    };
+    let played = player.play(&text);
+    played.map_err(|text| format!("seed {seed}, {way:?}, damage {damage}, {text}"))
+}
+
+fn odd_file(setup: &Setup, seed: u64) -> Result<Counts, String> {
+    let (file, text) = odd(seed);
+    let path = setup.memory.join("odd");
+    std::fs::write(&path, &file).map_err(|error| error.to_string())?;
+    let mut player = Player {
+        session: Session::new(setup, &path)?,
+        way: Way::NewProcesses,
+        same_answers: 0,
+        may_end: true,
+        random: Random::new(seed),
+    };
+    let played = player.play(&text);
+    played.map_err(|text| format!("odd file {seed} of {} bytes, {text}", file.len()))
+}
+
+struct Player<'a> {
+    session: Session<'a>,
+    way: Way,
+    same_answers: u64,
+    /// A line may end the run.
+    may_end: bool,
+    random: Random,
+}
+
+impl Player<'_> {
+    fn play(&mut self, text: &[u8]) -> Result<Counts, String> {
+        let lines: Vec<&[u8]> = lines(text).collect();
+        let mut at = 0;
+        while at < lines.len() {
+            let complaint = match self.step(&lines[at..]) {
+                Ok(0) if self.may_end => break,
+                Ok(0) => "the run ends".into(),
+                Ok(count) => {
+                    at += count;
+                    continue;
+                }
+                Err(complaint) => complaint,
+            };
+            return Err(format!("line {} of {}: {complaint}", at + 1, save(text)));
+        }
+        let ended = self.session.end();
+        ended.map_err(|text| format!("at the end: {text}"))?;
+        if matches!(self.way, Way::OneProcess | Way::SameAnswers) {
+            self.replayed(text)?;
+        }
+        std::fs::remove_file(&self.session.path).map_err(|error| error.to_string())?;
+        Ok(self.session.counts)
+    }
+
+    /// Plays the next line, or some, or starts a new process where they say so; answers how many that were, 0 if the
+    /// run has ended.
+    fn step(&mut self, lines: &[&[u8]]) -> Result<usize, String> {
+        if lines[0] == NEW_PROCESS {
+            self.session.restart(self.random.percent(50))?;
+            return Ok(1);
+        }
+        let count = match self.way {
+            Way::AtOnce => self.random.within((1, 40)) as usize,
+            _ => 1,
+        };
+        if self.way == Way::SameAnswers
+            && self.random.percent(self.same_answers)
+            && self.session.room.needs_no_past(lines[0])
+        {
+            self.session.restart(self.random.percent(50))?;
+        }
+        let mut parts = lines[..lines.len().min(count)].split(|line| *line == NEW_PROCESS);
+        let batch = parts.next().unwrap_or_default();
+        match self.session.lines(batch)? {
+            true => Ok(batch.len()),
+            false => Ok(0),
+        }
+    }
+
+    /// All answers were those that `replay` gives to the script, to its end.
+    fn replayed(&self, text: &[u8]) -> Result<(), String> {
+        let mut answers = Vec::new();
+        script::run(text, &mut answers);
+        match answers == self.session.printed {
+            true => Ok(()),
+            false => Err(format!("other answers than to {} at once", save(text))),
+        }
+    }
 }
 
 pub fn saved() -> PathBuf {
@@ -141,52 +250,4 @@ pub fn save(text: &[u8]) -> String {
         Ok(()) => saved().display().to_string(),
         Err(_) => "the script".into(),
     }
-}
-
-/// A file of a length that no medium has, or of a medium's with other bytes, and lines for it.
-fn odd(seed: u64) -> (Vec<u8>, Vec<u8>) {
-    let random = &mut Random::new(seed ^ 0x0dd);
-    let sizes = (random.within((2, 4)), random.within((1, 3)));
-    let file = odd_file(seed, sizes, random);
-    let text = odd_lines(file.len() as u64, sizes, random);
-    (file, text.into_bytes())
-}
-
-fn odd_file(seed: u64, sizes: (u64, u64), random: &mut Random) -> Vec<u8> {
-    let lengths = [
-        0, 1, 9, 511, 512, 513, 700, 1024, 3071, 3072, 3073, 50687, 50688,
-    ];
-    let length = match lengths.get(seed as usize) {
-        Some(&length) => length,
-        None if random.percent(50) => BLOCK * random.within((1, 20)) as usize,
-        None => random.below(MAX_MEDIUM as u64 + 1) as usize,
-    };
-    let mut file: Vec<u8> = (0..length).map(|_| random.draw() as u8).collect();
-    if random.percent(60) && length >= BLOCK {
-        file.fill(0);
-        let master = master((sizes.0 as usize, sizes.1 as usize), 1, 1, 0);
-        file[..BLOCK].copy_from_slice(&master);
-    }
-    file
-}
-
-/// Lines for any file, a format, and more lines over new processes.
-fn odd_lines(length: u64, (log_blocks, pages): (u64, u64), random: &mut Random) -> String {
-    let mut text = String::new();
-    for _ in 0..14 {
-        let near = (length + 3).saturating_sub(random.below(600));
-        text += &match random.below(6) {
-            0 => format!("O {}\n", random.below(256)),
-            1 => format!("o {}\n", random.below(2) * pages * 512),
-            2 => "X\n".to_string(),
-            3 => format!("M {}\n", near / 512),
-            4 => format!("V {}\n", random.below(3)),
-            _ => format!("Z {near} {:02x}\n", random.below(256)),
-        };
-    }
-    if random.percent(30) {
-        text += "F 1 1\n";
-    }
-    text += &format!("F {log_blocks} {pages}\nO 0\nB 1\nS\n");
-    text + "#\nO 0\nZ 600 01\n#\nZ 3 09\nO 0\n#\nO 0\nM 1\n"
 }

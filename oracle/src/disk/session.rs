@@ -1,5 +1,6 @@
 //! A script line by line through a program: answers, calls and the file's bytes after each.
 
+use crate::disk::found::Found;
 use crate::disk::process::{Process, Setup};
 use crate::disk::room::{Change, Room, Turn};
 use crate::disk::trace::Reader;
@@ -36,9 +37,12 @@ impl Counts {
 
 pub struct Session<'a> {
     setup: &'a Setup,
-    path: PathBuf,
+    pub path: PathBuf,
+    found: Found,
     pub room: Room,
     process: Process,
+    /// All answers so far.
+    pub printed: Vec<u8>,
     pub counts: Counts,
 }
 
@@ -54,8 +58,10 @@ impl<'a> Session<'a> {
         Ok(Session {
             setup,
             path: path.to_path_buf(),
+            found: Found::new(path),
             room: Room::load(std::fs::read(path).ok()),
             process: setup.start(setup.program(path))?,
+            printed: Vec::new(),
             counts: Counts {
                 processes: 1,
                 ..Counts::default()
@@ -106,6 +112,7 @@ impl<'a> Session<'a> {
         if !rest.is_empty() {
             return Err(format!("prints {} behind its answers", shown(rest)));
         }
+        self.printed.extend_from_slice(&got);
         let calls = self.process.calls()?;
         let mut reader = Reader::new(&calls);
         for wanted in wanted {
@@ -135,9 +142,9 @@ impl<'a> Session<'a> {
     }
 
     /// The file has the oracle's bytes.
-    fn compare(&self) -> Result<(), String> {
-        let found = std::fs::read(&self.path).ok();
-        difference(self.room.file.as_deref(), found.as_deref()).map_or(Ok(()), Err)
+    fn compare(&mut self) -> Result<(), String> {
+        let found = self.found.bytes()?;
+        difference(self.room.file.as_deref(), found).map_or(Ok(()), Err)
     }
 
     /// The input ends, and with it the process: it says and writes nothing more.
@@ -189,6 +196,7 @@ pub fn difference(wanted: Option<&[u8]>, found: Option<&[u8]>) -> Option<String>
             wanted.len(),
             found.len()
         )),
+        (Some(wanted), Some(found)) if wanted == found => None,
         (Some(wanted), Some(found)) => {
             let mut pairs = wanted.iter().zip(found);
             let at = pairs.position(|(wanted, found)| wanted != found)?;

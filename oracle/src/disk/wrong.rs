@@ -43,9 +43,12 @@ const SAME: Test = ("same", |setup, _| {
         seeds: 15,
         calls: 60,
         damaged: 1,
+        damaged_calls: 15,
+        restarts: 6,
+        same_answers: 50,
         odd: 30,
     };
-    same::run(setup, &effort)
+    same::run(std::slice::from_ref(setup), &effort)
 });
 
 const FAULTS: Test = ("faults", |setup, _| {

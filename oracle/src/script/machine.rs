@@ -128,16 +128,22 @@ impl<R: Rules> Default for Machine<R> {
     }
 }
 
+/// The sizes that a medium's master names, 0 if it has none.
+pub fn named_sizes(medium: &[u8]) -> (u64, u64) {
+    let named = |at| match medium.len() {
+        0..BLOCK => 0,
+        _ => get16(medium, at).into(),
+    };
+    (named(MASTER_LOG_BLOCKS), named(MASTER_PAGES))
+}
+
 impl<R: Rules> Machine<R> {
     /// A machine on a medium that is there already, with the sizes that its master names.
     pub fn loaded(medium: Vec<u8>) -> Self {
-        let named = |at| match medium.len() {
-            0..BLOCK => 0,
-            _ => get16(&medium, at).into(),
-        };
+        let (log_blocks, pages) = named_sizes(&medium);
         Machine {
-            log_blocks: named(MASTER_LOG_BLOCKS),
-            pages: named(MASTER_PAGES),
+            log_blocks,
+            pages,
             medium,
             ..Machine::default()
         }
