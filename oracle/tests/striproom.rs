@@ -91,3 +91,24 @@ fn sizes_are_those_of_the_start_until_a_format() {
     plays(&mut room, "O 0", Change::Nothing, "O 3 -");
     plays(&mut Room::load(room.file), "O 0", Change::Nothing, "O 1 -");
 }
+
+#[test]
+fn a_new_process_knows_the_file_alone() {
+    let mut room = Room::load(None);
+    let same =
+        |room: &Room, lines: [&str; 6]| lines.map(|line| room.needs_no_past(line.as_bytes()));
+    let lines = ["F 2 1", "O 0", "o 0", "X", "M 0", "B 1"];
+    play(&mut room, "F 2 1");
+    assert_eq!(same(&room, lines), [true; 6], "closed");
+    play(&mut room, "O 0");
+    // A cache of no bytes is refused, and what is open stays.
+    let open = [true, true, false, true, false, false];
+    assert_eq!(same(&room, lines), open, "open");
+    play(&mut room, "Z 3 09");
+    let only_format = [true, false, false, false, false, false];
+    assert_eq!(same(&room, lines), only_format, "other sizes named");
+    play(&mut room, "Z 3 02");
+    assert_eq!(same(&room, lines), open, "the old ones again");
+    play(&mut room, "F 1 1");
+    assert_eq!(same(&room, lines), only_format, "a refused format");
+}
