@@ -1,3 +1,4 @@
 pub mod Codes
+pub mod Folder
 pub mod Line
 pub mod Outcome

@@ -1,6 +1,7 @@
 // A medium in a file: the C library's calls on a descriptor, each made once. Their contracts tell what a call may answer, not
 // which bytes it reads or writes or what the disk then holds. So the statements here are about the answers: which outcome
 // each of them leads to.
+pub mod folder;
 mod kind;
 pub mod outcome;
 mod say;
