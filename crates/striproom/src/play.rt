@@ -2,6 +2,7 @@
 use crate::room;
 use disk::step;
 use disk::step::Played;
+use files::folder;
 use files::outcome;
 use libc::STDOUT_FILENO;
 use rooms::parts;
@@ -81,7 +82,8 @@ fn keep_part(fd: i32, medium: &[u8], changed: bool, at: usize, len: usize) -> u8
     outcome::of_stored(files::store(fd, &medium[at..at + len], at as i64))
 }
 
-// Stores a formatted medium. A refused formatting leaves the file as it is; without a file it is an error.
+// Stores a formatted medium, and before it the file's name in its folder: else a power cut could take a new file whole. A
+// refused formatting leaves the file as it is; without a file it is an error.
 fn keep_whole(name: &[u8], to: u8, fd: i32, t: Standing, medium: &[u8]) -> Kept
     requires { ⌜ length (now medium) ≡ 50688 ⌝ }
     ensures { λ r. ⌜ (t .stage < 2 → r ≡ record { fd = fd; code = missingCode fd }) ⌝ }
@@ -98,6 +100,12 @@ fn keep_whole(name: &[u8], to: u8, fd: i32, t: Standing, medium: &[u8]) -> Kept
         return Kept {
             fd: file.fd,
             code: file.code,
+        };
+    }
+    if !folder::sync(name) {
+        return Kept {
+            fd: file.fd,
+            code: 9,
         };
     }
     let n = parts::medium_part(t);

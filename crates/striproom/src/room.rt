@@ -1,6 +1,5 @@
 // The file that holds the medium.
 use files::Loaded;
-use files::folder;
 use files::outcome;
 ghost use mathlib.Core.Path.{_≡_};
 ghost use mathlib.Core.Bool.{true};
@@ -60,7 +59,7 @@ pub fn open(name: &[u8], to: u8, medium: &mut [u8]) -> Opened
     }
 }
 
-// Makes a file that is missing, and waits until its name is stored in its folder: else a power cut could take the whole file.
+// Makes a file that is missing.
 fn create(name: &[u8], to: u8) -> Opened
     ensures { λ r. ⌜ (r .code ≡ 0 → isFree (r .fd) to ≡ true) ⌝ }
 {
@@ -75,9 +74,6 @@ fn create(name: &[u8], to: u8) -> Opened
     if !files::is_free(fd, to) {
         os::unlink(name);
         return shut(fd, 2);
-    }
-    if !folder::sync(name) {
-        return shut(fd, 9);
     }
     Opened {
         fd: fd,

@@ -20,11 +20,17 @@ have-requires c κs = search needs
 returns-2 : tie.Need-returns-2
 returns-2 c = (λ s. absurd (omega arith), λ a z. absurd (c .before .if2 .taken z))
 
+sync-requires : tie.Need-sync-requires
+sync-requires c κs = search needs
+
+returns-3 : tie.Need-returns-3
+returns-3 c = (λ s. absurd (omega arith), λ a z. absurd (omega arith))
+
 medium-part-requires : tie.Need-medium-part-requires
 medium-part-requires c κs = search needs
 
 slice-aggregate-make : tie.Need-slice-aggregate-make
-slice-aggregate-make c = simp length-take (omega (arith, c .before .medium-part .ensures .1, c .before .before .before .before .before .before .before .before .before .pre))
+slice-aggregate-make c = simp length-take (omega (arith, c .before .medium-part .ensures .1, c .before .before .before .before .before .before .before .before .before .before .before .pre))
 
 make-requires : tie.Need-make-requires
 make-requires c κs = search needs
@@ -32,8 +38,13 @@ make-requires c κs = search needs
 of-stored-requires : tie.Need-of-stored-requires
 of-stored-requires c κs = search needs
 
-returns-3 : tie.Need-returns-3
-returns-3 c = (λ s. absurd (omega arith), λ a z. rw (toZ-ofZ w32 (c .before .before .before .before .before .before .before .before .have .result .fd) (record { sfits = c .struct-told3 .given .0 .1 })) (free-apart _ _ (c .before .before .before .before .before .before .before .before .have .ensures (rw (toZ-ofZ w32 _ (c .before .before .before .before .before .before .before .before .before .before .before .before .before .fits .fd)) a) (c .before .before .before .before .before .before .if2 .left))))
+returns-4 : tie.Need-returns-4
+returns-4 c =
+    let have = c .before .before .before .before .before .before .before .before .before .before .have in (
+      λ s. absurd (omega arith),
+      λ a z. rw (toZ-ofZ w32 (have .result .fd) (record { sfits = c .struct-told4 .given .0 .1 }))
+          (free-apart _ _ (have .ensures (rw (toZ-ofZ w32 _ (c .before .before .before .before .before .before .before .before .before .before .before .before .before .before .before .fits .fd)) a) (c .before .before .before .before .before .before .before .before .if2 .left))),
+    )
 
 pub keep-whole-spec : {M : Type 1} → statement M
 keep-whole-spec =
@@ -43,8 +54,10 @@ keep-whole-spec =
     returns
     have-requires
     returns-2
+    sync-requires
+    returns-3
     medium-part-requires
     slice-aggregate-make
     make-requires
     of-stored-requires
-    returns-3)
+    returns-4)

@@ -24,18 +24,8 @@ shut-requires c κs = search needs
 returns-2 : tie.Need-returns-2
 returns-2 c = rw (c .shut .ensures) (λ z. absurd (omega arith))
 
-sync-requires : tie.Need-sync-requires
-sync-requires c κs = search needs
-
-shut-requires-2 : tie.Need-shut-requires-2
-shut-requires-2 c κs = search needs
-
 returns-3 : tie.Need-returns-3
-returns-3 c = rw (c .shut2 .ensures) (λ z. absurd (omega arith))
-
-returns-4 : tie.Need-returns-4
-returns-4 c z =
-    sym (c .before .before .before .is-free .ensures) ∙ not-false (c .before .before .before .is-free .result) (c .before .before .if2 .left)
+returns-3 c z = sym (c .before .is-free .ensures) ∙ not-false (c .before .is-free .result) (c .if2 .left)
 
 pub create-spec : {M : Type 1} → statement M
 create-spec =
@@ -47,7 +37,4 @@ create-spec =
     unlink-requires
     shut-requires
     returns-2
-    sync-requires
-    shut-requires-2
-    returns-3
-    returns-4)
+    returns-3)
