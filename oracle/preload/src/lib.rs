@@ -4,13 +4,17 @@
 //! - ends the process by SIGKILL: `DISK_KILL='before pwrite 3'` or `'after fdatasync 1'`;
 //! - lets a call fail: `DISK_FAIL='pwrite 3 28'` (an errno) or `'pwrite 3 short 100'` (so many bytes).
 //!
-//! Names are open (for update, or making a file), pread, pwrite, ftruncate, fdatasync and write
-//! (to standard output). Each is counted from 1.
+//! Names are open (for update, or making a file), pread, pwrite, ftruncate, fdatasync, fsync (its
+//! offset is the number of the file or folder) and write (to standard output). Each is counted from 1.
 
 mod plan;
 
 use plan::{around, note, real, Name};
 use std::ffi::{c_char, c_int, c_void};
+use std::fs::File;
+use std::mem::ManuallyDrop;
+use std::os::fd::FromRawFd;
+use std::os::unix::fs::MetadataExt;
 
 /// Access modes other than reading alone, and making a file.
 const UPDATES: c_int = 0o103;
@@ -78,6 +82,17 @@ exported! {
 pub extern "C" fn fdatasync(fd: c_int) -> c_int {
     let call: Sync = unsafe { std::mem::transmute(real(Name::Fdatasync)) };
     around(Name::Fdatasync, [fd.into(), 0, 0], |_| call(fd) as isize) as c_int
+}
+
+#[no_mangle]
+pub extern "C" fn fsync(fd: c_int) -> c_int {
+    let call: Sync = unsafe { std::mem::transmute(real(Name::Fsync)) };
+    // It is lent: the program closes it.
+    let file = ManuallyDrop::new(unsafe { File::from_raw_fd(fd) });
+    let number = file.metadata().map_or(0, |about| about.ino());
+    around(Name::Fsync, [fd.into(), number as i64, 0], |_| {
+        call(fd) as isize
+    }) as c_int
 }
 
 #[no_mangle]

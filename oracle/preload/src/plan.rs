@@ -22,12 +22,13 @@ const FAR: c_int = 200;
 /// O_WRONLY, O_CREAT, O_APPEND.
 const NOTES: c_int = 0o1 | 0o100 | 0o2000;
 
-const NAMES: [&CStr; 6] = [
+const NAMES: [&CStr; 7] = [
     c"open",
     c"pread",
     c"pwrite",
     c"ftruncate",
     c"fdatasync",
+    c"fsync",
     c"write",
 ];
 
@@ -38,6 +39,7 @@ pub enum Name {
     Pwrite,
     Ftruncate,
     Fdatasync,
+    Fsync,
     Write,
 }
 
@@ -62,10 +64,11 @@ struct Plan {
 }
 
 static PLAN: OnceLock<Plan> = OnceLock::new();
-static COUNTS: [AtomicU64; 6] = [const { AtomicU64::new(0) }; 6];
+static COUNTS: [AtomicU64; NAMES.len()] = [const { AtomicU64::new(0) }; NAMES.len()];
 
 /// The C library's own functions, as far as they were looked up.
-static REAL: [AtomicPtr<c_void>; 6] = [const { AtomicPtr::new(std::ptr::null_mut()) }; 6];
+static REAL: [AtomicPtr<c_void>; NAMES.len()] =
+    [const { AtomicPtr::new(std::ptr::null_mut()) }; NAMES.len()];
 
 /// The C library's own function.
 pub fn real(name: Name) -> *mut c_void {

@@ -3,11 +3,12 @@
 use crate::disk::launch::{Launch, Wanted, Way};
 use crate::disk::process::{Folder, Setup};
 use crate::disk::program::*;
+use crate::disk::trace::folder_of;
 use crate::disk::unfit::{medium, modelled, place};
 use crate::disk::{locks, stores, unfit};
 use crate::store::layout::*;
 use std::ffi::OsStr;
-use std::os::unix::fs::{symlink, PermissionsExt};
+use std::os::unix::fs::{symlink, MetadataExt, PermissionsExt};
 use std::path::Path;
 use std::process::Command;
 
@@ -227,9 +228,11 @@ fn not_read(launch: &mut Launch) -> Result<u64, String> {
     Ok(fails.len() as u64)
 }
 
-/// Names with spaces and signs, from the folder that the file is in.
+/// Names with spaces and signs, from the folder that the file is in, and with folders before them.
 fn names(launch: &Launch) -> Result<u64, String> {
     let folder = Folder::new(&launch.setup.disk.0)?;
+    let inner = std::fs::create_dir(folder.join("inner"));
+    inner.map_err(|error| error.to_string())?;
     let names = [
         "a room",
         "-n",
@@ -238,6 +241,10 @@ fn names(launch: &Launch) -> Result<u64, String> {
         "a'b\"c",
         "room.lock",
         "\u{e9}*",
+        "./room",
+        "inner/room",
+        "inner//another",
+        "inner/../one more",
     ];
     for name in names {
         let script = b"F 2 1\nO 0\nB 1\n";
@@ -247,6 +254,14 @@ fn names(launch: &Launch) -> Result<u64, String> {
         let wanted = modelled(None, script);
         let compared = wanted.compare(&folder.join(name), &outcome);
         compared.map_err(|text| format!("file name {name:?}: {text}"))?;
+        let within = std::fs::metadata(folder_of(&folder.join(name)));
+        let within = within.map_err(|error| error.to_string())?.ino() as usize;
+        if outcome.folders != [within] {
+            let stored = &outcome.folders;
+            return Err(format!(
+                "file name {name:?}: stores the folders {stored:?}, not {within}"
+            ));
+        }
     }
     Ok(names.len() as u64)
 }
@@ -278,16 +293,26 @@ fn permissions(setup: &Setup) -> Result<String, String> {
             return Err(format!("mode {bits:o}: the refusal changed the file"));
         }
     }
+    let new = folder.join("new");
     mode(&folder.0, 0o555)?;
-    let outcome = launch.run(&[folder.join("new").as_os_str()], b"F 2 1\n")?;
+    let outcome = launch.run(&[new.as_os_str()], b"F 2 1\n")?;
     mode(&folder.0, 0o777)?;
-    match outcome.code == NO_ACCESS.0.into() && !folder.join("new").exists() {
-        true => Ok("4 without permission".into()),
-        false => Err(format!("a folder that may not be written: {outcome:?}")),
+    if outcome.code != NO_ACCESS.0.into() || new.exists() {
+        return Err(format!("a folder that may not be written: {outcome:?}"));
     }
+    // The system does not say that a new name is stored in a folder that may not be read.
+    mode(&folder.0, 0o333)?;
+    let wanted = Wanted {
+        trouble: Some(NOT_STORED),
+        printed: Vec::new(),
+        file: Some(Vec::new()),
+    };
+    let done = launch.expect(&new, b"F 2 1\nO 0\n", &wanted);
+    mode(&folder.0, 0o777)?;
+    done.map_err(|text| format!("a folder that may not be read: {text}"))?;
+    Ok("5 without permission".into())
 }
 
 pub fn is_root(own: &Path) -> bool {
-    use std::os::unix::fs::MetadataExt;
     std::fs::metadata(own).is_ok_and(|about| about.uid() == 0)
 }

@@ -296,6 +296,7 @@ pub fn ask(setup: &Setup, path: &Path, text: &[u8]) -> Result<Vec<u8>, String> {
 /// Each call of a format, on a missing file and on one with a history.
 fn formats(setup: &Setup, existing: bool, tally: &mut Tally) -> Result<(), String> {
     let calls = [
+        ("fsync", 1),
         ("pwrite", 3),
         ("fdatasync", 3),
         ("ftruncate", 1),
@@ -331,7 +332,9 @@ fn format_at(setup: &Setup, existing: bool, call: &str, tally: &mut Tally) -> Re
     let lines: Vec<&[u8]> = lines(text).collect();
     let fate = chain.killed(&lines, &printed, std::fs::read(&path).ok(), Allowed::Either)?;
     let wanted = match call {
-        "before pwrite 1" => vec![Fate::NotDone, Fate::Unopenable],
+        "before fsync 1" | "after fsync 1" | "before pwrite 1" => {
+            vec![Fate::NotDone, Fate::Unopenable]
+        }
         "after pwrite 3" => vec![Fate::Done, Fate::Unopenable],
         "before fdatasync 3" | "after fdatasync 3" | "before write 1" => vec![Fate::Done],
         "after write 1" => vec![Fate::Unchanging],

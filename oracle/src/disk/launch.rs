@@ -38,6 +38,8 @@ pub struct Outcome {
     pub complaint: String,
     /// Calls that could change the file, and answers, in their order.
     pub calls: Vec<String>,
+    /// The numbers of the folders that were stored.
+    pub folders: Vec<usize>,
 }
 
 fn quoted(path: &Path) -> String {
@@ -117,6 +119,8 @@ impl<'a> Launch<'a> {
             Way::Alone => self.told_code(),
             _ => status.code().unwrap_or(-1),
         };
+        let folders = calls.iter().filter(|call| call.name == "fsync");
+        let folders = folders.map(|call| call.at).collect();
         let calls = calls.iter().filter(|call| match call.name.as_str() {
             "open" | "pread" => false,
             "write" => call.fd == 1,
@@ -127,6 +131,7 @@ impl<'a> Launch<'a> {
             printed,
             complaint: self.setup.complaint(),
             calls: calls.map(|call| call.name.clone()).collect(),
+            folders,
         })
     }
 

@@ -2,6 +2,7 @@
 
 use crate::disk::room::{Change, RoomOf, Turn};
 use crate::disk::spoilt::Spoilt;
+use crate::disk::trace::folder_of;
 use crate::store::layout::{BLOCK, MAX_MEDIUM};
 use crate::store::rules::{Rules, Sound};
 use crate::store::widths::*;
@@ -183,6 +184,7 @@ impl Program {
             }
             Change::Whole { length } => {
                 self.create()?;
+                self.enter()?;
                 self.make(&room.machine.medium, length)
             }
         }
@@ -199,8 +201,22 @@ impl Program {
         Ok(())
     }
 
+    /// The file's name is stored in its folder.
+    pub fn enter(&self) -> Result<(), Trouble> {
+        let folder = match self.spoilt {
+            Some(Spoilt::FolderUnsynced) => return Ok(()),
+            Some(Spoilt::OwnFolder) => Path::new("."),
+            _ => folder_of(&self.path),
+        };
+        let synced = File::open(folder).and_then(|folder| folder.sync_all());
+        match synced {
+            Err(_) if !self.is(Spoilt::FolderErrorIgnored) => Err(NOT_STORED),
+            _ => Ok(()),
+        }
+    }
+
     /// The three steps of a formatting: until the last, no opening accepts the file.
-    fn make(&mut self, medium: &[u8], length: usize) -> Result<(), Trouble> {
+    pub fn make(&mut self, medium: &[u8], length: usize) -> Result<(), Trouble> {
         self.write(&[0; BLOCK], 0)?;
         self.resize(length)?;
         self.sync()?;

@@ -114,7 +114,7 @@ impl<'a> Session<'a> {
         }
         self.printed.extend_from_slice(&got);
         let calls = self.process.calls()?;
-        let mut reader = Reader::new(&calls);
+        let mut reader = Reader::new(&calls, &self.path);
         for wanted in wanted {
             let read = reader.line(wanted.change, wanted.answer.len());
             read.map_err(|text| format!("{}: {text}", shown(wanted.line)))?;
@@ -161,7 +161,7 @@ impl<'a> Session<'a> {
             return Err(format!("prints {} at its end", shown(&got)));
         }
         let calls = self.process.calls()?;
-        Reader::new(&calls).end()?;
+        Reader::new(&calls, &self.path).end()?;
         self.compare()
     }
 

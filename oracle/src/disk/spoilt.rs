@@ -41,6 +41,10 @@ spoilt! {
     LengthFirst "length-first",
     NoZeros "no-zeros",
     OneSync "one-sync",
+    /// A new file's name is not stored in its folder; or the folder that the program runs in is.
+    FolderUnsynced "folder-unsynced",
+    OwnFolder "own-folder",
+    FolderErrorIgnored "folder-error-ignored",
     RefusedFormatEmpties "refused-format-empties",
     RefusedFormatMakes "refused-format-makes",
     MadeAtStart "made-at-start",
@@ -225,6 +229,7 @@ impl Program {
     fn whole_spoilt<R: Rules>(&mut self, room: &RoomOf<R>, length: usize) -> Result<(), Trouble> {
         let (first, rest) = room.machine.medium.split_at(BLOCK);
         self.create()?;
+        self.enter()?;
         match self.spoilt {
             Some(Spoilt::FirstBlockFirst) => {
                 self.write(first, 0)?;
@@ -247,7 +252,7 @@ impl Program {
                 self.write(first, 0)?;
                 self.sync()
             }
-            _ => self.store(room, Change::Whole { length }),
+            _ => self.make(&room.machine.medium, length),
         }
     }
 

@@ -109,9 +109,9 @@ fn left(call: &str, before: &[u8], after: &[u8], at: usize) -> Vec<u8> {
 }
 
 fn trouble(call: &str) -> Trouble {
-    match call.starts_with("fdatasync") {
-        true => NOT_STORED,
-        false => NOT_WRITTEN,
+    match call.split(' ').next() {
+        Some("fsync" | "fdatasync") => NOT_STORED,
+        _ => NOT_WRITTEN,
     }
 }
 
@@ -180,6 +180,7 @@ fn failing_format(launch: &mut Launch, existing: bool) -> Result<u64, String> {
     emptied[..BLOCK].fill(0);
     let old_bytes = old.clone().unwrap_or_default();
     let steps = [
+        ("fsync 1 5", 0, &old_bytes, &old_bytes),
         ("pwrite 1 28", 0, &old_bytes, &zeroed),
         ("pwrite 1 short 100", 0, &old_bytes, &zeroed),
         ("ftruncate 1 28", 0, &zeroed, &resized),

@@ -2,6 +2,8 @@
 
 use crate::disk::room::Change;
 use crate::store::layout::BLOCK;
+use std::os::unix::fs::MetadataExt;
+use std::path::Path;
 
 #[derive(Clone, PartialEq, Eq, Debug)]
 pub struct Call {
@@ -44,6 +46,14 @@ pub fn parse(text: &str) -> Result<Vec<Call>, String> {
     calls.ok_or_else(|| format!("trace: {text}"))
 }
 
+/// The folder that a file is in.
+pub fn folder_of(path: &Path) -> &Path {
+    match path.parent() {
+        Some(folder) if folder != Path::new("") => folder,
+        _ => Path::new("."),
+    }
+}
+
 /// Calls that matter: those on the medium that change it, and answers.
 fn matters(call: &Call) -> bool {
     match call.name.as_str() {
@@ -57,12 +67,18 @@ fn matters(call: &Call) -> bool {
 pub struct Reader<'a> {
     calls: Vec<&'a Call>,
     next: usize,
+    /// The number of the folder that the file is in.
+    folder: usize,
 }
 
 impl<'a> Reader<'a> {
-    pub fn new(calls: &'a [Call]) -> Self {
-        let calls = calls.iter().filter(|call| matters(call)).collect();
-        Reader { calls, next: 0 }
+    pub fn new(calls: &'a [Call], path: &Path) -> Self {
+        let about = std::fs::metadata(folder_of(path));
+        Reader {
+            calls: calls.iter().filter(|call| matters(call)).collect(),
+            next: 0,
+            folder: about.map_or(0, |about| about.ino() as usize),
+        }
     }
 
     fn take(&mut self, name: &str, at: usize, length: usize) -> Result<(), String> {
@@ -111,8 +127,10 @@ impl<'a> Reader<'a> {
         }
     }
 
-    /// The three steps of a formatting. The second may be one write or several.
+    /// The file's name is stored in its folder; then the three steps of a formatting. The second may be
+    /// one write or several.
     fn whole(&mut self, length: usize) -> Result<(), String> {
+        self.take("fsync", self.folder, 0)?;
         self.take("pwrite", 0, BLOCK)?;
         self.take("ftruncate", 0, length)?;
         self.take("fdatasync", 0, 0)?;
