@@ -3,7 +3,7 @@
 use crate::disk::launch::{Launch, Wanted, Way};
 use crate::disk::process::{Folder, Setup};
 use crate::disk::program::*;
-use crate::disk::trace::folder_of;
+use crate::disk::trace::{folder_of, number_of};
 use crate::disk::unfit::{medium, modelled, place};
 use crate::disk::{locks, stores, unfit};
 use crate::store::layout::*;
@@ -254,8 +254,7 @@ fn names(launch: &Launch) -> Result<u64, String> {
         let wanted = modelled(None, script);
         let compared = wanted.compare(&folder.join(name), &outcome);
         compared.map_err(|text| format!("file name {name:?}: {text}"))?;
-        let within = std::fs::metadata(folder_of(&folder.join(name)));
-        let within = within.map_err(|error| error.to_string())?.ino() as usize;
+        let within = number_of(folder_of(&folder.join(name)));
         if outcome.folders != [within] {
             let stored = &outcome.folders;
             return Err(format!(

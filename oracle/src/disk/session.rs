@@ -3,7 +3,7 @@
 use crate::disk::found::Found;
 use crate::disk::process::{Process, Setup};
 use crate::disk::room::{Change, Room, Turn};
-use crate::disk::trace::Reader;
+use crate::disk::trace::{folder_of, number_of, Reader};
 use crate::history::record_numbers::writes_high;
 use crate::script::parse;
 use std::path::{Path, PathBuf};
@@ -38,6 +38,8 @@ impl Counts {
 pub struct Session<'a> {
     setup: &'a Setup,
     pub path: PathBuf,
+    /// The number of its folder.
+    folder: usize,
     found: Found,
     pub room: Room,
     process: Process,
@@ -58,6 +60,7 @@ impl<'a> Session<'a> {
         Ok(Session {
             setup,
             path: path.to_path_buf(),
+            folder: number_of(folder_of(path)),
             found: Found::new(path),
             room: Room::load(std::fs::read(path).ok()),
             process: setup.start(setup.program(path))?,
@@ -114,7 +117,7 @@ impl<'a> Session<'a> {
         }
         self.printed.extend_from_slice(&got);
         let calls = self.process.calls()?;
-        let mut reader = Reader::new(&calls, &self.path);
+        let mut reader = Reader::new(&calls, self.folder);
         for wanted in wanted {
             let read = reader.line(wanted.change, wanted.answer.len());
             read.map_err(|text| format!("{}: {text}", shown(wanted.line)))?;
@@ -161,7 +164,7 @@ impl<'a> Session<'a> {
             return Err(format!("prints {} at its end", shown(&got)));
         }
         let calls = self.process.calls()?;
-        Reader::new(&calls, &self.path).end()?;
+        Reader::new(&calls, self.folder).end()?;
         self.compare()
     }
 

@@ -54,6 +54,11 @@ pub fn folder_of(path: &Path) -> &Path {
     }
 }
 
+/// Its number; 0 where there is none.
+pub fn number_of(folder: &Path) -> usize {
+    std::fs::metadata(folder).map_or(0, |about| about.ino() as usize)
+}
+
 /// Calls that matter: those on the medium that change it, and answers.
 fn matters(call: &Call) -> bool {
     match call.name.as_str() {
@@ -72,12 +77,12 @@ pub struct Reader<'a> {
 }
 
 impl<'a> Reader<'a> {
-    pub fn new(calls: &'a [Call], path: &Path) -> Self {
-        let about = std::fs::metadata(folder_of(path));
+    pub fn new(calls: &'a [Call], folder: usize) -> Self {
+        let calls = calls.iter().filter(|call| matters(call)).collect();
         Reader {
-            calls: calls.iter().filter(|call| matters(call)).collect(),
+            calls,
             next: 0,
-            folder: about.map_or(0, |about| about.ino() as usize),
+            folder,
         }
     }
 
