@@ -29,7 +29,6 @@ pub fn run(words: &[String]) -> Result<String, String> {
                 damaged: 225,
                 damaged_calls: 800,
                 restarts: 2,
-                same_answers: 25,
                 odd: 60,
             },
         ),

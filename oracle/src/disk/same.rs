@@ -15,7 +15,7 @@ use std::path::PathBuf;
 enum Way {
     /// One process, a line when the last is answered.
     OneProcess,
-    /// The same lines, with new processes where they take nothing away: the answers are the same.
+    /// The same lines, with a new process wherever it takes nothing away: the answers are the same.
     SameAnswers,
     /// With new processes between any two lines; the script knows of them and opens the file again.
     NewProcesses,
@@ -37,10 +37,8 @@ pub struct Effort {
     /// Seeds of histories with damage, and their calls.
     pub damaged: u64,
     pub damaged_calls: u64,
-    /// After so many calls in a hundred a new process goes on.
+    /// After so many calls in a hundred a new process goes on, in batches after half of them.
     pub restarts: u64,
-    /// Of the places where a new process takes nothing away, so many in a hundred get one.
-    pub same_answers: u64,
     pub odd: u64,
 }
 
@@ -137,7 +135,8 @@ fn history(
         damage,
         restarts: match way {
             Way::OneProcess | Way::SameAnswers => 0,
-            Way::NewProcesses | Way::AtOnce => effort.restarts,
+            Way::NewProcesses => effort.restarts,
+            Way::AtOnce => effort.restarts / 2,
         },
         ..Options::plain(seed, calls)
     });
@@ -147,7 +146,6 @@ fn history(
     let mut player = Player {
         session: Session::new(setup, &folder.join("room"))?,
         way,
-        same_answers: effort.same_answers,
         may_end: false,
         random: Random::new(seed),
     };
@@ -162,7 +160,6 @@ fn odd_file(setup: &Setup, seed: u64) -> Result<Counts, String> {
     let mut player = Player {
         session: Session::new(setup, &path)?,
         way: Way::NewProcesses,
-        same_answers: 0,
         may_end: true,
         random: Random::new(seed),
     };
@@ -173,7 +170,6 @@ fn odd_file(setup: &Setup, seed: u64) -> Result<Counts, String> {
 struct Player<'a> {
     session: Session<'a>,
     way: Way,
-    same_answers: u64,
     /// A line may end the run.
     may_end: bool,
     random: Random,
@@ -215,10 +211,7 @@ impl Player<'_> {
             Way::AtOnce => self.random.within((1, 40)) as usize,
             _ => 1,
         };
-        if self.way == Way::SameAnswers
-            && self.random.percent(self.same_answers)
-            && self.session.room.needs_no_past(lines[0])
-        {
+        if self.way == Way::SameAnswers && self.session.room.needs_no_past(lines[0]) {
             self.session.restart(self.random.percent(50))?;
         }
         let mut parts = lines[..lines.len().min(count)].split(|line| *line == NEW_PROCESS);

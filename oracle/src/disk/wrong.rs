@@ -45,7 +45,6 @@ const SAME: Test = ("same", |setup, _| {
         damaged: 1,
         damaged_calls: 15,
         restarts: 6,
-        same_answers: 50,
         odd: 30,
     };
     same::run(std::slice::from_ref(setup), &effort)
