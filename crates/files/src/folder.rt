@@ -1,4 +1,6 @@
 // The folder of a file: a new file's name is stored there.
+use crate::Stored;
+use crate::synced;
 ghost use mathlib.Core.Path.{_≡_};
 ghost use Prim.Native.Nat.{_≤_};
 ghost use lib.ListN.{length};
@@ -28,13 +30,13 @@ fn open(name: &[u8]) -> i32 {
     os::open_read(&name[..n])
 }
 
-// Waits until the names of its files are stored, and answers whether the system says so.
-pub fn sync(name: &[u8]) -> bool {
+// Waits until the names of its files are stored. Of a folder that may not be opened nobody can say so.
+pub fn sync(name: &[u8]) -> Stored {
     let fd = open(name);
     if fd < 0 {
-        return false;
+        return Stored::Unsynced;
     }
     let status = libc::fsync(fd);
     libc::close(fd);
-    status == 0
+    synced(status)
 }

@@ -102,10 +102,11 @@ fn keep_whole(name: &[u8], to: u8, fd: i32, t: Standing, medium: &[u8]) -> Kept
             code: file.code,
         };
     }
-    if !folder::sync(name) {
+    let code = outcome::of_stored(folder::sync(name));
+    if code != 0 {
         return Kept {
             fd: file.fd,
-            code: 9,
+            code: code,
         };
     }
     let n = parts::medium_part(t);
