@@ -23,7 +23,7 @@ use Rattle.book.specs.Play.{changeOf, queryOf}
 use Rattle.book.specs.Steps.{World, world, called, stepBy, does}
 
 -- a line of another form has no letter, and every other line makes its call
-other-stops : (w : World) (call : Call) → letterOf call ≡ 0 → stepBy w call ≡ stops
+pub other-stops : (w : World) (call : Call) → letterOf call ≡ 0 → stepBy w call ≡ stops
 unfolding stepBy letterOf
 other-stops w (Begin a) h = absurd (omega arith)
 other-stops w (Write a b d) h = absurd (omega arith)
@@ -32,7 +32,7 @@ other-stops w (Query a b) h = absurd (omega arith)
 other-stops w Cut h = absurd (omega arith)
 other-stops w Other h = refl
 
-call-goes : (w : World) (call : Call) → (letterOf call ≡ 0 → ⊥) → stepBy w call ≡ called w call
+pub call-goes : (w : World) (call : Call) → (letterOf call ≡ 0 → ⊥) → stepBy w call ≡ called w call
 unfolding stepBy letterOf
 call-goes w (Begin a) h = refl
 call-goes w (Write a b d) h = refl
@@ -41,7 +41,7 @@ call-goes w (Query a b) h = refl
 call-goes w Cut h = refl
 call-goes w Other h = absurd (h refl)
 
-is-change : (call : Call) (s : State) (m c : List ℕ) → (letterOf call ≡ 81 → ⊥) → changeOf call s m c ≡ outcomeOf call s m c
+pub is-change : (call : Call) (s : State) (m c : List ℕ) → (letterOf call ≡ 81 → ⊥) → changeOf call s m c ≡ outcomeOf call s m c
 unfolding changeOf letterOf
 is-change (Begin a) s m c h = refl
 is-change (Write a b d) s m c h = refl
@@ -50,7 +50,7 @@ is-change (Query a b) s m c h = absurd (h refl)
 is-change Cut s m c h = refl
 is-change Other s m c h = refl
 
-is-query : (call : Call) (s : State) (m c : List ℕ) → letterOf call ≡ 81 → queryOf call s m c ≡ outcomeOf call s m c
+pub is-query : (call : Call) (s : State) (m c : List ℕ) → letterOf call ≡ 81 → queryOf call s m c ≡ outcomeOf call s m c
 unfolding queryOf letterOf
 is-query (Begin a) s m c h = absurd (omega arith)
 is-query (Write a b d) s m c h = absurd (omega arith)

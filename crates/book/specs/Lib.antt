@@ -3,3 +3,4 @@ pub mod Room
 pub mod Steps
 pub mod Play
 pub mod Show
+pub mod Whole

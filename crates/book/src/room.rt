@@ -46,7 +46,7 @@ fn none(refusal: u64) -> Shown
 }
 
 // What an answer shows; a strip that is present shows its first byte.
-fn show(answer: Answer, byte: u8) -> Shown
+pub fn show(answer: Answer, byte: u8) -> Shown
     ensures { λ r. ⌜ r ≡ shownOf answer byte ⌝ }
 {
     match answer {

@@ -41,7 +41,7 @@ use Rattle.script.specs.Run.{printsFrom}
 use Rattle.book.specs.Line.{writeIf as lineWriteIf, queryIf, callOf, lineOf}
 use Rattle.book.specs.Room.{outcomeOf, resultOf, resultText, lineText, letterOf, printed}
 use Rattle.book.specs.Steps.{stepBy}
-use Rattle.stripbook.specs.Whole.{opened, start, printsOf}
+use Rattle.book.specs.Whole.{opened, start, printsOf}
 
 -- 01: "Input `B 10`, `W 1 7 65`, `C 1 5`, `Q 7 10`, `X`, `Q 7 10`"
 unfoldable pub input : List ℕ

@@ -9,7 +9,7 @@ use Rattle.script.specs.Run.{stand, overReads, joinedReads}
 use Rattle.script.proofs.RunLaws.{whole-reads}
 use Rattle.book.specs.Line.{lineOf}
 use Rattle.book.specs.Steps.{stepBy, does}
-use Rattle.stripbook.specs.Whole.{start, printsOf}
+use Rattle.book.specs.Whole.{start, printsOf}
 use Rattle.book.proofs.LineLaws.{line-call, no-letter}
 
 pub prints : (ps : List (List ℕ)) → overReads does (stand noLine start true []) ps ≡ printsOf (joinedReads ps)

@@ -1,4 +1,4 @@
--- What `stripbook` prints for a whole input.
+-- What the first line of a script finds, and what `stripbook` prints for a whole input.
 use Prim.Native.Nat.{ℕ}
 use mathlib.Core.List.{List}
 use Rattle.fields.specs.Block.{zeros, cacheLength}
