@@ -1,0 +1,11 @@
+pub mod ChoiceLaws
+pub mod LineLaws
+pub mod PlayLaws
+pub mod PutLaws
+pub mod KeepLaws
+pub mod SearchLaws
+pub mod PrintLaws
+pub mod Numbers
+pub mod Least
+pub mod Shown
+pub mod Plain

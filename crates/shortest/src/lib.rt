@@ -1,0 +1,7 @@
+// The shortest choice of a script's lines that ends in the same refusal.
+mod choice;
+mod keep;
+mod lines;
+mod play;
+mod search;
+pub mod shorten;
