@@ -12,4 +12,5 @@ pub mod media;
 pub mod random;
 pub mod relief;
 pub mod script;
+pub mod shorten;
 pub mod store;

@@ -13,7 +13,7 @@ use oracle::relief::{room, rooms, same};
 use oracle::script::stripbook;
 use oracle::store::layout::{MAX_LOG_BLOCKS, MAX_PAGES, MAX_SLOTS};
 use oracle::store::rules::Sound;
-use oracle::{media, script};
+use oracle::{media, script, shorten};
 use std::io::{Read, Write};
 use std::path::Path;
 use std::process::ExitCode;
@@ -36,6 +36,8 @@ oracle relief --seeds A-B [--calls N] [--profile NAME]    ways out of a full log
 oracle relief rooms --seeds A-B    rooms for the program relief
 oracle relief expect           what it must print for the rooms of standard input
 oracle relief same PROGRAM --seeds A-B    compares the program with that
+oracle shorten                 what the program shorten must print for a script
+oracle shorten same PROGRAM --seeds A-B    compares the program with that
 oracle striproom [--spoilt NAME] FILE [FD]    the stand-in for striproom
 oracle disk same|kill|faults PROGRAM LAUNCHER    tests of striproom
 oracle disk media|spoilt PROGRAM LAUNCHER FOLDER    the same with the folder of old media
@@ -98,6 +100,7 @@ fn main() -> ExitCode {
         "fuzz" => run_fuzz(&arguments),
         "damage" => run_damage(&arguments),
         "relief" => run_relief(&arguments),
+        "shorten" => run_shorten(&arguments),
         "disk" => command::run(&arguments.0).and_then(|text| print(format!("{text}\n").as_bytes())),
         "media" => run_media(&arguments.0),
         "profiles" => list_profiles(),
@@ -265,6 +268,18 @@ fn tally_relief(arguments: &Arguments) -> Result<freed::Tally, String> {
         }
     }
     Ok(all)
+}
+
+fn run_shorten(arguments: &Arguments) -> Result<(), String> {
+    let words: Vec<&str> = arguments.0.iter().map(String::as_str).collect();
+    match words[..] {
+        ["same", program, ..] => {
+            let counts = shorten::same::compare(Path::new(program), arguments.seeds()?)?;
+            println!("{counts}");
+            Ok(())
+        }
+        _ => run(shorten::run),
+    }
 }
 
 fn run_media(words: &[String]) -> Result<(), String> {
