@@ -5,6 +5,7 @@ oracle=oracle/target/release/oracle
 read -ra stripbook <<<"${STRIPBOOK:-target/bin/stripbook}"
 read -ra replay <<<"${REPLAY:-target/bin/replay}"
 read -ra striproom <<<"${STRIPROOM:-target/bin/striproom}"
+read -ra shorten <<<"${SHORTEN:-target/bin/shorten}"
 
 work=$(mktemp -d)
 trap 'rm -rf "$work"' EXIT
