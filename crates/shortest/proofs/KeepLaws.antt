@@ -1,4 +1,5 @@
--- The calls of a script, kept line by line.
+-- The calls of a script, kept line by line: a line that is taken is the next of the script, so what is kept and the
+-- lines behind it stay the script.
 use mathlib.Core.Path.{_≡_, refl, sym, ap, _∙_}
 use mathlib.Core.List.{List, [], _∷_, _++_, append-nil, map}
 use Prim.Native.Nat.{ℕ, zero, suc, _+_, _-_, _≤_, _<_, min}

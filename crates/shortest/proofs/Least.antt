@@ -1,4 +1,5 @@
--- The search finds the choice that passes with the fewest lines, and the lowest number among those.
+-- The search finds the choice that passes with the fewest lines, and the lowest number among those: a later one takes
+-- its place only if it has fewer lines.
 use mathlib.Core.Path.{_≡_, sym, ap, _∙_}
 use mathlib.Core.Bool.{Bool, true}
 use mathlib.Core.Logic.{_⊎_, inl, inr}

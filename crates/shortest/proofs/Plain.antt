@@ -1,4 +1,5 @@
--- Request #112 in plain words follows from the search.
+-- Request #112 in plain words follows from the search: each list of line numbers is a choice with a number, in the same
+-- order, and the search looks at all of them.
 use mathlib.Core.Path.{_≡_, refl, sym, ap, _∙_}
 use mathlib.Core.Bool.{Bool, true, false}
 use mathlib.Core.List.{List, [], _∷_}

@@ -1,4 +1,5 @@
--- The lines that are chosen, put one behind the other.
+-- The lines that are chosen, put one behind the other: a line's own text, if it is chosen, and then that of the lines
+-- behind it.
 use mathlib.Core.Path.{_≡_, refl, sym, ap, _∙_}
 use mathlib.Core.Bool.{Bool, true, false, cond}
 use mathlib.Core.List.{List, [], _∷_, _++_, append-nil, append-assoc}

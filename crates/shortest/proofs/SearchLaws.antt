@@ -1,4 +1,4 @@
--- The search: a choice that is looked at takes the place of the best so far or does not.
+-- The search: a choice that is looked at takes the place of the best so far or does not, as the definition's does.
 use mathlib.Core.Path.{_≡_, sym, ap, _∙_}
 use mathlib.Core.Bool.{Bool, false}
 use mathlib.Core.List.{List}

@@ -1,4 +1,5 @@
--- What `stripbook` prints: for an input and for what is printed of it, the last line is the same, with the number.
+-- What `stripbook` prints for lines: nothing from the first of another form on, and last the line of the last call,
+-- with the number that the calls end in.
 use mathlib.Core.Path.{_≡_, refl, sym, ap, _∙_}
 use mathlib.Core.Bool.{Bool, true, false, cond}
 use mathlib.Core.Option.{Option, none}
