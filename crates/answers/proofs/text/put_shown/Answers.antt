@@ -1,0 +1,14 @@
+-- Each part stands behind the one before.
+use native.Mathlib.Omega.{arith}
+use lib.ListN.{take}
+use Rattle.answers.specs.Text.{shown_text}
+use Rattle.answers.proofs.TextLaws.{behind_4}
+use Rattle.answers.proofs.text.put_shown.Goals as goal
+
+pub returns : goal.returns
+unfolding shown_text
+returns c =
+    record {
+      upper_bound = omega arith;
+      out_after = behind_4 (take c.args.n c.args.out.now) _ _ _ _ _ _ _ _ (c.byte-a.ensures.text, (c.byte-a.ensures.told, c.byte-a.ensures.utf8)) (c.byte-b.ensures.text, (c.byte-b.ensures.told, c.byte-b.ensures.utf8)) (c.put_block-c.ensures.text, (c.put_block-c.ensures.told, c.put_block-c.ensures.utf8)) (c.byte.ensures.text, (c.byte.ensures.told, c.byte.ensures.utf8));
+    }

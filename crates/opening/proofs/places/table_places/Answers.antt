@@ -1,0 +1,39 @@
+-- The first i places are those that the table gives, the others free; behind its extent the table gives free ones. Assumes
+-- nothing.
+use mathlib.Core.Path.{◌≡◌}
+use Prim.Native.Nat.{◌<◌}
+use native.Mathlib.Omega.{arith}
+use Rattle.conditions.specs.Lookup.{Extent}
+use Rattle.opening.proofs.PlacesLaws.{laying_start, laying_turn, laying_end}
+use Rattle.opening.proofs.places.table_places.Goals as goal
+
+pub loop-i-init : goal.loop-i-init
+loop-i-init c = (omega arith, laying_start _ _ _ _ c.requires.words_value)
+
+pub take_table-requires : goal.take_table-requires
+take_table-requires c =
+    let a = (c.requires.ready, (c.requires.known, (c.requires.total_bound, c.requires.words_value))) in
+    let l = c.loop-i in
+    let h : l.i < 64 = omega (arith, a.1.0.table.few, c.loop-i-test.true) in
+    record {
+      ready = a.0;
+      commits_value = a.1.0.log;
+      total_bound = (a.1.1.0, h);
+      i_value = l.invariant.1.free l.i (omega arith) h;
+    }
+
+pub overflow_add-i : goal.overflow_add-i
+overflow_add-i c = omega (arith, c.requires.known.table.few)
+
+pub loop-i-preserved : goal.loop-i-preserved
+loop-i-preserved c =
+    let l = c.loop-i in
+    let a = (c.requires.ready, (c.requires.known, (c.requires.total_bound, c.requires.words_value))) in
+    (omega arith, laying_turn _ _ _ _ _ _ l.i (omega (arith, a.1.0.table.few, c.loop-i-test.true)) l.invariant.1 c.take_table.ensures)
+
+pub returns : goal.returns
+returns c =
+    let l = c.loop-i in
+    let e : l.i ≡ c.args.used = omega arith in
+    let x : Extent c.args.medium.now l.i = rw e c.requires.known.table in
+    laying_end _ _ _ _ _ l.i x l.invariant.1

@@ -1,0 +1,85 @@
+-- A look leaves the room; a handover has its own line; any other line is a turn, and its answer is printed.
+use mathlib.Core.Path.{sym, ap, ◌∙◌}
+use mathlib.Core.List.{◌++◌}
+use native.Mathlib.Omega.{arith}
+use lib.ListN.{take}
+use lib.Dec.{eqb}
+use Rattle.memory.specs.Memory.{state_of}
+use Rattle.rooms.specs.declared.plan.Plan.{Plan}
+use Rattle.rooms.specs.Room.{Turn, plan_of}
+use Rattle.rooms.specs.Parts.{room_of}
+use Rattle.rooms.proofs.PlanLaws.{plan_stage}
+use Rattle.turns.proofs.TurnLaws.{not_hand, hand_turn}
+use Rattle.turns.proofs.step.step.Goals as goal
+
+pub look-end-requires : goal.look-end-requires
+look-end-requires c =
+    let p = (c.requires.medium_len, (c.requires.cache_len, (c.requires.buffer_len, (c.requires.n_in_bounds, (c.requires.p_value, c.requires.stage_bound))))) in let q = p.1.1.1.1.0 in let e = ap (λ (x : Plan). x.stage) q in
+    record {
+      medium_len = p.0;
+      cache_len = p.1.0;
+      buffer_len = p.1.1.0;
+      n_in_bounds = p.1.1.1.0;
+      call_value = ap (λ (x : Plan). x.looks) (sym q) ∙ c.if-p.true;
+      call_bound = omega arith;
+    }
+
+pub returns-then-p : goal.returns-then-p
+returns-then-p c =
+    let e = (c.look-end.ensures.fields, (c.look-end.ensures.text, (c.look-end.ensures.told, c.look-end.ensures.utf8))) in
+    record {
+      n_bound = e.0;
+      out_after = e.1.0;
+      tail_after = sym e.1.1;
+    }
+
+pub hand-answer-requires : goal.hand-answer-requires
+unfolding plan_of
+hand-answer-requires c =
+    let p = (c.requires.medium_len, (c.requires.cache_len, (c.requires.buffer_len, (c.requires.n_in_bounds, (c.requires.p_value, c.requires.stage_bound))))) in
+    record {
+      medium_len = p.0;
+      cache_len = p.1.0;
+      bound = plan_stage _ _ _ _ p.1.1.1.1.0 c.in-Hand.is p.1.1.1.1.1;
+    }
+
+pub returns-in-Hand : goal.returns-in-Hand
+returns-in-Hand c =
+    let k = c.args in let e = hand_turn k.asked (room_of k.t k.medium.now k.cache.now (state_of k.words.now k.tail.now)) _ _ _ _ _ _ c.in
+    record {
+      n_bound = (-Hand.is c.hand-answer.ensures in
+    (omega arith, ((c.put_handed-end.ensures.text, (c.put_handed-end.ensures.told, c.put_handed-end.ensures.utf8)) ∙ ap (λ (u : Turn). take k.n k.out.now ++ u.text) e, ap (λ (u : Turn). u.room) e))).0;
+      out_after = (-Hand.is c.hand-answer.ensures in
+    (omega arith, ((c.put_handed-end.ensures.text, (c.put_handed-end.ensures.told, c.put_handed-end.ensures.utf8)) ∙ ap (λ (u : Turn). take k.n k.out.now ++ u.text) e, ap (λ (u : Turn). u.room) e))).1.0;
+      tail_after = (-Hand.is c.hand-answer.ensures in
+    (omega arith, ((c.put_handed-end.ensures.text, (c.put_handed-end.ensures.told, c.put_handed-end.ensures.utf8)) ∙ ap (λ (u : Turn). take k.n k.out.now ++ u.text) e, ap (λ (u : Turn). u.room) e))).1.1;
+    }
+
+pub turn-turned-requires : goal.turn-turned-requires
+turn-turned-requires c =
+    let p = (c.requires.medium_len, (c.requires.cache_len, (c.requires.buffer_len, (c.requires.n_in_bounds, (c.requires.p_value, c.requires.stage_bound))))) in let q = p.1.1.1.1.0 in let e = ap (λ (x : Plan). eqb x.letter 72) q ∙ not_hand c.args.asked.call c.in
+    record {
+      medium_len = (-Hand.in-Hand-own.keys2 in
+    (p.0, (p.1.0, (p.1.1.0, (q, (c.if-p.false, (e, p.1.1.1.1.1))))))).0;
+      cache_len = (-Hand.in-Hand-own.keys2 in
+    (p.0, (p.1.0, (p.1.1.0, (q, (c.if-p.false, (e, p.1.1.1.1.1))))))).1.0;
+      buffer_len = (-Hand.in-Hand-own.keys2 in
+    (p.0, (p.1.0, (p.1.1.0, (q, (c.if-p.false, (e, p.1.1.1.1.1))))))).1.1.0;
+      p_value = (-Hand.in-Hand-own.keys2 in
+    (p.0, (p.1.0, (p.1.1.0, (q, (c.if-p.false, (e, p.1.1.1.1.1))))))).1.1.1.0;
+      looks_value = (-Hand.in-Hand-own.keys2 in
+    (p.0, (p.1.0, (p.1.1.0, (q, (c.if-p.false, (e, p.1.1.1.1.1))))))).1.1.1.1.0;
+      letter_value = (-Hand.in-Hand-own.keys2 in
+    (p.0, (p.1.0, (p.1.1.0, (q, (c.if-p.false, (e, p.1.1.1.1.1))))))).1.1.1.1.1.0;
+      stage_bound = (-Hand.in-Hand-own.keys2 in
+    (p.0, (p.1.0, (p.1.1.0, (q, (c.if-p.false, (e, p.1.1.1.1.1))))))).1.1.1.1.1.1;
+    }
+
+pub returns : goal.returns
+returns c =
+    let k = c.args in let e = c.turn-turned.ensures in
+    record {
+      n_bound = omega arith;
+      out_after = (c.put_answer-end.ensures.text, (c.put_answer-end.ensures.told, c.put_answer-end.ensures.utf8)) ∙ ap (λ (u : Turn). take k.n k.out.now ++ u.text) e;
+      tail_after = ap (λ (u : Turn). u.room) e;
+    }

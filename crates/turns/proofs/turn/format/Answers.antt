@@ -1,0 +1,13 @@
+-- The medium before does not matter.
+use native.Mathlib.Omega.{arith}
+use Rattle.rooms.proofs.RoomLaws.{first_length}
+use Rattle.turns.proofs.TurnLaws.{format_left}
+use Rattle.turns.proofs.turn.format.Goals as goal
+
+pub slice_bounds-format-end-2 : goal.slice_bounds-format-end-2
+slice_bounds-format-end-2 c = first_length c.args.medium.now c.fresh_length-n.result (omega arith)
+
+pub returns : goal.returns
+returns c =
+    let k = c.args in let f = (c.fresh_length-n.ensures.fields, (c.fresh_length-n.ensures.text, (c.fresh_length-n.ensures.told, c.fresh_length-n.ensures.utf8))) in
+    λ cache s. format_left k.blocks k.pages _ _ _ _ k.medium.now cache s c.stage_after.ensures f.0 f.1 (omega arith) c.format-answer.auto.medium c.format-answer.ensures
