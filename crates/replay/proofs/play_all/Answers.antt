@@ -32,7 +32,7 @@ play_out-next-requires c =
 
 pub overflow_add-i : goal.overflow_add-i
 overflow_add-i c =
-    let h = simp (length-take, length-drop) at c.play_out-next.ensures.fields in omega (arith, c.loop-i-test.true, c.well-formed.1.0.0)
+    let h = simp (length-take, length-drop) at c.play_out-next.ensures.fields in omega (arith, c.loop-i-test.true, c.well_formed.1.0.0)
 
 pub loop-i-smaller : goal.loop-i-smaller
 loop-i-smaller c =

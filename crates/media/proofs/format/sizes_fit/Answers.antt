@@ -12,7 +12,7 @@ q1 : (c : goal.Else-not-in_range) → in_range c.args.blocks c.args.pages ≡ tr
 q1 c = sym c.in_range.ensures ∙ c.if-not-in_range.false
 
 pub medium_length-requires : goal.medium_length-requires
-medium_length-requires c = let h = range_of _ _ (q1 c) in (h.blocks-high, h.pages-high)
+medium_length-requires c = let h = range_of _ _ (q1 c) in (h.blocks_high, h.pages_high)
 
 q1_at_returns : (c : goal.After-medium_length) → in_range c.args.blocks c.args.pages ≡ true
 q1_at_returns c = sym c.in_range.ensures ∙ c.if-not-in_range.false

@@ -16,7 +16,7 @@ right c = c.if-not-sizes_fit.false
 
 pub cache_length-requires : goal.cache_length-requires
 cache_length-requires c =
-    let a = c.args in (range a.medium.now a.cache.now _ _ _ c.sizes_fit.ensures (right c)).pages-high
+    let a = c.args in (range a.medium.now a.cache.now _ _ _ c.sizes_fit.ensures (right c)).pages_high
 
 -- the sizes are right, the cache has its length, and the medium is well formed
 right_at_returns_then_cache_cache_length : (c : goal.Then-cache-cache_length) → c.sizes_fit.result ≡ true
@@ -43,7 +43,7 @@ open_state-found-requires c =
     let r = right_at_open_state_found_requires c in
     record {
       ready = ready m k _ _ _ e r;
-      pages_bound = ((range m k _ _ _ e r).pages-high, medium_is m k _ _ _ e r);
+      pages_bound = ((range m k _ _ _ e r).pages_high, medium_is m k _ _ _ e r);
       cache_len = cache_is m k _ _ _ e r (fits c);
       words_value = c.clear.ensures.0;
     }

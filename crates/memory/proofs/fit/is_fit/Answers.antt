@@ -29,7 +29,7 @@ range-holds : (c : goal.Else-not-in_range) → let w = c.args.words.now in in_ra
 range-holds c = sym c.in_range.ensures ∙ c.if-not-in_range.false
 
 pub medium_length-requires : goal.medium_length-requires
-medium_length-requires c = let h = range_of _ _ (range-holds c) in (h.blocks-high, h.pages-high)
+medium_length-requires c = let h = range_of _ _ (range-holds c) in (h.blocks_high, h.pages_high)
 
 -- what the first three tests give where they do not refuse
 range-holds_at_returns_then_medium_medium_length : (c : goal.Then-medium-medium_length) → let w = c.args.words.now in in_range (get_or w 0 0) (get_or w 1 0) ≡ true
@@ -45,7 +45,7 @@ range-holds_at_cache_length_requires : (c : goal.Else-medium-medium_length) → 
 range-holds_at_cache_length_requires c = sym c.in_range.ensures ∙ c.if-not-in_range.false
 
 pub cache_length-requires : goal.cache_length-requires
-cache_length-requires c = (range_of _ _ (range-holds_at_cache_length_requires c)).pages-high
+cache_length-requires c = (range_of _ _ (range-holds_at_cache_length_requires c)).pages_high
 
 -- what the first three tests give where they do not refuse
 range-holds_at_returns_then_cache_cache_length : (c : goal.Then-cache-cache_length) → let w = c.args.words.now in in_range (get_or w 0 0) (get_or w 1 0) ≡ true

@@ -8,7 +8,7 @@ use Rattle.rooms.proofs.parts.fresh_length.Goals as goal
 
 pub medium_length-requires : goal.medium_length-requires
 medium_length-requires c =
-    let r = range_of _ _ (sym c.in_range.ensures ∙ c.if-in_range.true) in (r.blocks-high, r.pages-high)
+    let r = range_of _ _ (sym c.in_range.ensures ∙ c.if-in_range.true) in (r.blocks_high, r.pages_high)
 
 pub returns-then-in_range : goal.returns-then-in_range
 unfolding fresh_length medium_length

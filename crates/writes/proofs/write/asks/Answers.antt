@@ -80,7 +80,7 @@ q1_at_overflow_mul_words c = sym c.is_fit.ensures ∙ c.if-not-is_fit.false
 
 pub overflow_mul-words : goal.overflow_mul-words
 unfolding state_of state_by
-overflow_mul-words c = let h = fit_of _ _ _ (q1_at_overflow_mul_words c) in omega (arith, h.range.pages-high)
+overflow_mul-words c = let h = fit_of _ _ _ (q1_at_overflow_mul_words c) in omega (arith, h.range.pages_high)
 
 q1_at_returns_then_words : (c : goal.Then-words) → let a = c.args in fits (state_of a.words.now a.tail.now) (length a.medium.now) (length a.cache.now) ≡ true
 q1_at_returns_then_words c = sym c.is_fit.ensures ∙ c.if-not-is_fit.false
