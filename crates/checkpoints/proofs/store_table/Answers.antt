@@ -5,5 +5,4 @@ use Rattle.checkpoints.proofs.store_table.Goals as goal
 
 pub returns : goal.returns
 returns c =
-    let h = (c.requires.k_bound, c.requires.from_le_to) in
-    table_laid _ _ c.args.k _ (omega arith) (row_short _ _ _ _ h.1.2) c.lay_pairs.auto.block c.lay_pairs.ensures
+    table_laid _ _ c.args.k _ (omega arith) (row_short _ _ _ _ c.requires.from_le_to.2) c.lay_pairs.auto.block c.lay_pairs.ensures

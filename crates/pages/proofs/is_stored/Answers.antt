@@ -11,13 +11,11 @@ use Rattle.pages.proofs.is_stored.Goals as goal
 
 pub returns-then-not-same : goal.returns-then-not-same
 returns-then-not-same c =
-    let p = (c.requires.cached_len, c.requires.stored_len) in
-    sym (head_differ _ _ _ _ _ p.1 p.0 c.same.ensures (c.if-not-same.true))
+    sym (head_differ _ _ _ _ _ c.requires.stored_len c.requires.cached_len c.same.ensures (c.if-not-same.true))
 
 pub loop-i-init : goal.loop-i-init
 loop-i-init c =
-    let p = (c.requires.cached_len, c.requires.stored_len) in
-    (omega arith, head_same _ _ _ _ _ p.1 p.0 c.same.ensures (c.if-not-same.false))
+    (omega arith, head_same _ _ _ _ _ c.requires.stored_len c.requires.cached_len c.same.ensures (c.if-not-same.false))
 
 pub same_slot-requires : goal.same_slot-requires
 same_slot-requires c =
@@ -30,15 +28,14 @@ same_slot-requires c =
 
 pub returns-then-not-same_slot : goal.returns-then-not-same_slot
 returns-then-not-same_slot c =
-    let p = (c.requires.cached_len, c.requires.stored_len) in
-    sym (slot_differ _ _ _ _ _ p.1 p.0 c.loop-i.i c.loop-i-test.true c.same_slot.ensures (c.if-not-same_slot.true))
+    sym (slot_differ _ _ _ _ _ c.requires.stored_len c.requires.cached_len c.loop-i.i c.loop-i-test.true c.same_slot.ensures (c.if-not-same_slot.true))
     ∙ c.loop-i.invariant.1
 
 pub loop-i-preserved : goal.loop-i-preserved
 loop-i-preserved c =
-    let p = (c.requires.cached_len, c.requires.stored_len) in (
+    (
       omega arith,
-      slot_same _ _ _ _ _ p.1 p.0 c.loop-i.i c.loop-i-test.true c.same_slot.ensures (c.if-not-same_slot.false)
+      slot_same _ _ _ _ _ c.requires.stored_len c.requires.cached_len c.loop-i.i c.loop-i-test.true c.same_slot.ensures (c.if-not-same_slot.false)
           ∙ c.loop-i.invariant.1,
     )
 

@@ -1,6 +1,5 @@
 -- The code asks in differences what `mayLog` asks in sums. Assumes nothing.
 use mathlib.Core.Path.{◌≡◌, sym, ◌∙◌}
-use mathlib.Core.Logic.{⊎_elim}
 use mathlib.Core.Bool.{false}
 use native.Mathlib.Omega.{arith}
 use Rattle.fields.specs.Block.{medium_length}
@@ -8,6 +7,7 @@ use Rattle.store.specs.Tail.{tail_fits, may_log}
 use Rattle.memory.specs.Memory.{state_by, state_of}
 use Rattle.tail.proofs.TailLaws.{may_not, may_if, ready_words}
 use Rattle.tail.proofs.may_log.Goals as goal
+use Rattle.tail.proofs.may_log.Goals.{else-l-next, then-l-next+else-oldest-next}
 
 pub returns-then-has_room : goal.returns-then-has_room
 unfolding may_log state_of state_by
@@ -38,4 +38,4 @@ pub returns : goal.returns
 unfolding state_of state_by
 returns c =
     let a = c.args in
-    sym (may_if (state_of a.words.now a.tail.now) a.medium.now a.size _ c.sequence-next.ensures (full_at_returns c) (⊎_elim (λ w. omega arith) (λ w. omega arith) c.if-l-next.branch))
+    sym (may_if (state_of a.words.now a.tail.now) a.medium.now a.size _ c.sequence-next.ensures (full_at_returns c) (elim c.if-l-next.branch [ else-l-next w ↦ omega arith | then-l-next+else-oldest-next w ↦ omega arith ]))

@@ -16,5 +16,4 @@ shape_of-line c = c.copy_into.auto.dst ∙ (simp length-set at c.line-2-1.given.
 
 pub returns : goal.returns
 returns c =
-    let p = (c.requires.line_len, c.requires.value_len) in
-    line_laid _ _ _ _ _ _ _ p.0 p.1 c.put8.ensures c.clear.ensures c.copy_into.ensures
+    line_laid _ _ _ _ _ _ _ c.requires.line_len c.requires.value_len c.put8.ensures c.clear.ensures c.copy_into.ensures

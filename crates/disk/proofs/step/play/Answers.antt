@@ -7,18 +7,18 @@ use Rattle.disk.proofs.step.play.Goals as goal
 
 pub differ-requires : goal.differ-requires
 differ-requires c =
-    let q = (c.extent_of-e.ensures.fields, (c.extent_of-e.ensures.text, (c.extent_of-e.ensures.told, c.extent_of-e.ensures.utf8))) in (omega (arith, q.1.0, (c.medium_part.ensures.text, (c.medium_part.ensures.told, c.medium_part.ensures.utf8)), c.medium-1.given, c.requires.medium_len), omega arith)
+    (omega (arith, c.extent_of-e.ensures.text, (c.medium_part.ensures.text, (c.medium_part.ensures.told, c.medium_part.ensures.utf8)), c.medium-1.given, c.requires.medium_len), omega arith)
 
 pub returns : goal.returns
 returns c =
-    let k = c.args in let p = (c.requires.medium_len, (c.requires.cache_len, (c.requires.buffer_len, (c.requires.n_in_bounds, (c.requires.p_value, c.requires.stage_bound))))) in let q = (c.extent_of-e.ensures.fields, (c.extent_of-e.ensures.text, (c.extent_of-e.ensures.told, c.extent_of-e.ensures.utf8))) in let s = state_of k.words.now k.tail.now in
-    let e = (c.step-stepped.ensures.fields, (c.step-stepped.ensures.text, (c.step-stepped.ensures.told, c.step-stepped.ensures.utf8))) in let g = (c.medium_part.ensures.fields, (c.medium_part.ensures.text, (c.medium_part.ensures.told, c.medium_part.ensures.utf8))) in let o = c.of.ensures in let v = c.keep.ensures in let b = c.differ.ensures in let h = c.medium-1.given ∙ p.0 in
+    let k = c.args in let s = state_of k.words.now k.tail.now in
+    let e = (c.step-stepped.ensures.fields, (c.step-stepped.ensures.text, (c.step-stepped.ensures.told, c.step-stepped.ensures.utf8))) in let o = c.of.ensures in let v = c.keep.ensures in let b = c.differ.ensures in let h = c.medium-1.given ∙ c.requires.medium_len in
     record {
       n_bound = e.0;
       out_after = e.1.0;
       tail_after = e.1.1;
       len_bound = omega arith;
-      whole = λ f. line_whole k.asked k.t _ k.medium.now k.cache.now s _ _ _ p.0 h e.1.1 f _ _ _ _ _ _ g.0 o q.0.0 q.0.1 q.1.0 v b;
-      changed_value = λ f. line_changed k.asked k.t _ k.medium.now k.cache.now s _ _ _ p.0 h e.1.1 f _ _ _ _ _ _ g.0 o q.0.0 q.0.1 q.1.0 v b;
-      len_after = λ f. line_stored k.asked k.t _ k.medium.now k.cache.now s _ _ _ p.0 h e.1.1 f _ _ _ _ _ _ g.0 o q.0.0 q.0.1 q.1.0 v b;
+      whole = λ f. line_whole k.asked k.t _ k.medium.now k.cache.now s _ _ _ c.requires.medium_len h e.1.1 f _ _ _ _ _ _ c.medium_part.ensures.fields o c.extent_of-e.ensures.fields.0 c.extent_of-e.ensures.fields.1 c.extent_of-e.ensures.text v b;
+      changed_value = λ f. line_changed k.asked k.t _ k.medium.now k.cache.now s _ _ _ c.requires.medium_len h e.1.1 f _ _ _ _ _ _ c.medium_part.ensures.fields o c.extent_of-e.ensures.fields.0 c.extent_of-e.ensures.fields.1 c.extent_of-e.ensures.text v b;
+      len_after = λ f. line_stored k.asked k.t _ k.medium.now k.cache.now s _ _ _ c.requires.medium_len h e.1.1 f _ _ _ _ _ _ c.medium_part.ensures.fields o c.extent_of-e.ensures.fields.0 c.extent_of-e.ensures.fields.1 c.extent_of-e.ensures.text v b;
     }

@@ -15,11 +15,10 @@ overflow_mul-slots c = omega (arith, c.requires.pages_bound.0)
 
 pub collect-found-requires : goal.collect-found-requires
 collect-found-requires c =
-    let a = (c.requires.ready, (c.requires.known, (c.requires.pages_bound, c.requires.words_value))) in
     record {
-      ready = a.0;
-      known = a.1.0;
-      room = record { pages = c.args.pages; few = a.1.1.0.0; size = a.1.1.0.1; below = omega arith };
+      ready = c.requires.ready;
+      known = c.requires.known;
+      room = record { pages = c.args.pages; few = c.requires.pages_bound.0; size = c.requires.pages_bound.1; below = omega arith };
       list_len = search rules;
     }
 
@@ -29,12 +28,11 @@ returns-in_default c =
 
 pub table_places-requires : goal.table_places-requires
 table_places-requires c =
-    let a = (c.requires.ready, (c.requires.known, (c.requires.pages_bound, c.requires.words_value))) in
     record {
-      ready = a.0;
-      known = a.1.0;
+      ready = c.requires.ready;
+      known = c.requires.known;
       total_bound = (collected_count _ _ _ _ _ _ c.in-Count.is c.collect-found.ensures).few;
-      words_value = a.1.1.1;
+      words_value = c.requires.words_value;
     }
 
 pub loop-i-init : goal.loop-i-init
@@ -59,21 +57,20 @@ bounds-list-k-in-loop-i c = omega (arith, c.loop-i.invariant.1.few)
 
 pub take_log-requires : goal.take_log-requires
 take_log-requires c =
-    let a = (c.requires.ready, (c.requires.known, (c.requires.pages_bound, c.requires.words_value))) in
     record {
-      in_bounds = ready_table _ _ a.0;
-      extent = a.1.0.table;
+      in_bounds = ready_table _ _ c.requires.ready;
+      extent = c.requires.known.table;
     }
 
 pub loop-i-preserved : goal.loop-i-preserved
 loop-i-preserved c =
     let l = c.loop-i in
     let v = l.invariant in
-    let a = (c.requires.ready, (c.requires.known, (c.requires.pages_bound, c.requires.words_value))) in (
+    (
       omega arith,
       v.1,
       laid_all _ _ _ c.take_log.ensures _ v.2,
-      taken_turn _ _ _ _ _ _ _ _ l.i _ c.loop-i-test.true v.1 a.1.0.log (all_places _ _ _ c.take_log.ensures) ∙ v.3,
+      taken_turn _ _ _ _ _ _ _ _ l.i _ c.loop-i-test.true v.1 c.requires.known.log (all_places _ _ _ c.take_log.ensures) ∙ v.3,
     )
 
 pub returns : goal.returns

@@ -12,13 +12,12 @@ loop-i-init c = (omega arith, laying_start _ _ _ _ c.requires.words_value)
 
 pub take_table-requires : goal.take_table-requires
 take_table-requires c =
-    let a = (c.requires.ready, (c.requires.known, (c.requires.total_bound, c.requires.words_value))) in
     let l = c.loop-i in
-    let h : l.i < 64 = omega (arith, a.1.0.table.few, c.loop-i-test.true) in
+    let h : l.i < 64 = omega (arith, c.requires.known.table.few, c.loop-i-test.true) in
     record {
-      ready = a.0;
-      commits_value = a.1.0.log;
-      total_bound = (a.1.1.0, h);
+      ready = c.requires.ready;
+      commits_value = c.requires.known.log;
+      total_bound = (c.requires.total_bound, h);
       i_value = l.invariant.1.free l.i (omega arith) h;
     }
 
@@ -28,8 +27,7 @@ overflow_add-i c = omega (arith, c.requires.known.table.few)
 pub loop-i-preserved : goal.loop-i-preserved
 loop-i-preserved c =
     let l = c.loop-i in
-    let a = (c.requires.ready, (c.requires.known, (c.requires.total_bound, c.requires.words_value))) in
-    (omega arith, laying_turn _ _ _ _ _ _ l.i (omega (arith, a.1.0.table.few, c.loop-i-test.true)) l.invariant.1 c.take_table.ensures)
+    (omega arith, laying_turn _ _ _ _ _ _ l.i (omega (arith, c.requires.known.table.few, c.loop-i-test.true)) l.invariant.1 c.take_table.ensures)
 
 pub returns : goal.returns
 returns c =

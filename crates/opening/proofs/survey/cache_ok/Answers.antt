@@ -7,7 +7,7 @@ use Rattle.opening.proofs.survey.cache_ok.Goals as goal
 pub all_ok-requires : goal.all_ok-requires
 unfolding medium_length
 all_ok-requires c =
-    let a = (c.requires.ready, (c.requires.known, (c.requires.pages_bound, (c.requires.keys_below, c.requires.next_value)))) in omega (arith, a.0.low, a.0.medium)
+    omega (arith, c.requires.ready.low, c.requires.ready.medium)
 
 pub returns-then-not-all_ok : goal.returns-then-not-all_ok
 returns-then-not-all_ok c =

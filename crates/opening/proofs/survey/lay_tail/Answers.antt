@@ -7,7 +7,7 @@ use Rattle.opening.proofs.survey.lay_tail.Goals as goal
 
 pub returns-then-left-eq0 : goal.returns-then-left-eq0
 returns-then-left-eq0 c =
-    let a = (c.requires.ready, (c.requires.valid, c.requires.sequence_value)) in tail_none _ _ _ _ a.1.1.0 a.1.1.1 c.if-left-eq0.true _ c.begin.ensures
+    tail_none _ _ _ _ c.requires.sequence_value.0 c.requires.sequence_value.1 c.if-left-eq0.true _ c.begin.ensures
 
 -- the block lies within the medium
 inside : (c : goal.After-copy-arg-1) → c.block_start-start.result + 512 ≤ length c.args.medium.now
@@ -22,5 +22,4 @@ slice_bounds-copy-end-2 c = omega (arith, inside c)
 
 pub returns : goal.returns
 returns c =
-    let a = (c.requires.ready, (c.requires.valid, c.requires.sequence_value)) in
-    tail_last _ _ _ _ a.1.1.0 a.1.1.1 c.if-left-eq0.false _ c.block_start-start.ensures _ c.copy.ensures
+    tail_last _ _ _ _ c.requires.sequence_value.0 c.requires.sequence_value.1 c.if-left-eq0.false _ c.block_start-start.ensures _ c.copy.ensures

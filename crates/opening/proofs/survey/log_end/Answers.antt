@@ -7,7 +7,7 @@ use Rattle.opening.proofs.survey.log_end.Goals as goal
 
 pub returns-then-count-eq0 : goal.returns-then-count-eq0
 returns-then-count-eq0 c =
-    let a = (c.requires.ready, (c.requires.oldest_value, c.requires.oldest_bound)) in end_none _ _ _ _ a.1.0.0 a.1.0.1 c.if-count-eq0.true a.1.1.0
+    end_none _ _ _ _ c.requires.oldest_value.0 c.requires.oldest_value.1 c.if-count-eq0.true c.requires.oldest_bound.0
 
 -- the block lies within the medium
 inside : (c : goal.After-block_start-start) → c.block_start-start.result + 512 ≤ length c.args.medium.now

@@ -14,11 +14,10 @@ good c = found_good _ _ _ _ _ _ c.read_log-found.ensures c.in-Good.is
 
 pub run-requires : goal.run-requires
 run-requires c =
-    let a = (c.requires.ready, (c.requires.pages_bound, (c.requires.cache_len, c.requires.words_value))) in
     record {
-      ready = a.0;
-      valid = read_valid _ _ _ _ _ (good c) a.0.high;
-      pages_bound = (a.1.0.0, c.cache-1.given ∙ a.1.1.0);
+      ready = c.requires.ready;
+      valid = read_valid _ _ _ _ _ (good c) c.requires.ready.high;
+      pages_bound = (c.requires.pages_bound.0, c.cache-1.given ∙ c.requires.cache_len);
       from_value = read_slots _ _ _ _ _ (good c);
     }
 
@@ -36,13 +35,12 @@ good_at_judge_requires c = found_good _ _ _ _ _ _ c.read_log-found.ensures c.in-
 
 pub judge-requires : goal.judge-requires
 judge-requires c =
-    let a = (c.requires.ready, (c.requires.pages_bound, (c.requires.cache_len, c.requires.words_value))) in
     record {
-      ready = a.0;
-      pages_bound = (a.1.0.0, c.cache-2-1.given ∙ c.cache-1.given ∙ a.1.1.0);
-      applied = applied _ _ _ _ _ (good_at_judge_requires c) _ _ _ _ c.copy_pages.ensures a.1.1.1 _ c.run.ensures.fields (c.if-not-run.false);
-      by_index = noted_blank _ _ a.1.1.1 (c.run.ensures.text, (c.run.ensures.told, c.run.ensures.utf8));
-      medium_len = a.1.0.1;
+      ready = c.requires.ready;
+      pages_bound = (c.requires.pages_bound.0, c.cache-2-1.given ∙ c.cache-1.given ∙ c.requires.cache_len);
+      applied = applied _ _ _ _ _ (good_at_judge_requires c) _ _ _ _ c.copy_pages.ensures c.requires.words_value _ c.run.ensures.fields (c.if-not-run.false);
+      by_index = noted_blank _ _ c.requires.words_value (c.run.ensures.text, (c.run.ensures.told, c.run.ensures.utf8));
+      medium_len = c.requires.pages_bound.1;
     }
 
 -- what was read of the medium

@@ -10,14 +10,14 @@ use Rattle.opening.proofs.survey.read_log.Goals as goal
 
 pub master_ok-requires : goal.master_ok-requires
 unfolding medium_length
-master_ok-requires c = let a = (c.requires.ready, c.requires.pages_bound) in omega (arith, a.0.low, a.1.1)
+master_ok-requires c = omega (arith, c.requires.ready.low, c.requires.pages_bound.1)
 
 pub returns-then-not-master_ok : goal.returns-then-not-master_ok
 returns-then-not-master_ok c = no_master _ _ _ (told_no _ _ c.master_ok.ensures c.if-not-master_ok.true)
 
 pub oldest-oldest-requires : goal.oldest-oldest-requires
 unfolding medium_length
-oldest-oldest-requires c = let a = (c.requires.ready, c.requires.pages_bound) in omega (arith, a.0.low, a.1.1)
+oldest-oldest-requires c = omega (arith, c.requires.ready.low, c.requires.pages_bound.1)
 
 -- the master is in form
 master : (c : goal.After-oldest-oldest) → let a = c.args in master_ok a.medium.now a.blocks a.pages ≡ true
@@ -79,11 +79,10 @@ log_end-end-requires c =
 pub pages_ok-requires : goal.pages_ok-requires
 unfolding medium_length
 pages_ok-requires c =
-    let a = (c.requires.ready, c.requires.pages_bound) in
     record {
-      ready = a.0;
-      pages_in_bounds = omega (arith, a.1.1);
-      pages_bound = a.1.0;
+      ready = c.requires.ready;
+      pages_in_bounds = omega (arith, c.requires.pages_bound.1);
+      pages_bound = c.requires.pages_bound.0;
       end_value = c.log_end-end.ensures;
     }
 

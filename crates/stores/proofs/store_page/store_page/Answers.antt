@@ -185,10 +185,9 @@ unfolding state_of state_by
 returns-then-not-store c =
     let a = c.args in
     let n = c.if-not-store.true in
-    let x = (c.store.ensures.fields, (c.store.ensures.text, (c.store.ensures.told, c.store.ensures.utf8))) in
     let h = both_at_returns_then_not_store c in
     page_kept a.words.now a.tail.now a.medium.now a.cache.now a.page c.page_block-b.result c.page_block-b.ensures
-    c.store.result _ _ _ h.1 h.3 (x.1.1.1 a.tail.now) x.1.0 x.1.1.0 _ n
+    c.store.result _ _ _ h.1 h.3 (c.store.ensures.utf8 a.tail.now) c.store.ensures.text c.store.ensures.told _ n
     ∙ sym (page_unchanged (state_of a.words.now a.tail.now) _ _ _ _ _ (q1_at_returns_then_not_store c) c.if-words-page.false (q3_at_returns_then_not_store c) c.if-words-end.false (q4 c) n)
 
 -- the answers to the questions
@@ -221,9 +220,8 @@ unfolding state_of state_by
 returns c =
     let a = c.args in
     let n = c.if-not-store.false in
-    let x = (c.store.ensures.fields, (c.store.ensures.text, (c.store.ensures.told, c.store.ensures.utf8))) in
     let h = both_at_returns c in
     page_laid a.words.now a.tail.now a.medium.now a.cache.now a.page c.page_block-b.result c.page_block-b.ensures
-    c.store.result _ _ _ h.1 h.3 (x.1.1.1 a.tail.now) x.1.0 x.1.1.0 _ n (c.forget.ensures a.tail.now)
+    c.store.result _ _ _ h.1 h.3 (c.store.ensures.utf8 a.tail.now) c.store.ensures.text c.store.ensures.told _ n (c.forget.ensures a.tail.now)
     c.store.auto.block.0 c.store.auto.block.1.0
     ∙ sym (page_done (state_of a.words.now a.tail.now) _ _ _ _ _ (q1_at_returns c) c.if-words-page.false (q3_at_returns c) c.if-words-end.false (q4_at_returns c) n)

@@ -14,12 +14,12 @@ use Rattle.turns.proofs.step.step.Goals as goal
 
 pub look-end-requires : goal.look-end-requires
 look-end-requires c =
-    let p = (c.requires.medium_len, (c.requires.cache_len, (c.requires.buffer_len, (c.requires.n_in_bounds, (c.requires.p_value, c.requires.stage_bound))))) in let q = p.1.1.1.1.0 in let e = ap (λ (x : Plan). x.stage) q in
+    let q = c.requires.p_value in let e = ap (λ (x : Plan). x.stage) q in
     record {
-      medium_len = p.0;
-      cache_len = p.1.0;
-      buffer_len = p.1.1.0;
-      n_in_bounds = p.1.1.1.0;
+      medium_len = c.requires.medium_len;
+      cache_len = c.requires.cache_len;
+      buffer_len = c.requires.buffer_len;
+      n_in_bounds = c.requires.n_in_bounds;
       call_value = ap (λ (x : Plan). x.looks) (sym q) ∙ c.if-p.true;
       call_bound = omega arith;
     }
@@ -36,11 +36,10 @@ returns-then-p c =
 pub hand-answer-requires : goal.hand-answer-requires
 unfolding plan_of
 hand-answer-requires c =
-    let p = (c.requires.medium_len, (c.requires.cache_len, (c.requires.buffer_len, (c.requires.n_in_bounds, (c.requires.p_value, c.requires.stage_bound))))) in
     record {
-      medium_len = p.0;
-      cache_len = p.1.0;
-      bound = plan_stage _ _ _ _ p.1.1.1.1.0 c.in-Hand.is p.1.1.1.1.1;
+      medium_len = c.requires.medium_len;
+      cache_len = c.requires.cache_len;
+      bound = plan_stage _ _ _ _ c.requires.p_value c.in-Hand.is c.requires.stage_bound;
     }
 
 pub returns-in-Hand : goal.returns-in-Hand
@@ -57,22 +56,22 @@ returns-in-Hand c =
 
 pub turn-turned-requires : goal.turn-turned-requires
 turn-turned-requires c =
-    let p = (c.requires.medium_len, (c.requires.cache_len, (c.requires.buffer_len, (c.requires.n_in_bounds, (c.requires.p_value, c.requires.stage_bound))))) in let q = p.1.1.1.1.0 in let e = ap (λ (x : Plan). eqb x.letter 72) q ∙ not_hand c.args.asked.call c.in
+    let q = c.requires.p_value in let e = ap (λ (x : Plan). eqb x.letter 72) q ∙ not_hand c.args.asked.call c.in
     record {
       medium_len = (-Hand.in-Hand-own.keys2 in
-    (p.0, (p.1.0, (p.1.1.0, (q, (c.if-p.false, (e, p.1.1.1.1.1))))))).0;
+    (c.requires.medium_len, (c.requires.cache_len, (c.requires.buffer_len, (q, (c.if-p.false, (e, c.requires.stage_bound))))))).0;
       cache_len = (-Hand.in-Hand-own.keys2 in
-    (p.0, (p.1.0, (p.1.1.0, (q, (c.if-p.false, (e, p.1.1.1.1.1))))))).1.0;
+    (c.requires.medium_len, (c.requires.cache_len, (c.requires.buffer_len, (q, (c.if-p.false, (e, c.requires.stage_bound))))))).1.0;
       buffer_len = (-Hand.in-Hand-own.keys2 in
-    (p.0, (p.1.0, (p.1.1.0, (q, (c.if-p.false, (e, p.1.1.1.1.1))))))).1.1.0;
+    (c.requires.medium_len, (c.requires.cache_len, (c.requires.buffer_len, (q, (c.if-p.false, (e, c.requires.stage_bound))))))).1.1.0;
       p_value = (-Hand.in-Hand-own.keys2 in
-    (p.0, (p.1.0, (p.1.1.0, (q, (c.if-p.false, (e, p.1.1.1.1.1))))))).1.1.1.0;
+    (c.requires.medium_len, (c.requires.cache_len, (c.requires.buffer_len, (q, (c.if-p.false, (e, c.requires.stage_bound))))))).1.1.1.0;
       looks_value = (-Hand.in-Hand-own.keys2 in
-    (p.0, (p.1.0, (p.1.1.0, (q, (c.if-p.false, (e, p.1.1.1.1.1))))))).1.1.1.1.0;
+    (c.requires.medium_len, (c.requires.cache_len, (c.requires.buffer_len, (q, (c.if-p.false, (e, c.requires.stage_bound))))))).1.1.1.1.0;
       letter_value = (-Hand.in-Hand-own.keys2 in
-    (p.0, (p.1.0, (p.1.1.0, (q, (c.if-p.false, (e, p.1.1.1.1.1))))))).1.1.1.1.1.0;
+    (c.requires.medium_len, (c.requires.cache_len, (c.requires.buffer_len, (q, (c.if-p.false, (e, c.requires.stage_bound))))))).1.1.1.1.1.0;
       stage_bound = (-Hand.in-Hand-own.keys2 in
-    (p.0, (p.1.0, (p.1.1.0, (q, (c.if-p.false, (e, p.1.1.1.1.1))))))).1.1.1.1.1.1;
+    (c.requires.medium_len, (c.requires.cache_len, (c.requires.buffer_len, (q, (c.if-p.false, (e, c.requires.stage_bound))))))).1.1.1.1.1.1;
     }
 
 pub returns : goal.returns

@@ -16,4 +16,4 @@ change-answer-requires c = c.requires.call_value
 
 pub returns : goal.returns
 returns c =
-    let p = (c.requires.medium_len, (c.requires.cache_len, (c.requires.call_value, c.requires.bound))) in make_left c.args.t c.args.medium.now c.args.cache.now ((state_of c.args.words.now c.args.tail.now)) c.args.asked.call _ _ _ _ _ _ _ p.1.1.1 p.1.1.0 c.medium_part-m.ensures.fields c.cache_part-c.ensures.fields (omega arith) (omega arith) c.change-answer.auto.cache.1.1.0 c.change-answer.auto.cache.1.1.1.0 c.change-answer.ensures
+    make_left c.args.t c.args.medium.now c.args.cache.now ((state_of c.args.words.now c.args.tail.now)) c.args.asked.call _ _ _ _ _ _ _ c.requires.bound c.requires.call_value c.medium_part-m.ensures.fields c.cache_part-c.ensures.fields (omega arith) (omega arith) c.change-answer.auto.cache.1.1.0 c.change-answer.auto.cache.1.1.1.0 c.change-answer.ensures

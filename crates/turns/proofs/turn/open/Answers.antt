@@ -15,7 +15,7 @@ slice_bounds-open_with-end-3 c = first_length c.args.buffer.now c.args.bytes (om
 
 pub returns-then-refusal-ne0 : goal.returns-then-refusal-ne0
 returns-then-refusal-ne0 c =
-    let p = (c.requires.medium_len, (c.requires.cache_len, (c.requires.buffer_len, (c.requires.bytes_bound, c.requires.bound)))) in λ letter. open_refused c.args.t c.args.medium.now c.args.cache.now c.args.buffer.now ((state_of c.args.words.now c.args.tail.now)) letter c.args.byte c.medium_part-m.result c.args.bytes p.1.1.1.1 c.medium_part-m.ensures.fields (omega arith) _ _ _ c.open_with-answer.ensures (λ z. c.if-refusal-ne0.true (c.refusal.ensures ∙ z))
+    λ letter. open_refused c.args.t c.args.medium.now c.args.cache.now c.args.buffer.now ((state_of c.args.words.now c.args.tail.now)) letter c.args.byte c.medium_part-m.result c.args.bytes c.requires.bound c.medium_part-m.ensures.fields (omega arith) _ _ _ c.open_with-answer.ensures (λ z. c.if-refusal-ne0.true (c.refusal.ensures ∙ z))
 
 pub slice_bounds-copy-end-2 : goal.slice_bounds-copy-end-2
 slice_bounds-copy-end-2 c = first_length c.args.cache.now c.right_length-n.result (omega arith)
@@ -30,4 +30,4 @@ copy-requires c =
 
 pub returns : goal.returns
 returns c =
-    let p = (c.requires.medium_len, (c.requires.cache_len, (c.requires.buffer_len, (c.requires.bytes_bound, c.requires.bound)))) in λ letter. rw (c.take_state.ensures.0, c.take_state.ensures.1) (open_taken c.args.t c.args.medium.now c.args.cache.now c.args.buffer.now ((state_of c.args.words.now c.args.tail.now)) letter c.args.byte c.medium_part-m.result c.args.bytes p.1.1.1.1 c.medium_part-m.ensures.fields (omega arith) _ _ _ c.open_with-answer.ensures _ _ (sym c.refusal.ensures ∙ c.if-refusal-ne0.false) c.right_length-n.ensures.fields c.copy.ensures c.open_with-answer.auto.1.0)
+    λ letter. rw (c.take_state.ensures.0, c.take_state.ensures.1) (open_taken c.args.t c.args.medium.now c.args.cache.now c.args.buffer.now ((state_of c.args.words.now c.args.tail.now)) letter c.args.byte c.medium_part-m.result c.args.bytes c.requires.bound c.medium_part-m.ensures.fields (omega arith) _ _ _ c.open_with-answer.ensures _ _ (sym c.refusal.ensures ∙ c.if-refusal-ne0.false) c.right_length-n.ensures.fields c.copy.ensures c.open_with-answer.auto.1.0)
