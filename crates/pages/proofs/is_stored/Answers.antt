@@ -32,12 +32,11 @@ returns-then-not-same_slot c =
     ∙ c.loop-i.invariant.1
 
 pub loop-i-preserved : goal.loop-i-preserved
-loop-i-preserved c =
-    (
-      omega arith,
-      slot_same _ _ _ _ _ c.requires.stored_len c.requires.cached_len c.loop-i.i c.loop-i-test.true c.same_slot.ensures (c.if-not-same_slot.false)
-          ∙ c.loop-i.invariant.1,
-    )
+loop-i-preserved c = (
+  omega arith,
+  slot_same _ _ _ _ _ c.requires.stored_len c.requires.cached_len c.loop-i.i c.loop-i-test.true c.same_slot.ensures (c.if-not-same_slot.false)
+      ∙ c.loop-i.invariant.1,
+)
 
 pub returns : goal.returns
 returns c =

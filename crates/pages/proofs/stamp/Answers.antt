@@ -10,7 +10,7 @@ loop-i-init c = (omega arith, c.requires, refl)
 pub loop-i-preserved : goal.loop-i-preserved
 loop-i-preserved c =
     let h = c.loop-i in
-    (omega arith, c.stamp_slot.auto.1.1.0 ∙ h.invariant.1, stamp_turn _ _ _ _ h.i c.loop-i-test.true c.stamp_slot.ensures ∙ h.invariant.2)
+    (omega arith, c.stamp_slot.auto.page ∙ h.invariant.1, stamp_turn _ _ _ _ h.i c.loop-i-test.true c.stamp_slot.ensures ∙ h.invariant.2)
 
 pub shape_of-page : goal.shape_of-page
 shape_of-page c = c.loop-i.invariant.1 ∙ sym c.requires

@@ -42,5 +42,5 @@ pub returns : goal.returns
 returns c =
     record {
       on_value = refl;
-      out_after = end_line does _ _ _ c.if-line-eq0.false (last_byte _ _ _ c.play_out-last.ensures.fields (c.play_out-last.ensures.text, (c.play_out-last.ensures.told, c.play_out-last.ensures.utf8)));
+      out_after = end_line does _ _ _ c.if-line-eq0.false (last_byte _ _ _ c.play_out-last.ensures.next_nonzero c.play_out-last.ensures.out_after);
     }

@@ -32,15 +32,15 @@ play_out-next-requires c =
 
 pub overflow_add-i : goal.overflow_add-i
 overflow_add-i c =
-    let h = simp (length-take, length-drop) at c.play_out-next.ensures.fields in omega (arith, c.loop-i-test.true, c.well_formed.1.0.0)
+    let h = simp (length-take, length-drop) at c.play_out-next.ensures.next_nonzero in omega (arith, c.loop-i-test.true, c.well_formed.1.0.0)
 
 pub loop-i-smaller : goal.loop-i-smaller
 loop-i-smaller c =
-    let h = simp (length-take, length-drop) at c.play_out-next.ensures.fields in omega (arith, c.loop-i-test.true)
+    let h = simp (length-take, length-drop) at c.play_out-next.ensures.next_nonzero in omega (arith, c.loop-i-test.true)
 
 pub loop-i-preserved : goal.loop-i-preserved
 loop-i-preserved c =
-    let h = simp (length-take, length-drop) at c.play_out-next.ensures.fields in (c.medium-1.given ∙ c.loop-i.invariant.0, c.cache-1.given ∙ c.loop-i.invariant.1, c.buffer-1.given ∙ c.loop-i.invariant.2, c.out-1.given ∙ c.loop-i.invariant.3, omega (arith, c.loop-i-test.true))
+    let h = simp (length-take, length-drop) at c.play_out-next.ensures.next_nonzero in (c.medium-1.given ∙ c.loop-i.invariant.0, c.cache-1.given ∙ c.loop-i.invariant.1, c.buffer-1.given ∙ c.loop-i.invariant.2, c.out-1.given ∙ c.loop-i.invariant.3, omega (arith, c.loop-i-test.true))
 
 pub shape_of-medium : goal.shape_of-medium
 shape_of-medium c = c.loop-i.invariant.0 ∙ sym c.requires.medium_len

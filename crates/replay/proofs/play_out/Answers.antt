@@ -14,11 +14,11 @@ play-next-requires c =
     }
 
 pub slice_bounds-write_all-end : goal.slice_bounds-write_all-end
-slice_bounds-write_all-end c = omega (arith, c.play-next.ensures.fields, c.out-1.given, c.requires.out_len)
+slice_bounds-write_all-end c = omega (arith, c.play-next.ensures.n_bound, c.out-1.given, c.requires.out_len)
 
 pub slice_bounds-write_all-end-2 : goal.slice_bounds-write_all-end-2
 slice_bounds-write_all-end-2 c =
-    simp length-take (omega (arith, c.play-next.ensures.fields, c.out-1.given, c.requires.out_len))
+    simp length-take (omega (arith, c.play-next.ensures.n_bound, c.out-1.given, c.requires.out_len))
 
 pub shape_of-medium : goal.shape_of-medium
 shape_of-medium c = c.medium-1.given
@@ -35,6 +35,6 @@ shape_of-out c = c.out-1.given
 pub returns : goal.returns
 returns c =
     record {
-      next_nonzero = c.play-next.ensures.text;
-      out_after = (c.play-next.ensures.told, c.play-next.ensures.utf8);
+      next_nonzero = c.play-next.ensures.next_nonzero;
+      out_after = c.play-next.ensures.out_after;
     }

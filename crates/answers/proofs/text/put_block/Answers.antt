@@ -14,14 +14,14 @@ pub returns-then-k-bytes : goal.returns-then-k-bytes
 unfolding block_text blk
 returns-then-k-bytes c =
     record {
-      upper_bound = omega (arith, rw (lent_length c.args.bytes.now (512 * c.args.k) 512 (omega arith)) at c.hex.ensures.fields);
-      out_after = simp (lt-ltb _ _ c.if-k-bytes.true) (rw (lent_part c.args.bytes.now (512 * c.args.k) 512) at (c.hex.ensures.text, (c.hex.ensures.told, c.hex.ensures.utf8)));
+      upper_bound = omega (arith, rw (lent_length c.args.bytes.now (512 * c.args.k) 512 (omega arith)) at c.hex.ensures.value);
+      out_after = simp (lt-ltb _ _ c.if-k-bytes.true) (rw (lent_part c.args.bytes.now (512 * c.args.k) 512) at c.hex.ensures.out_after);
     }
 
 pub returns : goal.returns
 unfolding block_text
 returns c =
     record {
-      upper_bound = omega (arith, c.byte.ensures.fields);
-      out_after = simp (le-ltb _ _ c.if-k-bytes.false) (c.byte.ensures.text, (c.byte.ensures.told, c.byte.ensures.utf8));
+      upper_bound = omega (arith, c.byte.ensures.value);
+      out_after = simp (le-ltb _ _ c.if-k-bytes.false) c.byte.ensures.out_after;
     }

@@ -20,7 +20,7 @@ put_change-next-requires c =
 
 pub loop-i-preserved : goal.loop-i-preserved
 loop-i-preserved c =
-    (omega arith, omega arith, c.out-1.given ∙ c.loop-i.invariant.2, changes_turn c.args.buffer.now _ _ c.loop-i.i (take c.loop-i.end c.loop-i.out) _ c.loop-i-test.true (rw (lent_part c.args.buffer.now (32 * c.loop-i.i) 32) at (c.put_change-next.ensures.text, (c.put_change-next.ensures.told, c.put_change-next.ensures.utf8))) c.loop-i.invariant.3)
+    (omega arith, omega arith, c.out-1.given ∙ c.loop-i.invariant.2, changes_turn c.args.buffer.now _ _ c.loop-i.i (take c.loop-i.end c.loop-i.out) _ c.loop-i-test.true (rw (lent_part c.args.buffer.now (32 * c.loop-i.i) 32) at c.put_change-next.ensures.out_after) c.loop-i.invariant.3)
 
 pub shape_of-out : goal.shape_of-out
 shape_of-out c = c.loop-i.invariant.2

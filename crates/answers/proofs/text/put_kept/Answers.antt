@@ -7,14 +7,14 @@ pub returns-then-kept : goal.returns-then-kept
 unfolding kept_text
 returns-then-kept c =
     record {
-      upper_bound = omega (arith, c.bytes.ensures.fields);
-      out_after = simp c.if-kept.true (c.bytes.ensures.text, (c.bytes.ensures.told, c.bytes.ensures.utf8));
+      upper_bound = omega (arith, c.bytes.ensures.value);
+      out_after = simp c.if-kept.true c.bytes.ensures.out_after;
     }
 
 pub returns : goal.returns
 unfolding kept_text
 returns c =
     record {
-      upper_bound = omega (arith, c.bytes-2.ensures.fields);
-      out_after = simp c.if-kept.false (c.bytes-2.ensures.text, (c.bytes-2.ensures.told, c.bytes-2.ensures.utf8));
+      upper_bound = omega (arith, c.bytes-2.ensures.value);
+      out_after = simp c.if-kept.false c.bytes-2.ensures.out_after;
     }

@@ -8,10 +8,10 @@ use Rattle.answers.proofs.text.put_list.Goals as goal
 
 pub put_changes-a-requires : goal.put_changes-a-requires
 put_changes-a-requires c =
-    let h = c.requires.by_index _ c.in
+    let h = c.requires.by_index _ c.in-Listed.is in
     record {
-      count_in_bounds = (-Listed.is in (h, omega arith)).0;
-      count_in_bounds_2 = (-Listed.is in (h, omega arith)).1;
+      count_in_bounds = h;
+      count_in_bounds_2 = omega arith;
     }
 
 pub overflow_mul-at : goal.overflow_mul-at
@@ -31,10 +31,10 @@ put_kept-requires c = let h = c.requires.by_index _ c.in-Listed.is in omega arit
 
 pub returns-in-Listed : goal.returns-in-Listed
 returns-in-Listed c =
-    let h = c.requires.by_index _ c.in
+    let h = c.requires.by_index _ c.in-Listed.is in
     record {
-      upper_bound = (-Listed.is in (omega arith, simp c.in-Listed.is (list_put (take c.args.n c.args.out.now) _ _ c.args.buffer.now _ _ (c.put_changes-a.ensures.text, (c.put_changes-a.ensures.told, c.put_changes-a.ensures.utf8)) c.all_are-kept.ensures (c.put_kept.ensures.text, (c.put_kept.ensures.told, c.put_kept.ensures.utf8))))).0;
-      out_after = (-Listed.is in (omega arith, simp c.in-Listed.is (list_put (take c.args.n c.args.out.now) _ _ c.args.buffer.now _ _ (c.put_changes-a.ensures.text, (c.put_changes-a.ensures.told, c.put_changes-a.ensures.utf8)) c.all_are-kept.ensures (c.put_kept.ensures.text, (c.put_kept.ensures.told, c.put_kept.ensures.utf8))))).1;
+      upper_bound = omega arith;
+      out_after = simp c.in-Listed.is (list_put (take c.args.n c.args.out.now) _ _ c.args.buffer.now _ _ c.put_changes-a.ensures.out_after c.all_are-kept.ensures c.put_kept.ensures.out_after);
     }
 
 pub returns-in_default : goal.returns-in_default

@@ -10,5 +10,5 @@ unfolding shown_text
 returns c =
     record {
       upper_bound = omega arith;
-      out_after = behind_4 (take c.args.n c.args.out.now) _ _ _ _ _ _ _ _ (c.byte-a.ensures.text, (c.byte-a.ensures.told, c.byte-a.ensures.utf8)) (c.byte-b.ensures.text, (c.byte-b.ensures.told, c.byte-b.ensures.utf8)) (c.put_block-c.ensures.text, (c.put_block-c.ensures.told, c.put_block-c.ensures.utf8)) (c.byte.ensures.text, (c.byte.ensures.told, c.byte.ensures.utf8));
+      out_after = behind_4 (take c.args.n c.args.out.now) _ _ _ _ _ _ _ _ c.byte-a.ensures.out_after c.byte-b.ensures.out_after c.put_block-c.ensures.out_after c.byte.ensures.out_after;
     }

@@ -1,6 +1,6 @@
 -- Past the first questions the number of words decides, then the letter.
 use mathlib.Core.Path.{sym, ◌∙◌}
-use mathlib.Core.List.{◌∷◌}
+use mathlib.Core.List.{[], ◌∷◌}
 use native.Mathlib.Omega.{arith}
 use Rattle.script.proofs.ReaderLaws.{done_1, done_2, done_3}
 use Rattle.book.proofs.LineLaws.{no_letter, bad_call, bare_call, word_call, number_call, many_call}

@@ -5,6 +5,7 @@ use mathlib.Core.Bool.{true}
 use Prim.Native.Nat.{◌<◌, ◌≤◌}
 use native.Mathlib.Omega.{arith}
 use lib.ListN.{length, drop_of_length-le}
+use borrow.Author.Tests.{not-true, not-false}
 use Rattle.script.specs.Run.{play_of}
 use Rattle.script.proofs.TakeLaws.{step_on, step_stop}
 use Rattle.book.specs.Steps.{does}
@@ -30,7 +31,7 @@ pub returns-then-not-taken : goal.returns-then-not-taken
 returns-then-not-taken c =
     record {
       n_in_bounds = omega arith;
-      out_after = sym (step_stop c.args.bytes.now c.loop-i.line c.loop-i.i c.take-taken.result c.loop-i-test.true c.take-taken.ensures does _ _ (c.if-not-taken.true)) ∙ c.loop-i.invariant.5;
+      out_after = sym (step_stop c.args.bytes.now c.loop-i.line c.loop-i.i c.take-taken.result c.loop-i-test.true c.take-taken.ensures does _ _ (not-true c.take-taken.result.ended c.if-not-taken.true)) ∙ c.loop-i.invariant.5;
     }
 
 pub shape_of-medium-then-letter-eq0 : goal.shape_of-medium-then-letter-eq0
@@ -46,7 +47,7 @@ pub returns-then-letter-eq0 : goal.returns-then-letter-eq0
 returns-then-letter-eq0 c =
     record {
       n_in_bounds = omega arith;
-      out_after = sym (step_other c.args.bytes.now c.loop-i.line c.loop-i.i c.take-taken.result c.loop-i-test.true c.take-taken.ensures (c.if-not-taken.false) _ _ _ _ c.meaning-asked.result c.letter-letter.result c.empty-line.result c.meaning-asked.ensures c.letter-letter.ensures c.empty-line.ensures c.if-letter-eq0.true)
+      out_after = sym (step_other c.args.bytes.now c.loop-i.line c.loop-i.i c.take-taken.result c.loop-i-test.true c.take-taken.ensures (not-false c.take-taken.result.ended c.if-not-taken.false) _ _ _ _ c.meaning-asked.result c.letter-letter.result c.empty-line.result c.meaning-asked.ensures c.letter-letter.ensures c.empty-line.ensures c.if-letter-eq0.true)
           ∙ c.loop-i.invariant.5;
     }
 
@@ -75,7 +76,7 @@ loop-i-preserved-then-letter-eq81 c =
       v.2,
       c.out-1.given ∙ v.3,
       omega arith,
-      step_query c.args.bytes.now c.loop-i.line c.loop-i.i c.take-taken.result c.loop-i-test.true c.take-taken.ensures (c.if-not-taken.false) _ _ _ _ c.meaning-asked.result c.letter-letter.result c.empty-line.result c.meaning-asked.ensures c.letter-letter.ensures c.empty-line.ensures _ _ _ c.if-letter-eq81.true c.query-reading.ensures (c.put-n.ensures.text, (c.put-n.ensures.told, c.put-n.ensures.utf8))
+      step_query c.args.bytes.now c.loop-i.line c.loop-i.i c.take-taken.result c.loop-i-test.true c.take-taken.ensures (not-false c.take-taken.result.ended c.if-not-taken.false) _ _ _ _ c.meaning-asked.result c.letter-letter.result c.empty-line.result c.meaning-asked.ensures c.letter-letter.ensures c.empty-line.ensures _ _ _ c.if-letter-eq81.true c.query-reading.ensures c.put-n.ensures.out_after
           ∙ v.5,
     )
 
@@ -105,7 +106,7 @@ loop-i-preserved c =
       c.cache-1.given ∙ v.2,
       c.out-else-letter-eq81-1.given ∙ v.3,
       omega arith,
-      step_change c.args.bytes.now c.loop-i.line c.loop-i.i c.take-taken.result c.loop-i-test.true c.take-taken.ensures (c.if-not-taken.false) _ _ _ _ c.meaning-asked.result c.letter-letter.result c.empty-line.result c.meaning-asked.ensures c.letter-letter.ensures c.empty-line.ensures _ _ _ _ _ c.if-letter-eq0.false c.if-letter-eq81.false c.change-answer.ensures (c.put-n-else-letter-eq81.ensures.text, (c.put-n-else-letter-eq81.ensures.told, c.put-n-else-letter-eq81.ensures.utf8))
+      step_change c.args.bytes.now c.loop-i.line c.loop-i.i c.take-taken.result c.loop-i-test.true c.take-taken.ensures (not-false c.take-taken.result.ended c.if-not-taken.false) _ _ _ _ c.meaning-asked.result c.letter-letter.result c.empty-line.result c.meaning-asked.ensures c.letter-letter.ensures c.empty-line.ensures _ _ _ _ _ c.if-letter-eq0.false c.if-letter-eq81.false c.change-answer.ensures c.put-n-else-letter-eq81.ensures.out_after
           ∙ v.5,
     )
 

@@ -8,14 +8,14 @@ pub returns-then-s : goal.returns-then-s
 unfolding result_text result
 returns-then-s c =
     record {
-      r_bound = c.number.ensures.fields;
-      out_after = simp c.if-s.true (c.number.ensures.text, (c.number.ensures.told, c.number.ensures.utf8));
+      r_bound = c.number.ensures.upper_bound;
+      out_after = simp c.if-s.true c.number.ensures.out_after;
     }
 
 pub returns : goal.returns
 unfolding result_text result
 returns c =
     record {
-      r_bound = omega (arith, c.byte.ensures.fields);
-      out_after = simp c.if-s.false (c.byte.ensures.text, (c.byte.ensures.told, c.byte.ensures.utf8));
+      r_bound = omega (arith, c.byte.ensures.value);
+      out_after = simp c.if-s.false c.byte.ensures.out_after;
     }

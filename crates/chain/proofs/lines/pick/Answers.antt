@@ -31,14 +31,13 @@ keep-k-requires c =
 pub loop-i-preserved : goal.loop-i-preserved
 loop-i-preserved c =
     let a = c.args in
-    let e = (c.keep-k.ensures.fields, (c.keep-k.ensures.text, (c.keep-k.ensures.told, c.keep-k.ensures.utf8))) in
     let h = c.loop-i-test.true in
-    let f = pick_few a.cache.now a.t1 c.loop-i.ranked a.n c.loop-i.i c.loop-i.k _ _ e.0 in (
+    let f = pick_few a.cache.now a.t1 c.loop-i.ranked a.n c.loop-i.i c.loop-i.k _ _ c.keep-k.ensures.result_after in (
       omega arith,
       omega arith,
-      c.keep-k.auto.1.0 ∙ c.loop-i.invariant.2,
-      subst (λ (es : List Dated). Slots es (length a.cache.now)) (sym e.1) (slots_behind c.loop-i.ranked a.n c.loop-i.i _ h c.loop-i.invariant.3),
-      pick_turn a.cache.now a.t1 c.loop-i.ranked a.n c.loop-i.i c.loop-i.k _ _ e.0 h c.if-ranked-i.false e.1 ∙ c.loop-i.invariant.4,
+      c.keep-k.auto.ranked ∙ c.loop-i.invariant.2,
+      subst (λ (es : List Dated). Slots es (length a.cache.now)) (sym c.keep-k.ensures.i_unchanged) (slots_behind c.loop-i.ranked a.n c.loop-i.i _ h c.loop-i.invariant.3),
+      pick_turn a.cache.now a.t1 c.loop-i.ranked a.n c.loop-i.i c.loop-i.k _ _ c.keep-k.ensures.result_after h c.if-ranked-i.false c.keep-k.ensures.i_unchanged ∙ c.loop-i.invariant.4,
     )
 
 pub shape_of-ranked : goal.shape_of-ranked

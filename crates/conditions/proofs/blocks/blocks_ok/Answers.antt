@@ -3,6 +3,7 @@ use mathlib.Core.Path.{◌≡◌, ◌∙◌}
 use Prim.Native.Nat.{◌+◌, ◌-◌, ◌≤◌}
 use native.Mathlib.Omega.{arith}
 use lib.ListN.{length, take, drop}
+use borrow.Author.Tests.{not-true, not-false}
 use Rattle.fields.proofs.PartLaws.{lent_length}
 use Rattle.layout.proofs.PlaceLaws.{log_block_high}
 use Rattle.store.specs.OpenLog.{block_of}
@@ -52,7 +53,7 @@ pub returns-then-not-in_form : goal.returns-then-not-in_form
 returns-then-not-in_form c =
     let f = c.in_form in
     blocks_form _ _ _ _ c.args.oldest c.loop-k.k c.args.count c.loop-k-test.true _ (lent c) c.if-s-ge281474976710656.false f.result f.ensures
-    (c.if-not-in_form.true)
+    (not-true f.result c.if-not-in_form.true)
     ∙ c.loop-k.invariant.1
 
 pub overflow_add-start-in-loop-k : goal.overflow_add-start-in-loop-k
@@ -93,7 +94,7 @@ returns-then-not-done c =
     let r = c.records_ok-done in
     let f = c.in_form in
     blocks_records _ _ _ _ c.args.oldest c.loop-k.k c.args.count c.loop-k-test.true _ (lent_at_returns_then_not_done c) c.if-s-ge281474976710656.false f.result f.ensures
-    (c.if-not-in_form.false) r.result.ok r.ensures.0 (c.if-not-done.true)
+    (not-false f.result c.if-not-in_form.false) r.result.ok r.ensures.0 (not-true r.result.ok c.if-not-done.true)
     ∙ c.loop-k.invariant.1
 
 -- the part that is lent is the block
@@ -105,10 +106,10 @@ pub loop-k-preserved : goal.loop-k-preserved
 loop-k-preserved c =
     let r = c.records_ok-done in
     let f = c.in_form in
-    let e = c.if-not-done.false in (
+    let e = not-false r.result.ok c.if-not-done.false in (
       omega arith,
       blocks_turn _ _ _ _ c.args.oldest c.loop-k.k c.args.count c.loop-k-test.true _ (lent_at_loop_k_preserved c) c.if-s-ge281474976710656.false f.result f.ensures
-          (c.if-not-in_form.false) r.result.ok r.ensures.0 _ e (r.ensures.1 e)
+          (not-false f.result c.if-not-in_form.false) r.result.ok r.ensures.0 _ e (r.ensures.1 e)
           ∙ c.loop-k.invariant.1,
     )
 

@@ -4,6 +4,7 @@ use Prim.Native.Nat.{◌+◌, ◌*◌, ◌≤◌}
 use native.Mathlib.Nat.{sub-zero}
 use native.Mathlib.Omega.{arith}
 use lib.ListN.{length}
+use borrow.Author.Tests.{not-true, not-false}
 use Rattle.fields.proofs.PartLaws.{lent_length}
 use Rattle.layout.proofs.PlaceLaws.{page_block_high}
 use Rattle.conditions.proofs.AllOfLaws.{all_turn, all_stop, all_end}
@@ -40,7 +41,7 @@ pub returns-then-not-in_form : goal.returns-then-not-in_form
 returns-then-not-in_form c =
     let f = c.in_form in
     all_stop _ c.args.pages c.loop-p.p _ c.loop-p-test.true
-    (page_bad _ _ _ c.loop-p.p c.page_block-a.result c.args.end c.page_block-a.ensures c.requires.end_value f.result f.ensures (c.if-not-in_form.true)) refl
+    (page_bad _ _ _ c.loop-p.p c.page_block-a.result c.args.end c.page_block-a.ensures c.requires.end_value f.result f.ensures (not-true f.result c.if-not-in_form.true)) refl
     ∙ c.loop-p.invariant.1
 
 -- the page lies within the medium
@@ -56,7 +57,7 @@ returns-then-end c =
     let f = c.in_form in
     all_stop _ c.args.pages c.loop-p.p _ c.loop-p-test.true
     (page_late _ _ _ c.loop-p.p c.page_block-a.result c.args.end c.page_block-a.ensures c.requires.end_value f.result f.ensures
-    (c.if-not-in_form.false) e.result.0 e.ensures c.if-end.true) refl
+    (not-false f.result c.if-not-in_form.false) e.result.0 e.ensures c.if-end.true) refl
     ∙ c.loop-p.invariant.1
 
 pub loop-p-preserved : goal.loop-p-preserved
@@ -66,7 +67,7 @@ loop-p-preserved c =
       omega arith,
       all_turn _ c.args.pages c.loop-p.p _ c.loop-p-test.true
           (page_fine _ _ _ c.loop-p.p c.page_block-a.result c.args.end c.page_block-a.ensures c.requires.end_value f.result f.ensures
-          (c.if-not-in_form.false) e.result.0 e.ensures c.if-end.false) refl
+          (not-false f.result c.if-not-in_form.false) e.result.0 e.ensures c.if-end.false) refl
           ∙ c.loop-p.invariant.1,
     )
 

@@ -1,5 +1,6 @@
 -- `pages_full` meets its contract: the test of the pages from p on has the answer of the whole.
 use mathlib.Core.Path.{◌≡◌}
+use mathlib.Core.List.{[]}
 use Prim.Native.Nat.{◌-◌}
 use Rattle.store.specs.OpenConditions.{full_before}
 use Rattle.conditions.specs.Passes.{all_of}

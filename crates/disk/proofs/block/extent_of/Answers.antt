@@ -10,7 +10,7 @@ unfolding length_of
 returns-then-n-at-gt512 c =
     let z : min (c.args.n - c.start-at.result) 512 ≡ 512 = omega (arith, c.if-n-at-gt512.true) in
     record {
-      at_value = (c.start-at.ensures.fields, sym z ∙ ap (λ (i : ℕ). min (c.args.n - i) 512) c.start-at.ensures.fields);
+      at_value = (c.start-at.ensures.value, sym z ∙ ap (λ (i : ℕ). min (c.args.n - i) 512) c.start-at.ensures.value);
       len_bound = (omega (arith, c.if-n-at-gt512.true), omega arith);
     }
 
@@ -19,6 +19,6 @@ unfolding length_of
 returns c =
     let z : min (c.args.n - c.start-at.result) 512 ≡ c.args.n - c.start-at.result = omega (arith, c.if-n-at-gt512.false) in
     record {
-      at_value = (c.start-at.ensures.fields, sym z ∙ ap (λ (i : ℕ). min (c.args.n - i) 512) c.start-at.ensures.fields);
-      len_bound = (omega (arith, (c.start-at.ensures.text, (c.start-at.ensures.told, c.start-at.ensures.utf8))), omega (arith, c.if-n-at-gt512.false));
+      at_value = (c.start-at.ensures.value, sym z ∙ ap (λ (i : ℕ). min (c.args.n - i) 512) c.start-at.ensures.value);
+      len_bound = (omega (arith, c.start-at.ensures.upper_bound), omega (arith, c.if-n-at-gt512.false));
     }

@@ -17,8 +17,8 @@ code : (c : goal.Then-slot-gt3) → let n = get_or c.args.slot.now 0 0 in (eqb n
 code c =
     let n = get_or c.args.slot.now 0 0 in
     elim c.else-slot-ne1.branch [
-      else-slot-ne1-via-then-slot-ne1+else-slot-ne2 w ↦ simp (ne_eqb _ _ w.if-slot-ne1.true, eq-eqb _ _ w.if-slot-ne2.false)
-    | else-slot-ne1-via-else-slot-ne1 w ↦ simp (eq-eqb _ _ w.if-slot-ne1.false)
+      | else-slot-ne1-via-then-slot-ne1+else-slot-ne2 w ↦ simp (ne_eqb _ _ w.if-slot-ne1.true, eq-eqb _ _ w.if-slot-ne2.false)
+      | else-slot-ne1-via-else-slot-ne1 w ↦ simp (eq-eqb _ _ w.if-slot-ne1.false)
     ]
 
 pub returns-then-slot-gt3 : goal.returns-then-slot-gt3
@@ -30,8 +30,8 @@ code_at_returns_then_not_all_zero : (c : goal.Then-not-all_zero) → let n = get
 code_at_returns_then_not_all_zero c =
     let n = get_or c.args.slot.now 0 0 in
     elim c.else-slot-ne1.branch [
-      else-slot-ne1-via-then-slot-ne1+else-slot-ne2 w ↦ simp (ne_eqb _ _ w.if-slot-ne1.true, eq-eqb _ _ w.if-slot-ne2.false)
-    | else-slot-ne1-via-else-slot-ne1 w ↦ simp (eq-eqb _ _ w.if-slot-ne1.false)
+      | else-slot-ne1-via-then-slot-ne1+else-slot-ne2 w ↦ simp (ne_eqb _ _ w.if-slot-ne1.true, eq-eqb _ _ w.if-slot-ne2.false)
+      | else-slot-ne1-via-else-slot-ne1 w ↦ simp (eq-eqb _ _ w.if-slot-ne1.false)
     ]
 
 pub returns-then-not-all_zero : goal.returns-then-not-all_zero
@@ -44,8 +44,8 @@ code_at_returns : (c : goal.After-kind_in_form) → let n = get_or c.args.slot.n
 code_at_returns c =
     let n = get_or c.args.slot.now 0 0 in
     elim c.else-slot-ne1.branch [
-      else-slot-ne1-via-then-slot-ne1+else-slot-ne2 w ↦ simp (ne_eqb _ _ w.if-slot-ne1.true, eq-eqb _ _ w.if-slot-ne2.false)
-    | else-slot-ne1-via-else-slot-ne1 w ↦ simp (eq-eqb _ _ w.if-slot-ne1.false)
+      | else-slot-ne1-via-then-slot-ne1+else-slot-ne2 w ↦ simp (ne_eqb _ _ w.if-slot-ne1.true, eq-eqb _ _ w.if-slot-ne2.false)
+      | else-slot-ne1-via-else-slot-ne1 w ↦ simp (eq-eqb _ _ w.if-slot-ne1.false)
     ]
 
 pub returns : goal.returns

@@ -2,6 +2,7 @@
 use mathlib.Core.Path.{◌≡◌, sym, ap, ◌∙◌}
 use mathlib.Core.Bool.{true}
 use lib.ListN.{length}
+use borrow.Author.Tests.{not-true, not-false}
 use Rattle.fields.specs.Block.{zeros, cache_length}
 use Rattle.media.proofs.OpenLaws.{refused_is, range, medium_is, cache_is, ready, bad_sizes, bad_cache, bad_medium, opens}
 use Rattle.media.proofs.open.open.Goals as goal
@@ -59,11 +60,11 @@ pub returns-then-not-found : goal.returns-then-not-found
 returns-then-not-found c =
     let x = c.open_state-found in
     refused_is _ _ _ _ c.clear-then-not-found-2.ensures.1
-    ∙ bad_medium _ _ _ _ _ c.sizes_fit.ensures (right_at_returns_then_not_found c) (fits_at_returns_then_not_found c) (sym x.ensures.0 ∙ c.if-not-found.true) _
+    ∙ bad_medium _ _ _ _ _ c.sizes_fit.ensures (right_at_returns_then_not_found c) (fits_at_returns_then_not_found c) (sym x.ensures.0 ∙ not-true x.result.ok c.if-not-found.true) _
     (c.clear-then-not-found.ensures ∙ ap zeros c.cache-1.given)
 
 whole : (c : goal.Else-not-found) → c.open_state-found.result.ok ≡ true
-whole c = c.if-not-found.false
+whole c = not-false c.open_state-found.result.ok c.if-not-found.false
 
 -- the sizes are right, the cache has its length, and the medium is well formed
 right_at_returns : (c : goal.Else-not-found) → c.sizes_fit.result ≡ true

@@ -65,8 +65,7 @@ take_log-requires c =
 pub loop-i-preserved : goal.loop-i-preserved
 loop-i-preserved c =
     let l = c.loop-i in
-    let v = l.invariant in
-    (
+    let v = l.invariant in (
       omega arith,
       v.1,
       laid_all _ _ _ c.take_log.ensures _ v.2,

@@ -3,8 +3,9 @@
 use mathlib.Core.Path.{refl, sym, ◌∙◌}
 use Prim.Native.Nat.{◌+◌, ◌≤◌}
 use native.Mathlib.Omega.{arith}
-use mathlib.Core.List.{◌∷◌}
+use mathlib.Core.List.{[], ◌∷◌}
 use lib.ListN.{length}
+use borrow.Author.Tests.{not-true, not-false}
 use Rattle.fields.proofs.Choose.{no}
 use Rattle.fields.specs.Part.{part}
 use Rattle.layout.specs.Journal.{version}
@@ -30,14 +31,11 @@ shape_of-cache-in-Done c = c.loop-d.invariant.0.size ∙ sym c.requires.pages_bo
 
 pub returns-in-Done : goal.returns-in-Done
 returns-in-Done c =
-    let e = step_done _ _ c.requires.ready _ _ c.loop-d.invariant.0.valid c.next-step.ensures c.in
+    let e = step_done _ _ c.requires.ready _ _ c.loop-d.invariant.0.valid c.next-step.ensures c.in-Done.is in
+    let w = going_done c.loop-d.invariant.0 e in
     record {
-      value = (-Done.is in
-    let w = going_done c.loop-d.invariant.0 e in
-    ((w.0, λ _. w.1), c.loop-d.invariant.1)).0;
-      by_index = (-Done.is in
-    let w = going_done c.loop-d.invariant.0 e in
-    ((w.0, λ _. w.1), c.loop-d.invariant.1)).1;
+      value = (w.0, λ _. w.1);
+      by_index = c.loop-d.invariant.1;
     }
 
 pub loop-d-smaller-in-Skip : goal.loop-d-smaller-in-Skip
@@ -93,7 +91,7 @@ returns-then-not-is_next c =
     let i = c.loop-d.invariant in
     record {
       value = (
-        going_stop i.0 _ (written_at_returns_then_not_is_next c).0 _ _ refl u.result u.ensures c.if-must_apply.true x.result x.ensures (c.if-not-is_next.true),
+        going_stop i.0 _ (written_at_returns_then_not_is_next c).0 _ _ refl u.result u.ensures c.if-must_apply.true x.result x.ensures (not-true x.result c.if-not-is_next.true),
         no,
       );
       by_index = i.1;
@@ -169,7 +167,7 @@ loop-d-preserved-else-not-is_next c =
     let i = c.loop-d.invariant in
     let put = rw (lent_part _ c.in-Written.v 16) at c.apply.ensures in (
       going_apply i.0 _ (written_at_loop_d_smaller_else_not_is_next c).0 _ _ refl u.result u.ensures c.if-must_apply.true x.result x.ensures _ _
-          (c.if-not-is_next.false) put (noted_first _ _ _ _ c.touch.ensures),
+          (not-false x.result c.if-not-is_next.false) put (noted_first _ _ _ _ c.touch.ensures),
       noted_touch _ _ _ _ c.touch.ensures _ i.1,
     )
 

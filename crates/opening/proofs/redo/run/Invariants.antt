@@ -8,7 +8,7 @@ use Rattle.opening.proofs.redo.run.Given as goal
 
 abbrev pub invariant-loop-d : goal.invariant-loop-d
 invariant-loop-d l =
-    Going l.medium l.blocks l.pages l.c (record { l.cache = l.cache; first = first_of l.words }) (record { l.cache = l.initial.cache; first = first_of l.initial.words }) (rest_of l.medium l.blocks l.initial.c)
+    Going l.medium l.blocks l.pages l.c (record { cache = l.cache; first = first_of l.words }) (record { cache = l.initial.cache; first = first_of l.initial.words }) (rest_of l.medium l.blocks l.initial.c)
     × Noted l.initial.words l.words
 
 abbrev pub decreases-loop-d : goal.decreases-loop-d

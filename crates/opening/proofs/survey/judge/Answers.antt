@@ -5,6 +5,7 @@ use mathlib.Core.Bool.{true}
 use Prim.Native.Nat.{◌≤◌}
 use native.Mathlib.Omega.{arith}
 use lib.ListN.{length, take, length-take}
+use borrow.Author.Tests.{not-true, not-false}
 use Rattle.fields.specs.Block.{medium_length}
 use Rattle.store.specs.OpenLog.{next_number, last_time}
 use Rattle.store.specs.OpenConditions.{well_formed}
@@ -51,7 +52,7 @@ all_ok-tally-requires c =
 
 pub returns-then-not-tally : goal.returns-then-not-tally
 returns-then-not-tally c =
-    refused _ _ c.malformed.ensures (not_logged _ _ _ _ _ _ _ c.requires.applied _ _ _ c.all_ok-tally.ensures (c.if-not-tally.true))
+    refused _ _ c.malformed.ensures (not_logged _ _ _ _ _ _ _ c.requires.applied _ _ _ c.all_ok-tally.ensures (not-true c.all_ok-tally.result.ok c.if-not-tally.true))
 
 -- from here on the log's records are in order
 abbrev start : (c : goal.Else-not-tally) → tie.Start
@@ -77,7 +78,7 @@ known c =
     applied_known _ _ _ _ _ _ _ c.requires.applied _ _ c.extent-used.ensures c.gather-n.ensures.1
 
 fine : (c : goal.After-larger-last) → c.all_ok-tally.result.ok ≡ true
-fine c = c.if-not-tally.false
+fine c = not-false c.all_ok-tally.result.ok c.if-not-tally.false
 
 next_is : (c : goal.After-larger-last) → let a = (start_at_cache_ok_requires c).args in c.larger-next.result ≡ next_number a.medium.now a.blocks
 next_is c =
@@ -104,7 +105,7 @@ abbrev start_at_returns_then_not_cache_ok : (c : goal.After-malformed-then-not-c
 start_at_returns_then_not_cache_ok c = c.before.before.before.before.before.before.before.before.before.before
 
 fine_at_returns_then_not_cache_ok : (c : goal.After-malformed-then-not-cache_ok) → c.all_ok-tally.result.ok ≡ true
-fine_at_returns_then_not_cache_ok c = c.if-not-tally.false
+fine_at_returns_then_not_cache_ok c = not-false c.all_ok-tally.result.ok c.if-not-tally.false
 
 pub returns-then-not-cache_ok : goal.returns-then-not-cache_ok
 returns-then-not-cache_ok c =
@@ -134,7 +135,7 @@ abbrev start_at_returns_then_not_lay : (c : goal.After-malformed-then-not-lay) �
 start_at_returns_then_not_lay c = c.before.before.before.before.before.before.before.before.before.before
 
 fine_at_returns_then_not_lay : (c : goal.After-malformed-then-not-lay) → c.all_ok-tally.result.ok ≡ true
-fine_at_returns_then_not_lay c = c.if-not-tally.false
+fine_at_returns_then_not_lay c = not-false c.all_ok-tally.result.ok c.if-not-tally.false
 
 -- table, pages and slots are in order, and the numbers that wait are all that is left to judge
 few : (c : goal.After-malformed-then-not-lay) → let a = (start_at_returns_then_not_lay c).args in well_formed a.medium.now a.blocks a.pages ≡ c.lay.result
@@ -170,7 +171,7 @@ abbrev start_at_returns : (c : goal.After-put_numbers) → tie.Start
 start_at_returns c = c.before.before.before.before.before.before.before.before.before.before
 
 fine_at_returns : (c : goal.After-put_numbers) → c.all_ok-tally.result.ok ≡ true
-fine_at_returns c = c.if-not-tally.false
+fine_at_returns c = not-false c.all_ok-tally.result.ok c.if-not-tally.false
 
 -- table, pages and slots are in order, and the numbers that wait are all that is left to judge
 few_at_returns : (c : goal.After-put_numbers) → let a = (start_at_returns c).args in well_formed a.medium.now a.blocks a.pages ≡ c.lay.result

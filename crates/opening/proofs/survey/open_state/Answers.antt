@@ -27,7 +27,7 @@ good_at_returns_then_not_run c = found_good _ _ _ _ _ _ c.read_log-found.ensures
 
 pub returns-then-not-run : goal.returns-then-not-run
 returns-then-not-run c =
-    refused _ _ c.malformed-then-not-run.ensures (not_redone _ _ _ _ _ (good_at_returns_then_not_run c) _ _ _ _ c.copy_pages.ensures c.requires.words_value _ c.run.ensures.fields (c.if-not-run.true))
+    refused _ _ c.malformed-then-not-run.ensures (not_redone _ _ _ _ _ (good_at_returns_then_not_run c) _ _ _ _ c.copy_pages.ensures c.requires.words_value _ c.run.ensures.value (c.if-not-run.true))
 
 -- what was read of the medium
 good_at_judge_requires : (c : goal.After-judge-arg-2-1) → let a = c.args in ReadGood a.medium.now a.blocks a.pages c.in-Good.log c.in-Good.end
@@ -38,8 +38,8 @@ judge-requires c =
     record {
       ready = c.requires.ready;
       pages_bound = (c.requires.pages_bound.0, c.cache-2-1.given ∙ c.cache-1.given ∙ c.requires.cache_len);
-      applied = applied _ _ _ _ _ (good_at_judge_requires c) _ _ _ _ c.copy_pages.ensures c.requires.words_value _ c.run.ensures.fields (c.if-not-run.false);
-      by_index = noted_blank _ _ c.requires.words_value (c.run.ensures.text, (c.run.ensures.told, c.run.ensures.utf8));
+      applied = applied _ _ _ _ _ (good_at_judge_requires c) _ _ _ _ c.copy_pages.ensures c.requires.words_value _ c.run.ensures.value (c.if-not-run.false);
+      by_index = noted_blank _ _ c.requires.words_value c.run.ensures.by_index;
       medium_len = c.requires.pages_bound.1;
     }
 
@@ -49,5 +49,5 @@ good_at_returns c = found_good _ _ _ _ _ _ c.read_log-found.ensures c.in-Good.is
 
 pub returns : goal.returns
 returns c =
-    let h = applied _ _ _ _ _ (good_at_returns c) _ _ _ _ c.copy_pages.ensures c.requires.words_value _ c.run.ensures.fields (c.if-not-run.false) in
+    let h = applied _ _ _ _ _ (good_at_returns c) _ _ _ _ c.copy_pages.ensures c.requires.words_value _ c.run.ensures.value (c.if-not-run.false) in
     (c.judge.ensures.0, λ t. let s = c.judge.ensures.1 t in (h.cache, s.0, s.1))

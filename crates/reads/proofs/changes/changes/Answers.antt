@@ -69,7 +69,7 @@ unfolding state_of state_by
 returns-in-At c =
     let a = c.args in
     changes_listed (state_of a.words.now a.tail.now) a.medium.now a.cache.now a.buffer.now _ a.key a.t1 a.t2 _ _ (q1_at_returns_in_At c) (q2_at_returns_in_At c) c.if-words-t2.false c.find-head.ensures
-    c.list-listed.ensures.fields (c.list-listed.ensures.text, (c.list-listed.ensures.told, c.list-listed.ensures.utf8)) _ c.in-At.is
+    c.list-listed.ensures.result_value c.list-listed.ensures.buffer_after _ c.in-At.is
 
 q1_at_returns_in_Nothing : (c : goal.In-Nothing) → let a = c.args in fits (state_of a.words.now a.tail.now) (length a.medium.now) (length a.cache.now) ≡ true
 q1_at_returns_in_Nothing c = sym c.is_fit.ensures ∙ c.if-not-is_fit.false
@@ -83,4 +83,4 @@ unfolding state_of state_by
 returns-in-Nothing c =
     let a = c.args in
     changes_short (state_of a.words.now a.tail.now) a.medium.now a.cache.now a.buffer.now _ a.key a.t1 a.t2 _ _ (q1_at_returns_in_Nothing c) (q2_at_returns_in_Nothing c) c.if-words-t2.false c.find-head.ensures
-    c.list-listed.ensures.fields (c.list-listed.ensures.text, (c.list-listed.ensures.told, c.list-listed.ensures.utf8)) c.in-Nothing.is
+    c.list-listed.ensures.result_value c.list-listed.ensures.buffer_after c.in-Nothing.is

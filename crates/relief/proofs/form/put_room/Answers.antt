@@ -13,7 +13,7 @@ returns c =
     let w : length c.args.words.now ≡ 448 = search rules in
     let t : length c.args.tail.now ≡ 512 = search rules in
     record {
-      value = omega (arith, c.bytes.ensures.fields, c.bytes-e.ensures.fields, c.bytes-d.ensures.fields, c.put_words-c.ensures.fields, c.put_number-b.ensures.fields, c.put_number-a.ensures.fields);
-      out_after = behind_6 (take c.args.n c.args.out.now) _ _ _ _ _ _ _ _ _ _ _ _ (c.put_number-a.ensures.text, (c.put_number-a.ensures.told, c.put_number-a.ensures.utf8))
-          (c.put_number-b.ensures.text, (c.put_number-b.ensures.told, c.put_number-b.ensures.utf8)) (c.put_words-c.ensures.text, (c.put_words-c.ensures.told, c.put_words-c.ensures.utf8)) (c.bytes-d.ensures.text, (c.bytes-d.ensures.told, c.bytes-d.ensures.utf8)) (c.bytes-e.ensures.text, (c.bytes-e.ensures.told, c.bytes-e.ensures.utf8)) (c.bytes.ensures.text, (c.bytes.ensures.told, c.bytes.ensures.utf8));
+      value = omega (arith, c.bytes.ensures.value, c.bytes-e.ensures.value, c.bytes-d.ensures.value, c.put_words-c.ensures.value, c.put_number-b.ensures.value, c.put_number-a.ensures.value);
+      out_after = behind_6 (take c.args.n c.args.out.now) _ _ _ _ _ _ _ _ _ _ _ _ c.put_number-a.ensures.out_after
+          c.put_number-b.ensures.out_after c.put_words-c.ensures.out_after c.bytes-d.ensures.out_after c.bytes-e.ensures.out_after c.bytes.ensures.out_after;
     }

@@ -14,7 +14,7 @@ loop-i-preserved c = (
   omega arith,
   c.out-1.given ∙ c.loop-i.invariant.2,
   words_turn c.args.words.now _ c.loop-i.i (take c.loop-i.end c.loop-i.out) _ c.loop-i-test.true
-      (c.put_number-next.ensures.text, (c.put_number-next.ensures.told, c.put_number-next.ensures.utf8)) c.loop-i.invariant.3,
+      c.put_number-next.ensures.out_after c.loop-i.invariant.3,
 )
 
 pub shape_of-out : goal.shape_of-out

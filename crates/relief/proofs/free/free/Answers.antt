@@ -31,9 +31,9 @@ shape_of-out-then-not-is_left c = c.out-1.given ∙ c.loop-i.invariant.4
 pub returns-then-not-is_left : goal.returns-then-not-is_left
 returns-then-not-is_left c =
     record {
-      upper_bound = omega (arith, c.put_end.ensures.fields, c.loop-i.invariant.1);
+      upper_bound = omega (arith, c.put_end.ensures.value, c.loop-i.invariant.1);
       cache_after = free_none _ _ _ _ c.relief-next.ensures (take c.loop-i.n c.loop-i.out) _ c.loop-i.i _ c.loop-i.invariant.5
-          (sym c.is_left.ensures ∙ c.if-not-is_left.true) (c.put_end.ensures.text, (c.put_end.ensures.told, c.put_end.ensures.utf8));
+          (sym c.is_left.ensures ∙ c.if-not-is_left.true) c.put_end.ensures.out_after;
     }
 
 pub put_call-end-requires : goal.put_call-end-requires
@@ -42,13 +42,13 @@ put_call-end-requires c = omega (arith, c.loop-i.invariant.4, c.loop-i.invariant
 pub loop-i-preserved : goal.loop-i-preserved
 loop-i-preserved c = (
   omega (arith, c.loop-i-test.true),
-  omega (arith, c.put_call-end.ensures.fields, c.loop-i.invariant.1),
+  omega (arith, c.put_call-end.ensures.upper_bound, c.loop-i.invariant.1),
   c.medium-1.given ∙ c.loop-i.invariant.2,
   c.cache-1.given ∙ c.loop-i.invariant.3,
   c.out-in-loop-i-1.given ∙ c.loop-i.invariant.4,
   free_turn _ _ _ _ c.relief-next.ensures (take c.loop-i.n c.loop-i.out) _ c.loop-i.i _ c.loop-i.invariant.5 _ _ _ _
       c.loop-i-test.true (sym c.is_left.ensures ∙ c.if-not-is_left.false)
-      c.make-answer.ensures (c.put_call-end.ensures.text, (c.put_call-end.ensures.told, c.put_call-end.ensures.utf8)),
+      c.make-answer.ensures c.put_call-end.ensures.out_after,
 )
 
 pub shape_of-medium : goal.shape_of-medium
@@ -63,7 +63,7 @@ shape_of-out c = c.out-2-1.given ∙ c.loop-i.invariant.4
 pub returns : goal.returns
 returns c =
     record {
-      upper_bound = omega (arith, c.put_end-2.ensures.fields, c.loop-i.invariant.0, c.loop-i.invariant.1);
+      upper_bound = omega (arith, c.put_end-2.ensures.value, c.loop-i.invariant.0, c.loop-i.invariant.1);
       cache_after = free_last _ _ _ _ c.relief-last.ensures (take c.loop-i.n c.loop-i.out) _ c.loop-i.i _ c.loop-i.invariant.5
-          c.loop-i-test.false (c.put_end-2.ensures.text, (c.put_end-2.ensures.told, c.put_end-2.ensures.utf8));
+          c.loop-i-test.false c.put_end-2.ensures.out_after;
     }

@@ -10,24 +10,24 @@ pub returns-in-StoreLog : goal.returns-in-StoreLog
 unfolding call_text
 returns-in-StoreLog c =
     record {
-      upper_bound = c.put_line.ensures.fields;
-      out_after = simp (c.in-StoreLog.is, ← c.refusal-number.ensures) (c.put_line.ensures.text, (c.put_line.ensures.told, c.put_line.ensures.utf8));
+      upper_bound = c.put_line.ensures.upper_bound;
+      out_after = simp (c.in-StoreLog.is, ← c.refusal-number.ensures) c.put_line.ensures.out_after;
     }
 
 pub returns-in-StorePage : goal.returns-in-StorePage
 unfolding call_text
 returns-in-StorePage c =
     record {
-      upper_bound = c.put_page.ensures.fields;
-      out_after = simp (c.in-StorePage.is, ← c.refusal-number.ensures) (c.put_page.ensures.text, (c.put_page.ensures.told, c.put_page.ensures.utf8));
+      upper_bound = c.put_page.ensures.upper_bound;
+      out_after = simp (c.in-StorePage.is, ← c.refusal-number.ensures) c.put_page.ensures.out_after;
     }
 
 pub returns-in-Checkpoint : goal.returns-in-Checkpoint
 unfolding call_text
 returns-in-Checkpoint c =
     record {
-      upper_bound = c.put_line-in-Checkpoint.ensures.fields;
-      out_after = simp (c.in-Checkpoint.is, ← c.refusal-number.ensures) (c.put_line-in-Checkpoint.ensures.text, (c.put_line-in-Checkpoint.ensures.told, c.put_line-in-Checkpoint.ensures.utf8));
+      upper_bound = c.put_line-in-Checkpoint.ensures.upper_bound;
+      out_after = simp (c.in-Checkpoint.is, ← c.refusal-number.ensures) c.put_line-in-Checkpoint.ensures.out_after;
     }
 
 pub returns-in-NothingLeft : goal.returns-in-NothingLeft

@@ -6,14 +6,14 @@ pub returns-then-is_left : goal.returns-then-is_left
 unfolding end_text
 returns-then-is_left c =
     record {
-      value = c.bytes.ensures.fields;
-      out_after = simp (← c.is_left.ensures, c.if-is_left.true) (c.bytes.ensures.text, (c.bytes.ensures.told, c.bytes.ensures.utf8));
+      value = c.bytes.ensures.value;
+      out_after = simp (← c.is_left.ensures, c.if-is_left.true) c.bytes.ensures.out_after;
     }
 
 pub returns : goal.returns
 unfolding end_text
 returns c =
     record {
-      value = c.bytes-2.ensures.fields;
-      out_after = simp (← c.is_left.ensures, c.if-is_left.false) (c.bytes-2.ensures.text, (c.bytes-2.ensures.told, c.bytes-2.ensures.utf8));
+      value = c.bytes-2.ensures.value;
+      out_after = simp (← c.is_left.ensures, c.if-is_left.false) c.bytes-2.ensures.out_after;
     }

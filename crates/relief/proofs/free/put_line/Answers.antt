@@ -10,6 +10,6 @@ unfolding line_text
 returns c =
     record {
       upper_bound = omega arith;
-      out_after = behind_4 (take c.args.n c.args.out.now) _ _ _ _ _ _ _ _ (c.byte-a.ensures.text, (c.byte-a.ensures.told, c.byte-a.ensures.utf8)) (c.byte-b.ensures.text, (c.byte-b.ensures.told, c.byte-b.ensures.utf8))
-          (c.number-c.ensures.text, (c.number-c.ensures.told, c.number-c.ensures.utf8)) (c.byte.ensures.text, (c.byte.ensures.told, c.byte.ensures.utf8));
+      out_after = behind_4 (take c.args.n c.args.out.now) _ _ _ _ _ _ _ _ c.byte-a.ensures.out_after c.byte-b.ensures.out_after
+          c.number-c.ensures.out_after c.byte.ensures.out_after;
     }

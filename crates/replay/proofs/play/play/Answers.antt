@@ -2,6 +2,8 @@
 use mathlib.Core.Path.{refl, sym, ◌∙◌}
 use native.Mathlib.Omega.{arith}
 use mathlib.Core.Bool.{true}
+use mathlib.Core.List.{[]}
+use borrow.Author.Tests.{not-true, not-false}
 use Rattle.script.specs.Run.{stand, play_of}
 use Rattle.script.proofs.TakeLaws.{step_on}
 use Rattle.rooms.specs.Parts.{room_of}
@@ -52,9 +54,9 @@ shape_of-out-then-not-taken c = c.loop-i.invariant.4 ∙ sym c.requires.out_len
 pub returns-then-not-taken : goal.returns-then-not-taken
 returns-then-not-taken c =
     record {
-      n_bound = (rw c.stands-then-not-taken.ensures (omega (arith, c.loop-i.invariant.5), ((c.requires.bytes_nonzero, omega arith), play_stop (stand c.args.begun (room_of c.args.standing c.args.medium.now c.args.cache.now ((state_of c.args.words.now c.args.tail.now))) true []) c.args.bytes.now _ _ _ c.loop-i.i c.take-taken.result c.loop-i-test.true c.take-taken.ensures c.loop-i.invariant.7 (c.if-not-taken.true)))).0;
-      next_nonzero = (rw c.stands-then-not-taken.ensures (omega (arith, c.loop-i.invariant.5), ((c.requires.bytes_nonzero, omega arith), play_stop (stand c.args.begun (room_of c.args.standing c.args.medium.now c.args.cache.now ((state_of c.args.words.now c.args.tail.now))) true []) c.args.bytes.now _ _ _ c.loop-i.i c.take-taken.result c.loop-i-test.true c.take-taken.ensures c.loop-i.invariant.7 (c.if-not-taken.true)))).1.0;
-      out_after = (rw c.stands-then-not-taken.ensures (omega (arith, c.loop-i.invariant.5), ((c.requires.bytes_nonzero, omega arith), play_stop (stand c.args.begun (room_of c.args.standing c.args.medium.now c.args.cache.now ((state_of c.args.words.now c.args.tail.now))) true []) c.args.bytes.now _ _ _ c.loop-i.i c.take-taken.result c.loop-i-test.true c.take-taken.ensures c.loop-i.invariant.7 (c.if-not-taken.true)))).1.1;
+      n_bound = (rw c.stands-then-not-taken.ensures (omega (arith, c.loop-i.invariant.5), ((c.requires.bytes_nonzero, omega arith), play_stop (stand c.args.begun (room_of c.args.standing c.args.medium.now c.args.cache.now ((state_of c.args.words.now c.args.tail.now))) true []) c.args.bytes.now _ _ _ c.loop-i.i c.take-taken.result c.loop-i-test.true c.take-taken.ensures c.loop-i.invariant.7 (not-true c.take-taken.result.ended c.if-not-taken.true)))).0;
+      next_nonzero = (rw c.stands-then-not-taken.ensures (omega (arith, c.loop-i.invariant.5), ((c.requires.bytes_nonzero, omega arith), play_stop (stand c.args.begun (room_of c.args.standing c.args.medium.now c.args.cache.now ((state_of c.args.words.now c.args.tail.now))) true []) c.args.bytes.now _ _ _ c.loop-i.i c.take-taken.result c.loop-i-test.true c.take-taken.ensures c.loop-i.invariant.7 (not-true c.take-taken.result.ended c.if-not-taken.true)))).1.0;
+      out_after = (rw c.stands-then-not-taken.ensures (omega (arith, c.loop-i.invariant.5), ((c.requires.bytes_nonzero, omega arith), play_stop (stand c.args.begun (room_of c.args.standing c.args.medium.now c.args.cache.now ((state_of c.args.words.now c.args.tail.now))) true []) c.args.bytes.now _ _ _ c.loop-i.i c.take-taken.result c.loop-i-test.true c.take-taken.ensures c.loop-i.invariant.7 (not-true c.take-taken.result.ended c.if-not-taken.true)))).1.1;
     }
 
 pub shape_of-medium-then-reached-p : goal.shape_of-medium-then-reached-p
@@ -73,9 +75,9 @@ pub returns-then-reached-p : goal.returns-then-reached-p
 returns-then-reached-p c =
     let w = step_on c.args.bytes.now _ c.loop-i.i c.take-taken.result c.loop-i-test.true c.take-taken.ensures in
     record {
-      n_bound = (rw c.stands-then-reached-p.ensures (omega (arith, c.loop-i.invariant.5), ((omega (arith, w.0), w.1), play_over (stand c.args.begun (room_of c.args.standing c.args.medium.now c.args.cache.now ((state_of c.args.words.now c.args.tail.now))) true []) c.args.bytes.now _ _ _ c.loop-i.i c.take-taken.result c.loop-i-test.true c.take-taken.ensures c.loop-i.invariant.7 (c.if-not-taken.false) c.meaning-asked.result c.empty-line.result c.meaning-asked.ensures c.empty-line.ensures (not_played c.meaning-asked.result c.of-p.result _ _ _ _ c.of-p.ensures (rw c.reached.ensures at c.if-reached-p.true))))).0;
-      next_nonzero = (rw c.stands-then-reached-p.ensures (omega (arith, c.loop-i.invariant.5), ((omega (arith, w.0), w.1), play_over (stand c.args.begun (room_of c.args.standing c.args.medium.now c.args.cache.now ((state_of c.args.words.now c.args.tail.now))) true []) c.args.bytes.now _ _ _ c.loop-i.i c.take-taken.result c.loop-i-test.true c.take-taken.ensures c.loop-i.invariant.7 (c.if-not-taken.false) c.meaning-asked.result c.empty-line.result c.meaning-asked.ensures c.empty-line.ensures (not_played c.meaning-asked.result c.of-p.result _ _ _ _ c.of-p.ensures (rw c.reached.ensures at c.if-reached-p.true))))).1.0;
-      out_after = (rw c.stands-then-reached-p.ensures (omega (arith, c.loop-i.invariant.5), ((omega (arith, w.0), w.1), play_over (stand c.args.begun (room_of c.args.standing c.args.medium.now c.args.cache.now ((state_of c.args.words.now c.args.tail.now))) true []) c.args.bytes.now _ _ _ c.loop-i.i c.take-taken.result c.loop-i-test.true c.take-taken.ensures c.loop-i.invariant.7 (c.if-not-taken.false) c.meaning-asked.result c.empty-line.result c.meaning-asked.ensures c.empty-line.ensures (not_played c.meaning-asked.result c.of-p.result _ _ _ _ c.of-p.ensures (rw c.reached.ensures at c.if-reached-p.true))))).1.1;
+      n_bound = (rw c.stands-then-reached-p.ensures (omega (arith, c.loop-i.invariant.5), ((omega (arith, w.0), w.1), play_over (stand c.args.begun (room_of c.args.standing c.args.medium.now c.args.cache.now ((state_of c.args.words.now c.args.tail.now))) true []) c.args.bytes.now _ _ _ c.loop-i.i c.take-taken.result c.loop-i-test.true c.take-taken.ensures c.loop-i.invariant.7 (not-false c.take-taken.result.ended c.if-not-taken.false) c.meaning-asked.result c.empty-line.result c.meaning-asked.ensures c.empty-line.ensures (not_played c.meaning-asked.result c.of-p.result _ _ _ _ c.of-p.ensures (rw c.reached.ensures at c.if-reached-p.true))))).0;
+      next_nonzero = (rw c.stands-then-reached-p.ensures (omega (arith, c.loop-i.invariant.5), ((omega (arith, w.0), w.1), play_over (stand c.args.begun (room_of c.args.standing c.args.medium.now c.args.cache.now ((state_of c.args.words.now c.args.tail.now))) true []) c.args.bytes.now _ _ _ c.loop-i.i c.take-taken.result c.loop-i-test.true c.take-taken.ensures c.loop-i.invariant.7 (not-false c.take-taken.result.ended c.if-not-taken.false) c.meaning-asked.result c.empty-line.result c.meaning-asked.ensures c.empty-line.ensures (not_played c.meaning-asked.result c.of-p.result _ _ _ _ c.of-p.ensures (rw c.reached.ensures at c.if-reached-p.true))))).1.0;
+      out_after = (rw c.stands-then-reached-p.ensures (omega (arith, c.loop-i.invariant.5), ((omega (arith, w.0), w.1), play_over (stand c.args.begun (room_of c.args.standing c.args.medium.now c.args.cache.now ((state_of c.args.words.now c.args.tail.now))) true []) c.args.bytes.now _ _ _ c.loop-i.i c.take-taken.result c.loop-i-test.true c.take-taken.ensures c.loop-i.invariant.7 (not-false c.take-taken.result.ended c.if-not-taken.false) c.meaning-asked.result c.empty-line.result c.meaning-asked.ensures c.empty-line.ensures (not_played c.meaning-asked.result c.of-p.result _ _ _ _ c.of-p.ensures (rw c.reached.ensures at c.if-reached-p.true))))).1.1;
     }
 
 pub step-stepped-requires : goal.step-stepped-requires
@@ -96,9 +98,8 @@ loop-i-smaller c =
 
 pub loop-i-preserved : goal.loop-i-preserved
 loop-i-preserved c =
-    let k = c.args in let v = c.loop-i.invariant in let e = (c.step-stepped.ensures.fields, (c.step-stepped.ensures.text, (c.step-stepped.ensures.told, c.step-stepped.ensures.utf8))) in
-    let w = step_on k.bytes.now _ c.loop-i.i c.take-taken.result c.loop-i-test.true c.take-taken.ensures in
-    (w.1, c.medium-1.given ∙ v.1, c.cache-1.given ∙ v.2, c.buffer-1.given ∙ v.3, c.out-1.given ∙ v.4, omega (arith, e.0, c.if-n-gt100000.false), omega (arith, e.0, c.if-n-gt100000.false), play_goes (stand k.begun (room_of k.standing k.medium.now k.cache.now (state_of k.words.now k.tail.now)) true []) k.bytes.now _ _ _ c.loop-i.i c.take-taken.result c.loop-i-test.true c.take-taken.ensures v.7 (c.if-not-taken.false) c.meaning-asked.result c.empty-line.result c.meaning-asked.ensures c.empty-line.ensures _ _ (is_played c.meaning-asked.result c.of-p.result _ _ _ _ c.of-p.ensures (rw c.reached.ensures at c.if-reached-p.false)) e.1.0 e.1.1)
+    let k = c.args in let v = c.loop-i.invariant in let w = step_on k.bytes.now _ c.loop-i.i c.take-taken.result c.loop-i-test.true c.take-taken.ensures in
+    (w.1, c.medium-1.given ∙ v.1, c.cache-1.given ∙ v.2, c.buffer-1.given ∙ v.3, c.out-1.given ∙ v.4, omega (arith, c.step-stepped.ensures.n_bound, c.if-n-gt100000.false), omega (arith, c.step-stepped.ensures.n_bound, c.if-n-gt100000.false), play_goes (stand k.begun (room_of k.standing k.medium.now k.cache.now (state_of k.words.now k.tail.now)) true []) k.bytes.now _ _ _ c.loop-i.i c.take-taken.result c.loop-i-test.true c.take-taken.ensures v.7 (not-false c.take-taken.result.ended c.if-not-taken.false) c.meaning-asked.result c.empty-line.result c.meaning-asked.ensures c.empty-line.ensures _ _ (is_played c.meaning-asked.result c.of-p.result _ _ _ _ c.of-p.ensures (rw c.reached.ensures at c.if-reached-p.false)) c.step-stepped.ensures.out_after c.step-stepped.ensures.tail_after)
 
 pub shape_of-medium : goal.shape_of-medium
 shape_of-medium c = c.loop-i.invariant.1 ∙ sym c.requires.medium_len

@@ -2,6 +2,7 @@
 use mathlib.Core.Path.{◌≡◌}
 use Prim.Native.Nat.{◌-◌, ◌*◌, ◌≤◌}
 use mathlib.Core.Bool.{true}
+use mathlib.Core.List.{[]}
 use lib.ListN.{length, take}
 use Rattle.script.specs.Run.{stand, play_of}
 use Rattle.rooms.specs.Parts.{room_of}

@@ -8,6 +8,6 @@ pub returns : goal.returns
 returns c =
     let k = c.args in
     record {
-      upper_bound = c.put_answer.ensures.fields;
-      by_index = λ l d. read_prints (take k.n k.out.now) _ _ _ _ _ _ _ l d _ refl (c.put_answer.ensures.text, (c.put_answer.ensures.told, c.put_answer.ensures.utf8)) c.as_of-r.ensures;
+      upper_bound = c.put_answer.ensures.upper_bound;
+      by_index = λ l d. read_prints (take k.n k.out.now) _ _ _ _ _ _ _ l d _ refl c.put_answer.ensures.out_after c.as_of-r.ensures;
     }

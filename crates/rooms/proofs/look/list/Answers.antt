@@ -22,5 +22,5 @@ returns c =
     let k = c.args in
     record {
       upper_bound = omega arith;
-      by_index = λ l d. list_prints (take k.n k.out.now) _ _ _ _ _ _ _ _ l d (c.put_answer-a.ensures.text, (c.put_answer-a.ensures.told, c.put_answer-a.ensures.utf8)) (c.put_list.ensures.text, (c.put_list.ensures.told, c.put_list.ensures.utf8)) (rw c.fill.ensures at c.changes-answer.ensures);
+      by_index = λ l d. list_prints (take k.n k.out.now) _ _ _ _ _ _ _ _ l d c.put_answer-a.ensures.out_after c.put_list.ensures.out_after (rw c.fill.ensures at c.changes-answer.ensures);
     }

@@ -16,6 +16,6 @@ pub returns : goal.returns
 unfolding cache_part
 returns c =
     record {
-      value = simp (le-ltb _ _ c.if-t-lt3.false) c.right_length.ensures.fields;
-      upper_bound = (c.right_length.ensures.text, (c.right_length.ensures.told, c.right_length.ensures.utf8));
+      value = simp (le-ltb _ _ c.if-t-lt3.false) c.right_length.ensures.value;
+      upper_bound = c.right_length.ensures.upper_bound;
     }

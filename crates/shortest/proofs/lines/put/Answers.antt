@@ -28,16 +28,15 @@ pub loop-i-preserved : goal.loop-i-preserved
 loop-i-preserved c =
     let a = c.args in
     let h = c.loop-i.invariant in
-    let u = simp (length-take, length-drop) at c.put_line-next.ensures.fields in
-    let e = (c.line_end-end.ensures.text, (c.line_end-end.ensures.told, c.line_end-end.ensures.utf8)) in
-    let p = (c.put_line-next.ensures.fields, (c.put_line-next.ensures.text, (c.put_line-next.ensures.told, c.put_line-next.ensures.utf8))) in (
+    let u = simp (length-take, length-drop) at c.put_line-next.ensures.upper_bound in
+    let e = c.line_end-end.ensures.value in (
       omega arith,
       h.1,
       c.out-1.given ∙ h.2,
       omega arith,
       omega arith,
       put_turn a.t3 a.bytes.now _ c.loop-i.i c.loop-i.at c.line_end-end.result (omega arith)
-          c.if-bytes-at.false e _ (take c.loop-i.n c.loop-i.out) _ refl p.1 h.5,
+          c.if-bytes-at.false e _ (take c.loop-i.n c.loop-i.out) _ refl c.put_line-next.ensures.out_after h.5,
     )
 
 pub shape_of-out : goal.shape_of-out

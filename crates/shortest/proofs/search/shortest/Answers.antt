@@ -15,5 +15,5 @@ returns-then-r-eq0 c = no_flags _ c.args.m c.chosen.ensures c.play-r.ensures c.i
 
 pub returns : goal.returns
 returns c =
-    let e = (c.search-best.ensures.text, (c.search-best.ensures.told, c.search-best.ensures.utf8)) in
+    let e = c.search-best.ensures.value in
     best_flags _ c.args.m c.chosen.ensures c.play-r.ensures c.if-r-eq0.false e c.chosen-2.ensures

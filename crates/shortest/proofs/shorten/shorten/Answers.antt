@@ -32,7 +32,7 @@ returns c =
     let k = c.keep-script in
     let h = k.ensures in
     record {
-      n_in_bounds = c.put-count.ensures.fields;
+      n_in_bounds = c.put-count.ensures.upper_bound;
       long_value = sym (long_not _ k.result h l);
-      out_after = prints_are _ k.result h c.shortest-flags.result _ n l c.shortest-flags.ensures (c.put-count.ensures.text, (c.put-count.ensures.told, c.put-count.ensures.utf8));
+      out_after = prints_are _ k.result h c.shortest-flags.result _ n l c.shortest-flags.ensures c.put-count.ensures.out_after;
     }

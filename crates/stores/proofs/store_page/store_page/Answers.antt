@@ -178,7 +178,7 @@ q3_at_returns_then_not_store c = end_asked _ _ _ c.end.ensures
 
 q4 : (c : goal.Then-not-store) → let a = c.args in let s = state_of a.words.now a.tail.now in
     not (eq_list (blk a.medium.now (page_block_at s.blocks a.page)) (stamped_page s (blk a.cache.now a.page))) ≡ c.store.result
-q4 c = page_asked _ _ _ _ _ _ c.page_block-b.ensures _ c.store.ensures.fields
+q4 c = page_asked _ _ _ _ _ _ c.page_block-b.ensures _ c.store.ensures.value
 
 pub returns-then-not-store : goal.returns-then-not-store
 unfolding state_of state_by
@@ -187,7 +187,7 @@ returns-then-not-store c =
     let n = c.if-not-store.true in
     let h = both_at_returns_then_not_store c in
     page_kept a.words.now a.tail.now a.medium.now a.cache.now a.page c.page_block-b.result c.page_block-b.ensures
-    c.store.result _ _ _ h.1 h.3 (c.store.ensures.utf8 a.tail.now) c.store.ensures.text c.store.ensures.told _ n
+    c.store.result _ _ _ h.1 h.3 (c.store.ensures.by_index a.tail.now) c.store.ensures.page_after c.store.ensures.block_after _ n
     ∙ sym (page_unchanged (state_of a.words.now a.tail.now) _ _ _ _ _ (q1_at_returns_then_not_store c) c.if-words-page.false (q3_at_returns_then_not_store c) c.if-words-end.false (q4 c) n)
 
 -- the answers to the questions
@@ -213,7 +213,7 @@ q3_at_returns c = end_asked _ _ _ c.end.ensures
 
 q4_at_returns : (c : goal.After-forget) → let a = c.args in let s = state_of a.words.now a.tail.now in
     not (eq_list (blk a.medium.now (page_block_at s.blocks a.page)) (stamped_page s (blk a.cache.now a.page))) ≡ c.store.result
-q4_at_returns c = page_asked _ _ _ _ _ _ c.page_block-b.ensures _ c.store.ensures.fields
+q4_at_returns c = page_asked _ _ _ _ _ _ c.page_block-b.ensures _ c.store.ensures.value
 
 pub returns : goal.returns
 unfolding state_of state_by
@@ -222,6 +222,6 @@ returns c =
     let n = c.if-not-store.false in
     let h = both_at_returns c in
     page_laid a.words.now a.tail.now a.medium.now a.cache.now a.page c.page_block-b.result c.page_block-b.ensures
-    c.store.result _ _ _ h.1 h.3 (c.store.ensures.utf8 a.tail.now) c.store.ensures.text c.store.ensures.told _ n (c.forget.ensures a.tail.now)
-    c.store.auto.block.0 c.store.auto.block.1.0
+    c.store.result _ _ _ h.1 h.3 (c.store.ensures.by_index a.tail.now) c.store.ensures.page_after c.store.ensures.block_after _ n (c.forget.ensures a.tail.now)
+    c.store.auto.page c.store.auto.block
     ∙ sym (page_done (state_of a.words.now a.tail.now) _ _ _ _ _ (q1_at_returns c) c.if-words-page.false (q3_at_returns c) c.if-words-end.false (q4_at_returns c) n)

@@ -59,7 +59,7 @@ returns-in-Format c =
 pub returns-in-Open : goal.returns-in-Open
 unfolding turn_of turn_by plan_of
 returns-in-Open c =
-    simp (c.requires.p_value, c.in-Open.is) (open_right c.args.t c.args.medium.now c.args.cache.now ((state_of c.args.words.now c.args.tail.now)) _ _ _ (plan_stage _ _ _ _ c.requires.p_value c.in-Open.is c.requires.stage_bound) c.right_length-n.ensures.fields (c.before.before.before.before.«open».ensures 79))
+    simp (c.requires.p_value, c.in-Open.is) (open_right c.args.t c.args.medium.now c.args.cache.now ((state_of c.args.words.now c.args.tail.now)) _ _ _ (plan_stage _ _ _ _ c.requires.p_value c.in-Open.is c.requires.stage_bound) c.right_length-n.ensures.value (c.before.before.before.before.«open».ensures 79))
 
 pub returns-in-OpenSized : goal.returns-in-OpenSized
 unfolding turn_of turn_by plan_of

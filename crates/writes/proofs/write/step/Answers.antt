@@ -63,11 +63,11 @@ in-cache c =
 
 pub put_version-requires : goal.put_version-requires
 put_version-requires c =
-    let h = in
+    let h = in-cache c in
     record {
-      n_bound = (-cache c in (h.0, (h.1, search rules))).0;
-      n_in_bounds = (-cache c in (h.0, (h.1, search rules))).1.0;
-      value_len = (-cache c in (h.0, (h.1, search rules))).1.1;
+      n_bound = h.0;
+      n_in_bounds = h.1;
+      value_len = search rules;
     }
 
 asked_at_count_version_requires : (c : goal.After-count_version-arg-3-1) → WriteAsked (state_of c.args.words.now c.args.tail.now) c.args.medium.now c.args.cache.now
@@ -84,16 +84,12 @@ in-cache_at_count_version_requires c =
 pub count_version-requires : goal.count_version-requires
 unfolding state_of state_by
 count_version-requires c =
-    let h = in
+    let h = in-cache_at_count_version_requires c in
+    let k = c.take_version in
+    let e = slots_taken _ (state_of k.new.0 k.new.1.0) _ _ _ k.ensures.0 in
     record {
-      words_len = (-cache_at_count_version_requires c in
-    let k = c.take_version in
-    let e = slots_taken _ (state_of k.new.0 k.new.1.0) _ _ _ k.ensures.0 in
-    ((search rules, search rules), (active_below _ _ _ c.requires.number_value, omega (arith, e, c.requires.slot_value, h.0)))).0;
-      i_bound = (-cache_at_count_version_requires c in
-    let k = c.take_version in
-    let e = slots_taken _ (state_of k.new.0 k.new.1.0) _ _ _ k.ensures.0 in
-    ((search rules, search rules), (active_below _ _ _ c.requires.number_value, omega (arith, e, c.requires.slot_value, h.0)))).1;
+      words_len = (search rules, search rules);
+      i_bound = (active_below _ _ _ c.requires.number_value, omega (arith, e, c.requires.slot_value, h.0));
     }
 
 pub returns : goal.returns
