@@ -1,6 +1,6 @@
 -- The pages and slots of a cache, judged one after the other: pages full before the last used, and a slot against what
 -- is known of its record from the slots below it. Assumes nothing.
-use mathlib.Core.Path.{◌≡◌, refl, sym, ◌∙◌}
+use mathlib.Core.Path.{◌≡◌, refl, sym, subst, ◌∙◌}
 use mathlib.Core.Bool.{Bool, true, false, ◌&&◌, ◌||◌}
 use mathlib.Core.List.{List, []}
 use Prim.Native.Nat.{ℕ, suc, ◌+◌, ◌-◌, ◌*◌, ◌<◌}
@@ -107,7 +107,10 @@ module _ (m : List ℕ) (l d : ℕ) (c : List ℕ) where
 
       time : (k : ℕ) → k < 1024 → Dec (k ≡ key) → get_or (times_after t key u) k 0 ≡ time_or_zero (time_below m l d c k (suc n))
       time k h (yes e) =
-          simp (v, ← ek, ← eu, e, eq-eqb key key refl) (timed_same u (time_below m l d c key n) t key (omega arith) (w.newest_time key hk))
+          subst
+          (λ (x : ℕ). get_or (times_after t key u) x 0 ≡ time_or_zero (time_below m l d c x (suc n)))
+          (sym e)
+          (simp (v, ← ek, ← eu, eq-eqb key key refl) (timed_same u (time_below m l d c key n) t key (omega arith) (w.newest_time key hk)))
       time k h (no e) = simp (v, ← ek, ne_eqb key k (λ q. e (sym q)), timed_other u t key k e) (w.newest_time k h)
 
   pub ok_empty : (n : ℕ) → is_version (cell_at c n).state ≡ false → true ≡ slot_ok m l d c n

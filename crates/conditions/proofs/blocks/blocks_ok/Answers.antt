@@ -51,9 +51,8 @@ lent c = block_lent _ _ _ c.block_start-start.result c.block_start-start.ensures
 
 pub returns-then-not-in_form : goal.returns-then-not-in_form
 returns-then-not-in_form c =
-    let f = c.in_form in
-    blocks_form _ _ _ _ c.args.oldest c.loop-k.k c.args.count c.loop-k-test.true _ (lent c) c.if-s-ge281474976710656.false f.result f.ensures
-    (not-true f.result c.if-not-in_form.true)
+    blocks_form _ _ _ _ c.args.oldest c.loop-k.k c.args.count c.loop-k-test.true _ (lent c) c.if-s-ge281474976710656.false c.in_form.result c.in_form.ensures
+    (c.if-not-in_form.true)
     ∙ c.loop-k.invariant.1
 
 pub overflow_add-start-in-loop-k : goal.overflow_add-start-in-loop-k
@@ -91,10 +90,8 @@ lent_at_returns_then_not_done c = block_lent _ _ _ c.block_start-start.result c.
 
 pub returns-then-not-done : goal.returns-then-not-done
 returns-then-not-done c =
-    let r = c.records_ok-done in
-    let f = c.in_form in
-    blocks_records _ _ _ _ c.args.oldest c.loop-k.k c.args.count c.loop-k-test.true _ (lent_at_returns_then_not_done c) c.if-s-ge281474976710656.false f.result f.ensures
-    (not-false f.result c.if-not-in_form.false) r.result.ok r.ensures.0 (not-true r.result.ok c.if-not-done.true)
+    blocks_records _ _ _ _ c.args.oldest c.loop-k.k c.args.count c.loop-k-test.true _ (lent_at_returns_then_not_done c) c.if-s-ge281474976710656.false c.in_form.result c.in_form.ensures
+    (c.if-not-in_form.false) c.records_ok-done.result.ok c.records_ok-done.ensures.0 (not-true c.records_ok-done.result.ok c.if-not-done.true)
     ∙ c.loop-k.invariant.1
 
 -- the part that is lent is the block
@@ -104,12 +101,10 @@ lent_at_loop_k_preserved c = block_lent _ _ _ c.block_start-start.result c.block
 
 pub loop-k-preserved : goal.loop-k-preserved
 loop-k-preserved c =
-    let r = c.records_ok-done in
-    let f = c.in_form in
-    let e = not-false r.result.ok c.if-not-done.false in (
+    let e = not-false c.records_ok-done.result.ok c.if-not-done.false in (
       omega arith,
-      blocks_turn _ _ _ _ c.args.oldest c.loop-k.k c.args.count c.loop-k-test.true _ (lent_at_loop_k_preserved c) c.if-s-ge281474976710656.false f.result f.ensures
-          (not-false f.result c.if-not-in_form.false) r.result.ok r.ensures.0 _ e (r.ensures.1 e)
+      blocks_turn _ _ _ _ c.args.oldest c.loop-k.k c.args.count c.loop-k-test.true _ (lent_at_loop_k_preserved c) c.if-s-ge281474976710656.false c.in_form.result c.in_form.ensures
+          (c.if-not-in_form.false) c.records_ok-done.result.ok c.records_ok-done.ensures.0 _ e (c.records_ok-done.ensures.1 e)
           ∙ c.loop-k.invariant.1,
     )
 

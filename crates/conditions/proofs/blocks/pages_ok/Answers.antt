@@ -4,7 +4,6 @@ use Prim.Native.Nat.{◌+◌, ◌*◌, ◌≤◌}
 use native.Mathlib.Nat.{sub-zero}
 use native.Mathlib.Omega.{arith}
 use lib.ListN.{length}
-use borrow.Author.Tests.{not-true, not-false}
 use Rattle.fields.proofs.PartLaws.{lent_length}
 use Rattle.layout.proofs.PlaceLaws.{page_block_high}
 use Rattle.conditions.proofs.AllOfLaws.{all_turn, all_stop, all_end}
@@ -39,9 +38,8 @@ in_form-requires c = lent_length _ (512 * c.page_block-a.result) 512 (inside_at_
 
 pub returns-then-not-in_form : goal.returns-then-not-in_form
 returns-then-not-in_form c =
-    let f = c.in_form in
     all_stop _ c.args.pages c.loop-p.p _ c.loop-p-test.true
-    (page_bad _ _ _ c.loop-p.p c.page_block-a.result c.args.end c.page_block-a.ensures c.requires.end_value f.result f.ensures (not-true f.result c.if-not-in_form.true)) refl
+    (page_bad _ _ _ c.loop-p.p c.page_block-a.result c.args.end c.page_block-a.ensures c.requires.end_value c.in_form.result c.in_form.ensures (c.if-not-in_form.true)) refl
     ∙ c.loop-p.invariant.1
 
 -- the page lies within the medium
@@ -53,23 +51,19 @@ end-requires c = lent_length _ (512 * c.page_block-a.result) 512 (inside_at_end_
 
 pub returns-then-end : goal.returns-then-end
 returns-then-end c =
-    let e = c.end in
-    let f = c.in_form in
     all_stop _ c.args.pages c.loop-p.p _ c.loop-p-test.true
-    (page_late _ _ _ c.loop-p.p c.page_block-a.result c.args.end c.page_block-a.ensures c.requires.end_value f.result f.ensures
-    (not-false f.result c.if-not-in_form.false) e.result.0 e.ensures c.if-end.true) refl
+    (page_late _ _ _ c.loop-p.p c.page_block-a.result c.args.end c.page_block-a.ensures c.requires.end_value c.in_form.result c.in_form.ensures
+    (c.if-not-in_form.false) c.end.result.0 c.end.ensures c.if-end.true) refl
     ∙ c.loop-p.invariant.1
 
 pub loop-p-preserved : goal.loop-p-preserved
-loop-p-preserved c =
-    let e = c.end in
-    let f = c.in_form in (
-      omega arith,
-      all_turn _ c.args.pages c.loop-p.p _ c.loop-p-test.true
-          (page_fine _ _ _ c.loop-p.p c.page_block-a.result c.args.end c.page_block-a.ensures c.requires.end_value f.result f.ensures
-          (not-false f.result c.if-not-in_form.false) e.result.0 e.ensures c.if-end.false) refl
-          ∙ c.loop-p.invariant.1,
-    )
+loop-p-preserved c = (
+  omega arith,
+  all_turn _ c.args.pages c.loop-p.p _ c.loop-p-test.true
+      (page_fine _ _ _ c.loop-p.p c.page_block-a.result c.args.end c.page_block-a.ensures c.requires.end_value c.in_form.result c.in_form.ensures
+      (c.if-not-in_form.false) c.end.result.0 c.end.ensures c.if-end.false) refl
+      ∙ c.loop-p.invariant.1,
+)
 
 pub returns : goal.returns
 returns c = all_end _ _ c.loop-p.p (omega arith) ∙ c.loop-p.invariant.1

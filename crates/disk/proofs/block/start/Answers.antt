@@ -8,7 +8,7 @@ use Rattle.disk.proofs.block.start.Goals as goal
 pub returns-then-block-gt98 : goal.returns-then-block-gt98
 unfolding start_of
 returns-then-block-gt98 c =
-    let k = c.args in let p = c.requires in
+    let k = c.args in
     record {
       value = simp (le-ltb (512 * k.block) k.n (omega (arith, c.if-block-gt98.true)));
       upper_bound = omega arith;

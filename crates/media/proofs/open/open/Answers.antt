@@ -58,9 +58,8 @@ fits_at_returns_then_not_found c = c.if-cache-cache_length.false ∙ c.cache_len
 
 pub returns-then-not-found : goal.returns-then-not-found
 returns-then-not-found c =
-    let x = c.open_state-found in
     refused_is _ _ _ _ c.clear-then-not-found-2.ensures.1
-    ∙ bad_medium _ _ _ _ _ c.sizes_fit.ensures (right_at_returns_then_not_found c) (fits_at_returns_then_not_found c) (sym x.ensures.0 ∙ not-true x.result.ok c.if-not-found.true) _
+    ∙ bad_medium _ _ _ _ _ c.sizes_fit.ensures (right_at_returns_then_not_found c) (fits_at_returns_then_not_found c) (sym c.open_state-found.ensures.0 ∙ not-true c.open_state-found.result.ok c.if-not-found.true) _
     (c.clear-then-not-found.ensures ∙ ap zeros c.cache-1.given)
 
 whole : (c : goal.Else-not-found) → c.open_state-found.result.ok ≡ true

@@ -64,18 +64,16 @@ take_log-requires c =
 
 pub loop-i-preserved : goal.loop-i-preserved
 loop-i-preserved c =
-    let l = c.loop-i in
-    let v = l.invariant in (
+    let v = c.loop-i.invariant in (
       omega arith,
       v.1,
       laid_all _ _ _ c.take_log.ensures _ v.2,
-      taken_turn _ _ _ _ _ _ _ _ l.i _ c.loop-i-test.true v.1 c.requires.known.log (all_places _ _ _ c.take_log.ensures) ∙ v.3,
+      taken_turn _ _ _ _ _ _ _ _ c.loop-i.i _ c.loop-i-test.true v.1 c.requires.known.log (all_places _ _ _ c.take_log.ensures) ∙ v.3,
     )
 
 pub returns : goal.returns
 returns c =
-    let l = c.loop-i in
-    let v = l.invariant in (
+    let v = c.loop-i.invariant in (
       sym (le-leb _ 64 (gathered_few _ _ _ _ _ v.1)),
-      λ _. laid_over _ _ _ c.table_places.ensures _ _ v.2 (taken_end _ _ _ _ _ _ l.i _ v.0 c.loop-i-test.false ∙ v.3),
+      λ _. laid_over _ _ _ c.table_places.ensures _ _ v.2 (taken_end _ _ _ _ _ _ c.loop-i.i _ v.0 c.loop-i-test.false ∙ v.3),
     )

@@ -12,13 +12,12 @@ loop-i-init c = (omega arith, laying_start _ _ _ _ c.requires.words_value)
 
 pub take_table-requires : goal.take_table-requires
 take_table-requires c =
-    let l = c.loop-i in
-    let h : l.i < 64 = omega (arith, c.requires.known.table.few, c.loop-i-test.true) in
+    let h : c.loop-i.i < 64 = omega (arith, c.requires.known.table.few, c.loop-i-test.true) in
     record {
       ready = c.requires.ready;
       commits_value = c.requires.known.log;
       total_bound = (c.requires.total_bound, h);
-      i_value = l.invariant.1.free l.i (omega arith) h;
+      i_value = c.loop-i.invariant.1.free c.loop-i.i (omega arith) h;
     }
 
 pub overflow_add-i : goal.overflow_add-i
@@ -26,12 +25,10 @@ overflow_add-i c = omega (arith, c.requires.known.table.few)
 
 pub loop-i-preserved : goal.loop-i-preserved
 loop-i-preserved c =
-    let l = c.loop-i in
-    (omega arith, laying_turn _ _ _ _ _ _ l.i (omega (arith, c.requires.known.table.few, c.loop-i-test.true)) l.invariant.1 c.take_table.ensures)
+    (omega arith, laying_turn _ _ _ _ _ _ c.loop-i.i (omega (arith, c.requires.known.table.few, c.loop-i-test.true)) c.loop-i.invariant.1 c.take_table.ensures)
 
 pub returns : goal.returns
 returns c =
-    let l = c.loop-i in
-    let e : l.i ≡ c.args.used = omega arith in
-    let x : Extent c.args.medium.now l.i = rw e c.requires.known.table in
-    laying_end _ _ _ _ _ l.i x l.invariant.1
+    let e : c.loop-i.i ≡ c.args.used = omega arith in
+    let x : Extent c.args.medium.now c.loop-i.i = rw e c.requires.known.table in
+    laying_end _ _ _ _ _ c.loop-i.i x c.loop-i.invariant.1

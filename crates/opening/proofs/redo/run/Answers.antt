@@ -5,7 +5,6 @@ use Prim.Native.Nat.{◌+◌, ◌≤◌}
 use native.Mathlib.Omega.{arith}
 use mathlib.Core.List.{[], ◌∷◌}
 use lib.ListN.{length}
-use borrow.Author.Tests.{not-true, not-false}
 use Rattle.fields.proofs.Choose.{no}
 use Rattle.fields.specs.Part.{part}
 use Rattle.layout.specs.Journal.{version}
@@ -49,10 +48,9 @@ loop-d-preserved-in-Skip c =
     (going_skip c.loop-d.invariant.0 w, c.loop-d.invariant.1)
 
 -- the step at a version record
-written : (c : goal.In-Written) → let k = c.loop-d in
-    let m = c.args.medium.now in
+written : (c : goal.In-Written) → let m = c.args.medium.now in
     let x = c.step-in-Written-1.given.0 in
-    Next m c.args.blocks k.c x.1.1.1.0 (record { seq = k.c.sequence; end = x.1.1.0.0; rec = version x.0 (part m x.1.0 16) } ∷ [])
+    Next m c.args.blocks c.loop-d.c x.1.1.1.0 (record { seq = c.loop-d.c.sequence; end = x.1.1.0.0; rec = version x.0 (part m x.1.0 16) } ∷ [])
     × (x.1.0 + 16 ≤ length m)
 written c =
     step_written _ _ c.requires.ready c.loop-d.c _ _ _ _ _ c.loop-d.invariant.0.valid c.next-step.ensures c.in-Written.is
@@ -61,10 +59,9 @@ pub must_apply-requires : goal.must_apply-requires
 must_apply-requires c = going_page c.loop-d.invariant.0 _ (written c).0 _ _ refl
 
 -- the step at a version record
-written_at_is_next_requires : (c : goal.Then-must_apply) → let k = c.loop-d in
-    let m = c.args.medium.now in
+written_at_is_next_requires : (c : goal.Then-must_apply) → let m = c.args.medium.now in
     let x = c.step-in-Written-1.given.0 in
-    Next m c.args.blocks k.c x.1.1.1.0 (record { seq = k.c.sequence; end = x.1.1.0.0; rec = version x.0 (part m x.1.0 16) } ∷ [])
+    Next m c.args.blocks c.loop-d.c x.1.1.1.0 (record { seq = c.loop-d.c.sequence; end = x.1.1.0.0; rec = version x.0 (part m x.1.0 16) } ∷ [])
     × (x.1.0 + 16 ≤ length m)
 written_at_is_next_requires c =
     step_written _ _ c.requires.ready c.loop-d.c _ _ _ _ _ c.loop-d.invariant.0.valid c.next-step.ensures c.in-Written.is
@@ -76,32 +73,28 @@ pub shape_of-cache-then-not-is_next : goal.shape_of-cache-then-not-is_next
 shape_of-cache-then-not-is_next c = c.loop-d.invariant.0.size ∙ sym c.requires.pages_bound.1
 
 -- the step at a version record
-written_at_returns_then_not_is_next : (c : goal.Then-not-is_next) → let k = c.loop-d in
-    let m = c.args.medium.now in
+written_at_returns_then_not_is_next : (c : goal.Then-not-is_next) → let m = c.args.medium.now in
     let x = c.step-in-Written-1.given.0 in
-    Next m c.args.blocks k.c x.1.1.1.0 (record { seq = k.c.sequence; end = x.1.1.0.0; rec = version x.0 (part m x.1.0 16) } ∷ [])
+    Next m c.args.blocks c.loop-d.c x.1.1.1.0 (record { seq = c.loop-d.c.sequence; end = x.1.1.0.0; rec = version x.0 (part m x.1.0 16) } ∷ [])
     × (x.1.0 + 16 ≤ length m)
 written_at_returns_then_not_is_next c =
     step_written _ _ c.requires.ready c.loop-d.c _ _ _ _ _ c.loop-d.invariant.0.valid c.next-step.ensures c.in-Written.is
 
 pub returns-then-not-is_next : goal.returns-then-not-is_next
 returns-then-not-is_next c =
-    let x = c.is_next in
-    let u = c.must_apply in
     let i = c.loop-d.invariant in
     record {
       value = (
-        going_stop i.0 _ (written_at_returns_then_not_is_next c).0 _ _ refl u.result u.ensures c.if-must_apply.true x.result x.ensures (not-true x.result c.if-not-is_next.true),
+        going_stop i.0 _ (written_at_returns_then_not_is_next c).0 _ _ refl c.must_apply.result c.must_apply.ensures c.if-must_apply.true c.is_next.result c.is_next.ensures (c.if-not-is_next.true),
         no,
       );
       by_index = i.1;
     }
 
 -- the step at a version record
-written_at_overflow_add_a : (c : goal.After-apply-arg-1) → let k = c.loop-d in
-    let m = c.args.medium.now in
+written_at_overflow_add_a : (c : goal.After-apply-arg-1) → let m = c.args.medium.now in
     let x = c.step-in-Written-1.given.0 in
-    Next m c.args.blocks k.c x.1.1.1.0 (record { seq = k.c.sequence; end = x.1.1.0.0; rec = version x.0 (part m x.1.0 16) } ∷ [])
+    Next m c.args.blocks c.loop-d.c x.1.1.1.0 (record { seq = c.loop-d.c.sequence; end = x.1.1.0.0; rec = version x.0 (part m x.1.0 16) } ∷ [])
     × (x.1.0 + 16 ≤ length m)
 written_at_overflow_add_a c =
     step_written _ _ c.requires.ready c.loop-d.c _ _ _ _ _ c.loop-d.invariant.0.valid c.next-step.ensures c.in-Written.is
@@ -116,10 +109,9 @@ pub slice_bounds-apply-end : goal.slice_bounds-apply-end
 slice_bounds-apply-end c = omega (arith, (written_at_overflow_add_a c).1)
 
 -- the step at a version record
-written_at_apply_requires : (c : goal.After-apply-arg-then-must_apply-1) → let k = c.loop-d in
-    let m = c.args.medium.now in
+written_at_apply_requires : (c : goal.After-apply-arg-then-must_apply-1) → let m = c.args.medium.now in
     let x = c.step-in-Written-1.given.0 in
-    Next m c.args.blocks k.c x.1.1.1.0 (record { seq = k.c.sequence; end = x.1.1.0.0; rec = version x.0 (part m x.1.0 16) } ∷ [])
+    Next m c.args.blocks c.loop-d.c x.1.1.1.0 (record { seq = c.loop-d.c.sequence; end = x.1.1.0.0; rec = version x.0 (part m x.1.0 16) } ∷ [])
     × (x.1.0 + 16 ≤ length m)
 written_at_apply_requires c =
     step_written _ _ c.requires.ready c.loop-d.c _ _ _ _ _ c.loop-d.invariant.0.valid c.next-step.ensures c.in-Written.is
@@ -133,10 +125,9 @@ apply-requires c =
     }
 
 -- the step at a version record
-written_at_touch_requires : (c : goal.After-struct_known-1) → let k = c.loop-d in
-    let m = c.args.medium.now in
+written_at_touch_requires : (c : goal.After-struct_known-1) → let m = c.args.medium.now in
     let x = c.step-in-Written-1.given.0 in
-    Next m c.args.blocks k.c x.1.1.1.0 (record { seq = k.c.sequence; end = x.1.1.0.0; rec = version x.0 (part m x.1.0 16) } ∷ [])
+    Next m c.args.blocks c.loop-d.c x.1.1.1.0 (record { seq = c.loop-d.c.sequence; end = x.1.1.0.0; rec = version x.0 (part m x.1.0 16) } ∷ [])
     × (x.1.0 + 16 ≤ length m)
 written_at_touch_requires c =
     step_written _ _ c.requires.ready c.loop-d.c _ _ _ _ _ c.loop-d.invariant.0.valid c.next-step.ensures c.in-Written.is
@@ -149,10 +140,9 @@ touch-requires c =
     }
 
 -- the step at a version record
-written_at_loop_d_smaller_else_not_is_next : (c : goal.After-touch) → let k = c.loop-d in
-    let m = c.args.medium.now in
+written_at_loop_d_smaller_else_not_is_next : (c : goal.After-touch) → let m = c.args.medium.now in
     let x = c.step-in-Written-1.given.0 in
-    Next m c.args.blocks k.c x.1.1.1.0 (record { seq = k.c.sequence; end = x.1.1.0.0; rec = version x.0 (part m x.1.0 16) } ∷ [])
+    Next m c.args.blocks c.loop-d.c x.1.1.1.0 (record { seq = c.loop-d.c.sequence; end = x.1.1.0.0; rec = version x.0 (part m x.1.0 16) } ∷ [])
     × (x.1.0 + 16 ≤ length m)
 written_at_loop_d_smaller_else_not_is_next c =
     step_written _ _ c.requires.ready c.loop-d.c _ _ _ _ _ c.loop-d.invariant.0.valid c.next-step.ensures c.in-Written.is
@@ -162,20 +152,17 @@ loop-d-smaller-else-not-is_next c = (written_at_loop_d_smaller_else_not_is_next 
 
 pub loop-d-preserved-else-not-is_next : goal.loop-d-preserved-else-not-is_next
 loop-d-preserved-else-not-is_next c =
-    let x = c.is_next in
-    let u = c.must_apply in
     let i = c.loop-d.invariant in
     let put = rw (lent_part _ c.in-Written.v 16) at c.apply.ensures in (
-      going_apply i.0 _ (written_at_loop_d_smaller_else_not_is_next c).0 _ _ refl u.result u.ensures c.if-must_apply.true x.result x.ensures _ _
-          (not-false x.result c.if-not-is_next.false) put (noted_first _ _ _ _ c.touch.ensures),
+      going_apply i.0 _ (written_at_loop_d_smaller_else_not_is_next c).0 _ _ refl c.must_apply.result c.must_apply.ensures c.if-must_apply.true c.is_next.result c.is_next.ensures _ _
+          (c.if-not-is_next.false) put (noted_first _ _ _ _ c.touch.ensures),
       noted_touch _ _ _ _ c.touch.ensures _ i.1,
     )
 
 -- the step at a version record
-written_at_loop_d_smaller_else_must_apply : (c : goal.Else-must_apply) → let k = c.loop-d in
-    let m = c.args.medium.now in
+written_at_loop_d_smaller_else_must_apply : (c : goal.Else-must_apply) → let m = c.args.medium.now in
     let x = c.step-in-Written-1.given.0 in
-    Next m c.args.blocks k.c x.1.1.1.0 (record { seq = k.c.sequence; end = x.1.1.0.0; rec = version x.0 (part m x.1.0 16) } ∷ [])
+    Next m c.args.blocks c.loop-d.c x.1.1.1.0 (record { seq = c.loop-d.c.sequence; end = x.1.1.0.0; rec = version x.0 (part m x.1.0 16) } ∷ [])
     × (x.1.0 + 16 ≤ length m)
 written_at_loop_d_smaller_else_must_apply c =
     step_written _ _ c.requires.ready c.loop-d.c _ _ _ _ _ c.loop-d.invariant.0.valid c.next-step.ensures c.in-Written.is

@@ -6,8 +6,7 @@ use Rattle.opening.proofs.survey.cache_ok.Goals as goal
 
 pub all_ok-requires : goal.all_ok-requires
 unfolding medium_length
-all_ok-requires c =
-    omega (arith, c.requires.ready.low, c.requires.ready.medium)
+all_ok-requires c = omega (arith, c.requires.ready.low, c.requires.ready.medium)
 
 pub returns-then-not-all_ok : goal.returns-then-not-all_ok
 returns-then-not-all_ok c =

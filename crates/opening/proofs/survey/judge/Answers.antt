@@ -73,7 +73,7 @@ abbrev start_at_cache_ok_requires : (c : goal.After-larger-last) → tie.Start
 start_at_cache_ok_requires c = c.before.before.before.before.before.before.before.before.before.before
 
 -- the pairs are known
-known : (c : goal.After-larger-last) → let a = c.args in let g = c.gather-n in Known a.medium.now a.blocks c.extent-used.result (take g.result g.new.1.1.1.0)
+known : (c : goal.After-larger-last) → let a = c.args in Known a.medium.now a.blocks c.extent-used.result (take c.gather-n.result c.gather-n.new.commits)
 known c =
     applied_known _ _ _ _ _ _ _ c.requires.applied _ _ c.extent-used.ensures c.gather-n.ensures.1
 
@@ -116,7 +116,7 @@ abbrev start_at_lay_requires : (c : goal.After-lay-arg-1) → tie.Start
 start_at_lay_requires c = c.before.before.before.before.before.before.before.before.before.before
 
 -- the pairs are known
-known_at_lay_requires : (c : goal.After-lay-arg-1) → let a = c.args in let g = c.gather-n in Known a.medium.now a.blocks c.extent-used.result (take g.result g.new.1.1.1.0)
+known_at_lay_requires : (c : goal.After-lay-arg-1) → let a = c.args in Known a.medium.now a.blocks c.extent-used.result (take c.gather-n.result c.gather-n.new.commits)
 known_at_lay_requires c =
     applied_known _ _ _ _ _ _ _ c.requires.applied _ _ c.extent-used.ensures c.gather-n.ensures.1
 

@@ -16,7 +16,7 @@ used-requires c = lent_length _ (512 * c.loop-p.p) 512 (omega arith)
 
 pub loop-p-preserved : goal.loop-p-preserved
 loop-p-preserved c =
-    let k = c.loop-p in (omega arith, omega arith, used_turn _ k.p _ _ (512 * k.p) refl k.invariant.2 c.used.ensures)
+    (omega arith, omega arith, used_turn _ c.loop-p.p _ _ (512 * c.loop-p.p) refl c.loop-p.invariant.2 c.used.ensures)
 
 pub returns : goal.returns
 returns c = let e : c.loop-p.p ≡ c.args.pages = omega arith in rw e at c.loop-p.invariant.2

@@ -14,22 +14,20 @@ take-taken-requires c = c.loop-at.invariant.1
 
 pub returns-then-letter-eq0 : goal.returns-then-letter-eq0
 returns-then-letter-eq0 c =
-    let g = c.meaning-call in
     let b = c.args.bytes.now in
     let h = c.loop-at.invariant in
     keep_other b c.loop-at.lines c.loop-at.n c.loop-at.at h.0 h.2 h.3 h.4 _ c.take-taken.result
-    g.result c.letter.result c.loop-at-test.true c.empty.ensures c.take-taken.ensures
-    g.ensures
+    c.meaning-call.result c.letter.result c.loop-at-test.true c.empty.ensures c.take-taken.ensures
+    c.meaning-call.ensures
     c.letter.ensures c.if-letter-eq0.true
 
 pub returns-then-n-ge12 : goal.returns-then-n-ge12
 returns-then-n-ge12 c =
-    let g = c.meaning-call in
     let b = c.args.bytes.now in
     let h = c.loop-at.invariant in
     keep_many b c.loop-at.lines c.loop-at.n c.loop-at.at h.0 h.2 h.3 h.4 _ c.take-taken.result
-    g.result c.letter.result c.loop-at-test.true c.empty.ensures c.take-taken.ensures
-    g.ensures
+    c.meaning-call.result c.letter.result c.loop-at-test.true c.empty.ensures c.take-taken.ensures
+    c.meaning-call.ensures
     c.letter.ensures c.if-letter-eq0.false c.if-n-ge12.true
 
 pub loop-at-smaller : goal.loop-at-smaller
@@ -39,7 +37,6 @@ loop-at-smaller c =
 
 pub loop-at-preserved : goal.loop-at-preserved
 loop-at-preserved c =
-    let g = c.meaning-call in
     let b = c.args.bytes.now in
     let h = c.loop-at.invariant in
     let s = step_on b _ c.loop-at.at c.take-taken.result c.loop-at-test.true c.take-taken.ensures in (
@@ -48,8 +45,8 @@ loop-at-preserved c =
       simp length-set h.2,
       keep_left b c.loop-at.lines c.loop-at.n c.loop-at.at h.0 h.2 h.3 h.4 _ c.if-n-ge12.false,
       keep_next b c.loop-at.lines c.loop-at.n c.loop-at.at h.0 h.2 h.3 h.4 _ c.take-taken.result
-          g.result c.letter.result c.loop-at-test.true c.empty.ensures c.take-taken.ensures
-          g.ensures c.letter.ensures c.if-letter-eq0.false c.if-n-ge12.false,
+          c.meaning-call.result c.letter.result c.loop-at-test.true c.empty.ensures c.take-taken.ensures
+          c.meaning-call.ensures c.letter.ensures c.if-letter-eq0.false c.if-n-ge12.false,
     )
 
 pub returns : goal.returns

@@ -5,7 +5,7 @@ use mathlib.Core.Bool.{true}
 use Prim.Native.Nat.{◌-◌, ◌^◌}
 use native.Mathlib.Omega.{arith}
 use lib.ListN.{length, get_or}
-use borrow.Author.Tests.{not-true, not-false, eq-eqb, ne_eqb, lt-ltb, le-ltb}
+use borrow.Author.Tests.{eq-eqb, ne_eqb, lt-ltb, le-ltb}
 use Rattle.store.specs.declared.Found.TheVariants.{At}
 use Rattle.store.specs.Places.{find_active}
 use Rattle.store.specs.State.{fits}
@@ -76,8 +76,7 @@ q2_at_returns_then_not_may_log c = sym c.find_active-f.ensures ∙ c.in-At.is
 pub returns-then-not-may_log : goal.returns-then-not-may_log
 unfolding state_of state_by
 returns-then-not-may_log c =
-    let m = c.may_log in
-    simp (q1_at_returns_then_not_may_log c, q2_at_returns_then_not_may_log c, ← c.waiting_at.ensures, ne_eqb _ _ c.if-waiting_at-eq0.false, lt-ltb (get_or c.args.words.now 4 0) (2 ^ 64 - 1) c.if-words-ge18446744073709551615.false, ← m.ensures, not-true m.result c.if-not-may_log.true)
+    simp (q1_at_returns_then_not_may_log c, q2_at_returns_then_not_may_log c, ← c.waiting_at.ensures, ne_eqb _ _ c.if-waiting_at-eq0.false, lt-ltb (get_or c.args.words.now 4 0) (2 ^ 64 - 1) c.if-words-ge18446744073709551615.false, ← c.may_log.ensures, c.if-not-may_log.true)
 
 q1_at_returns : (c : goal.Else-not-may_log) → let a = c.args in fits (state_of a.words.now a.tail.now) (length a.medium.now) (length a.cache.now) ≡ true
 q1_at_returns c = sym c.is_fit.ensures ∙ c.if-not-is_fit.false
@@ -88,5 +87,4 @@ q2_at_returns c = sym c.find_active-f.ensures ∙ c.in-At.is
 pub returns : goal.returns
 unfolding state_of state_by
 returns c =
-    let m = c.may_log in
-    simp (q1_at_returns c, q2_at_returns c, ← c.waiting_at.ensures, ne_eqb _ _ c.if-waiting_at-eq0.false, lt-ltb (get_or c.args.words.now 4 0) (2 ^ 64 - 1) c.if-words-ge18446744073709551615.false, ← m.ensures, not-false m.result c.if-not-may_log.false)
+    simp (q1_at_returns c, q2_at_returns c, ← c.waiting_at.ensures, ne_eqb _ _ c.if-waiting_at-eq0.false, lt-ltb (get_or c.args.words.now 4 0) (2 ^ 64 - 1) c.if-words-ge18446744073709551615.false, ← c.may_log.ensures, c.if-not-may_log.false)

@@ -45,5 +45,4 @@ settle-requires c =
 pub returns : goal.returns
 unfolding state_of state_by
 returns c =
-    let k = c.take_commit in
-    commit_done _ (state_of k.new.0 k.new.1.0) _ _ _ _ _ _ _ k.ensures.0 k.ensures.1 (c.settle.ensures k.new.1.0 c.end_of-end.ensures)
+    commit_done _ (state_of c.take_commit.new.words c.take_commit.new.tail) _ _ _ _ _ _ _ c.take_commit.ensures.0 c.take_commit.ensures.1 (c.settle.ensures c.take_commit.new.tail c.end_of-end.ensures)

@@ -4,7 +4,7 @@ use mathlib.Core.Bool.{true}
 use Prim.Native.Nat.{◌<◌}
 use native.Mathlib.Omega.{arith}
 use lib.ListN.{length, get_or}
-use borrow.Author.Tests.{not-true, not-false, lt-ltb, le-ltb}
+use borrow.Author.Tests.{lt-ltb, le-ltb}
 use Rattle.layout.specs.Slot.{key_form}
 use Rattle.store.specs.declared.Found.{Found}
 use Rattle.store.specs.declared.Found.TheVariants.{At}
@@ -134,8 +134,7 @@ held_is_at_returns_then_not_may_log c =
 pub returns-then-not-may_log : goal.returns-then-not-may_log
 unfolding state_of state_by
 returns-then-not-may_log c =
-    let m = c.may_log in
-    simp (q1_at_returns_then_not_may_log c, q2_at_returns_then_not_may_log c, q3_at_returns_then_not_may_log c, ← held_is_at_returns_then_not_may_log c, c.if-is_held.false, lt-ltb _ _ c.if-words.false, ← m.ensures, not-true m.result c.if-not-may_log.true)
+    simp (q1_at_returns_then_not_may_log c, q2_at_returns_then_not_may_log c, q3_at_returns_then_not_may_log c, ← held_is_at_returns_then_not_may_log c, c.if-is_held.false, lt-ltb _ _ c.if-words.false, ← c.may_log.ensures, c.if-not-may_log.true)
 
 q1_at_returns : (c : goal.After-slot_or_none) → let a = c.args in fits (state_of a.words.now a.tail.now) (length a.medium.now) (length a.cache.now) ≡ true
 q1_at_returns c = sym c.is_fit.ensures ∙ c.if-not-is_fit.false
@@ -157,5 +156,4 @@ held_is_at_returns c =
 pub returns : goal.returns
 unfolding state_of state_by
 returns c =
-    let m = c.may_log in
-    simp (q1_at_returns c, q2_at_returns c, q3_at_returns c, ← held_is_at_returns c, c.if-is_held.false, lt-ltb _ _ c.if-words.false, ← m.ensures, not-false m.result c.if-not-may_log.false, c.slot_or_none.ensures, c.find-newest.ensures)
+    simp (q1_at_returns c, q2_at_returns c, q3_at_returns c, ← held_is_at_returns c, c.if-is_held.false, lt-ltb _ _ c.if-words.false, ← c.may_log.ensures, c.if-not-may_log.false, c.slot_or_none.ensures, c.find-newest.ensures)

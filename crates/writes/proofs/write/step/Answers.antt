@@ -85,8 +85,7 @@ pub count_version-requires : goal.count_version-requires
 unfolding state_of state_by
 count_version-requires c =
     let h = in-cache_at_count_version_requires c in
-    let k = c.take_version in
-    let e = slots_taken _ (state_of k.new.0 k.new.1.0) _ _ _ k.ensures.0 in
+    let e = slots_taken _ (state_of c.take_version.new.words c.take_version.new.tail) _ _ _ c.take_version.ensures.0 in
     record {
       words_len = (search rules, search rules);
       i_bound = (active_below _ _ _ c.requires.number_value, omega (arith, e, c.requires.slot_value, h.0));
@@ -95,6 +94,5 @@ count_version-requires c =
 pub returns : goal.returns
 unfolding state_of state_by
 returns c =
-    let k = c.take_version in
-    write_done (state_of c.args.words.now c.args.tail.now) (state_of k.new.0 k.new.1.0) _ _ _ _ _ c.args.i c.args.head _ _ c.requires.slot_value k.ensures.0 k.ensures.1
+    write_done (state_of c.args.words.now c.args.tail.now) (state_of c.take_version.new.words c.take_version.new.tail) _ _ _ _ _ c.args.i c.args.head _ _ c.requires.slot_value c.take_version.ensures.0 c.take_version.ensures.1
     c.end_of-end.ensures c.put_version.ensures c.count_version.ensures
