@@ -35,11 +35,11 @@ use Rattle.conditions.proofs.CursorLaws.{block_lent, block_in, matching_low}
 
 -- ---- the answer x, found as r, where `if !r` was taken or left
 
-pub told_no : (r x : Bool) → r ≡ x → not r ≡ true → x ≡ false
-told_no r x e t = sym e ∙ not-true r t
+pub told_no : (r x : Bool) → r ≡ x → r ≡ false → x ≡ false
+told_no r x e t = sym e ∙ t
 
-pub told_yes : (r x : Bool) → r ≡ x → not r ≡ false → x ≡ true
-told_yes r x e t = sym e ∙ not-false r t
+pub told_yes : (r x : Bool) → r ≡ x → r ≡ true → x ≡ true
+told_yes r x e t = sym e ∙ t
 
 -- ---- the master: r is what was read of it
 

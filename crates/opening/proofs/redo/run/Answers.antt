@@ -49,9 +49,8 @@ loop-d-preserved-in-Skip c =
 
 -- the step at a version record
 written : (c : goal.In-Written) → let m = c.args.medium.now in
-    let x = c.step-in-Written-1.given.0 in
-    Next m c.args.blocks c.loop-d.c x.1.1.1.0 (record { seq = c.loop-d.c.sequence; end = x.1.1.0.0; rec = version x.0 (part m x.1.0 16) } ∷ [])
-    × (x.1.0 + 16 ≤ length m)
+    Next m c.args.blocks c.loop-d.c c.in-Written.d (record { seq = c.loop-d.c.sequence; end = c.in-Written.e.0; rec = version c.in-Written.h (part m c.in-Written.v 16) } ∷ [])
+    × (c.in-Written.v + 16 ≤ length m)
 written c =
     step_written _ _ c.requires.ready c.loop-d.c _ _ _ _ _ c.loop-d.invariant.0.valid c.next-step.ensures c.in-Written.is
 
@@ -60,9 +59,8 @@ must_apply-requires c = going_page c.loop-d.invariant.0 _ (written c).0 _ _ refl
 
 -- the step at a version record
 written_at_is_next_requires : (c : goal.Then-must_apply) → let m = c.args.medium.now in
-    let x = c.step-in-Written-1.given.0 in
-    Next m c.args.blocks c.loop-d.c x.1.1.1.0 (record { seq = c.loop-d.c.sequence; end = x.1.1.0.0; rec = version x.0 (part m x.1.0 16) } ∷ [])
-    × (x.1.0 + 16 ≤ length m)
+    Next m c.args.blocks c.loop-d.c c.in-Written.d (record { seq = c.loop-d.c.sequence; end = c.in-Written.e.0; rec = version c.in-Written.h (part m c.in-Written.v 16) } ∷ [])
+    × (c.in-Written.v + 16 ≤ length m)
 written_at_is_next_requires c =
     step_written _ _ c.requires.ready c.loop-d.c _ _ _ _ _ c.loop-d.invariant.0.valid c.next-step.ensures c.in-Written.is
 
@@ -74,9 +72,8 @@ shape_of-cache-then-not-is_next c = c.loop-d.invariant.0.size ∙ sym c.requires
 
 -- the step at a version record
 written_at_returns_then_not_is_next : (c : goal.Then-not-is_next) → let m = c.args.medium.now in
-    let x = c.step-in-Written-1.given.0 in
-    Next m c.args.blocks c.loop-d.c x.1.1.1.0 (record { seq = c.loop-d.c.sequence; end = x.1.1.0.0; rec = version x.0 (part m x.1.0 16) } ∷ [])
-    × (x.1.0 + 16 ≤ length m)
+    Next m c.args.blocks c.loop-d.c c.in-Written.d (record { seq = c.loop-d.c.sequence; end = c.in-Written.e.0; rec = version c.in-Written.h (part m c.in-Written.v 16) } ∷ [])
+    × (c.in-Written.v + 16 ≤ length m)
 written_at_returns_then_not_is_next c =
     step_written _ _ c.requires.ready c.loop-d.c _ _ _ _ _ c.loop-d.invariant.0.valid c.next-step.ensures c.in-Written.is
 
@@ -93,9 +90,8 @@ returns-then-not-is_next c =
 
 -- the step at a version record
 written_at_overflow_add_a : (c : goal.After-apply-arg-1) → let m = c.args.medium.now in
-    let x = c.step-in-Written-1.given.0 in
-    Next m c.args.blocks c.loop-d.c x.1.1.1.0 (record { seq = c.loop-d.c.sequence; end = x.1.1.0.0; rec = version x.0 (part m x.1.0 16) } ∷ [])
-    × (x.1.0 + 16 ≤ length m)
+    Next m c.args.blocks c.loop-d.c c.in-Written.d (record { seq = c.loop-d.c.sequence; end = c.in-Written.e.0; rec = version c.in-Written.h (part m c.in-Written.v 16) } ∷ [])
+    × (c.in-Written.v + 16 ≤ length m)
 written_at_overflow_add_a c =
     step_written _ _ c.requires.ready c.loop-d.c _ _ _ _ _ c.loop-d.invariant.0.valid c.next-step.ensures c.in-Written.is
 
@@ -110,9 +106,8 @@ slice_bounds-apply-end c = omega (arith, (written_at_overflow_add_a c).1)
 
 -- the step at a version record
 written_at_apply_requires : (c : goal.After-apply-arg-then-must_apply-1) → let m = c.args.medium.now in
-    let x = c.step-in-Written-1.given.0 in
-    Next m c.args.blocks c.loop-d.c x.1.1.1.0 (record { seq = c.loop-d.c.sequence; end = x.1.1.0.0; rec = version x.0 (part m x.1.0 16) } ∷ [])
-    × (x.1.0 + 16 ≤ length m)
+    Next m c.args.blocks c.loop-d.c c.in-Written.d (record { seq = c.loop-d.c.sequence; end = c.in-Written.e.0; rec = version c.in-Written.h (part m c.in-Written.v 16) } ∷ [])
+    × (c.in-Written.v + 16 ≤ length m)
 written_at_apply_requires c =
     step_written _ _ c.requires.ready c.loop-d.c _ _ _ _ _ c.loop-d.invariant.0.valid c.next-step.ensures c.in-Written.is
 
@@ -126,9 +121,8 @@ apply-requires c =
 
 -- the step at a version record
 written_at_touch_requires : (c : goal.After-struct_known-1) → let m = c.args.medium.now in
-    let x = c.step-in-Written-1.given.0 in
-    Next m c.args.blocks c.loop-d.c x.1.1.1.0 (record { seq = c.loop-d.c.sequence; end = x.1.1.0.0; rec = version x.0 (part m x.1.0 16) } ∷ [])
-    × (x.1.0 + 16 ≤ length m)
+    Next m c.args.blocks c.loop-d.c c.in-Written.d (record { seq = c.loop-d.c.sequence; end = c.in-Written.e.0; rec = version c.in-Written.h (part m c.in-Written.v 16) } ∷ [])
+    × (c.in-Written.v + 16 ≤ length m)
 written_at_touch_requires c =
     step_written _ _ c.requires.ready c.loop-d.c _ _ _ _ _ c.loop-d.invariant.0.valid c.next-step.ensures c.in-Written.is
 
@@ -141,9 +135,8 @@ touch-requires c =
 
 -- the step at a version record
 written_at_loop_d_smaller_else_not_is_next : (c : goal.After-touch) → let m = c.args.medium.now in
-    let x = c.step-in-Written-1.given.0 in
-    Next m c.args.blocks c.loop-d.c x.1.1.1.0 (record { seq = c.loop-d.c.sequence; end = x.1.1.0.0; rec = version x.0 (part m x.1.0 16) } ∷ [])
-    × (x.1.0 + 16 ≤ length m)
+    Next m c.args.blocks c.loop-d.c c.in-Written.d (record { seq = c.loop-d.c.sequence; end = c.in-Written.e.0; rec = version c.in-Written.h (part m c.in-Written.v 16) } ∷ [])
+    × (c.in-Written.v + 16 ≤ length m)
 written_at_loop_d_smaller_else_not_is_next c =
     step_written _ _ c.requires.ready c.loop-d.c _ _ _ _ _ c.loop-d.invariant.0.valid c.next-step.ensures c.in-Written.is
 
@@ -161,9 +154,8 @@ loop-d-preserved-else-not-is_next c =
 
 -- the step at a version record
 written_at_loop_d_smaller_else_must_apply : (c : goal.Else-must_apply) → let m = c.args.medium.now in
-    let x = c.step-in-Written-1.given.0 in
-    Next m c.args.blocks c.loop-d.c x.1.1.1.0 (record { seq = c.loop-d.c.sequence; end = x.1.1.0.0; rec = version x.0 (part m x.1.0 16) } ∷ [])
-    × (x.1.0 + 16 ≤ length m)
+    Next m c.args.blocks c.loop-d.c c.in-Written.d (record { seq = c.loop-d.c.sequence; end = c.in-Written.e.0; rec = version c.in-Written.h (part m c.in-Written.v 16) } ∷ [])
+    × (c.in-Written.v + 16 ≤ length m)
 written_at_loop_d_smaller_else_must_apply c =
     step_written _ _ c.requires.ready c.loop-d.c _ _ _ _ _ c.loop-d.invariant.0.valid c.next-step.ensures c.in-Written.is
 

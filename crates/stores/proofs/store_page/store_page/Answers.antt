@@ -12,6 +12,7 @@ use Rattle.store.specs.State.{fits}
 use Rattle.store.specs.StorePage.{stamped_page, store_page_if, store_page_of}
 use Rattle.memory.specs.Memory.{state_by, state_of}
 use Rattle.stores.proofs.StoreLaws.{Sizes, sizes, page_within, block_within, end_asked, page_asked, page_unchanged, page_done, page_kept, page_laid}
+use borrow.Author.Rules.{rules}
 use Rattle.stores.proofs.store_page.store_page.Goals as goal
 
 pub returns-then-not-is_fit : goal.returns-then-not-is_fit
@@ -189,6 +190,32 @@ returns-then-not-store c =
     page_kept a.words.now a.tail.now a.medium.now a.cache.now a.page c.page_block-b.result c.page_block-b.ensures
     c.store.result _ _ _ h.1 h.3 (c.store.ensures.by_index a.tail.now) c.store.ensures.page_after c.store.ensures.block_after _ n
     ∙ sym (page_unchanged (state_of a.words.now a.tail.now) _ _ _ _ _ (q1_at_returns_then_not_store c) c.if-words-page.false (q3_at_returns_then_not_store c) c.if-words-end.false (q4 c) n)
+
+-- the answers to the questions
+q1_at_forget_requires : (c : goal.After-forget-arg-1) → let a = c.args in fits (state_of a.words.now a.tail.now) (length a.medium.now) (length a.cache.now) ≡ true
+q1_at_forget_requires c = sym c.is_fit.ensures ∙ c.if-not-is_fit.false
+
+-- the sizes of a state that fits; the page lies within the cache, and its block within the medium
+fit_at_forget_requires : (c : goal.After-forget-arg-1) → let a = c.args in Sizes a.words.now a.tail.now (length a.medium.now) (length a.cache.now)
+fit_at_forget_requires c = sizes _ _ _ _ (q1_at_forget_requires c)
+
+within_at_forget_requires : (c : goal.After-forget-arg-1) → let a = c.args in (a.page < 64) × (512 * a.page + 512 ≤ length a.cache.now)
+within_at_forget_requires c = page_within _ _ _ (fit_at_forget_requires c).sized _ c.if-words-page.false
+
+both_at_forget_requires : (c : goal.After-forget-arg-1) → let a = c.args in let r = c.page_block-b.result in
+    (a.page < 64) × (512 * a.page + 512 ≤ length a.cache.now) × (r < 128) × (512 * r + 512 ≤ length a.medium.now)
+both_at_forget_requires c =
+    let w = within_at_forget_requires c in
+    let x = block_within _ _ _ (fit_at_forget_requires c).sized _ _ c.if-words-page.false c.page_block-b.ensures in
+    (w.0, w.1, x.0, x.1)
+
+pub forget-requires : goal.forget-requires
+forget-requires c =
+    let w = both_at_forget_requires c in
+    record {
+      words_len = search rules;
+      page_bound = omega arith;
+    }
 
 -- the answers to the questions
 q1_at_returns : (c : goal.After-forget) → let a = c.args in fits (state_of a.words.now a.tail.now) (length a.medium.now) (length a.cache.now) ≡ true
