@@ -16,5 +16,5 @@ unfoldable pub shown_of : Answer → ℕ → Shown
 shown_of answer byte = shown_if (answer_number answer) (result_of answer byte)
 
 -- 01: "`-` for none": the result, if there is one
-unfoldable pub result : Shown → Option ℕ
-result s = cond s.some (some s.result) none
+unfoldable pub shown_result : Shown → Option ℕ
+shown_result s = cond s.some (some s.result) none

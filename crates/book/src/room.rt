@@ -8,7 +8,7 @@ ghost use Rattle.store.specs.declared.Answer.TheVariants.{Done};
 ghost use Rattle.memory.specs.Memory.{state_of};
 ghost use Rattle.book.specs.Room.{result_of, line_text, result_text, letter_of};
 ghost use Rattle.book.specs.Play.{change_of, query_of};
-ghost use Rattle.book.specs.Show.{result, shown_of};
+ghost use Rattle.book.specs.Show.{shown_result, shown_of};
 
 use crate::call::Call;
 use script::print;
@@ -23,7 +23,7 @@ pub struct Shown {
 }
 
 fn some(res: u64) -> Shown
-    ensures* { λ r. ⌜ r ≡ record { refusal = 0; some = true; result = res } ⌝ }
+    ensures { result ≡ record { refusal = 0; some = true; result = res } }
 {
     Shown {
         refusal: 0,
@@ -33,7 +33,7 @@ fn some(res: u64) -> Shown
 }
 
 fn none(refusal: u64) -> Shown
-    ensures* { λ r. ⌜ r ≡ record { refusal = refusal; some = false; result = 0 } ⌝ }
+    ensures { result ≡ record { refusal = refusal; some = false; result = 0 } }
 {
     Shown {
         refusal: refusal,
@@ -44,7 +44,7 @@ fn none(refusal: u64) -> Shown
 
 // What an answer shows; a strip that is present shows its first byte.
 pub fn show(answer: Answer, byte: u8) -> Shown
-    ensures* { λ r. ⌜ r ≡ shown_of answer byte ⌝ }
+    ensures { result ≡ shown_of answer byte }
 {
     match answer {
         Answer::Refused(r) => none(print::number_of(r)),
@@ -63,8 +63,8 @@ pub fn show(answer: Answer, byte: u8) -> Shown
 // The result, or a dash for none.
 fn put_result(out: &mut [u8], n: usize, s: Shown) -> usize
     requires { n + 20 ≤ length out.old }
-    ensures* r_bound { λ r. ⌜ r ≤ n + 20 ⌝ }
-    ensures* out_after { λ r. ⌜ take r out.new ≡ take n out.old ++ result_text (result s) ⌝ }
+    ensures upper_bound { result ≤ n + 20 }
+    ensures out_after { take result out.new ≡ take n out.old ++ result_text (shown_result s) }
 {
     if s.some {
         return print::number(out, n, s.result);
@@ -75,8 +75,8 @@ fn put_result(out: &mut [u8], n: usize, s: Shown) -> usize
 // Puts the line of an answer behind the first n bytes of the output; answers how many there are then.
 pub fn put(out: &mut [u8], n: usize, letter: u8, answer: Answer, byte: u8) -> usize
     requires { n + 44 ≤ length out.old }
-    ensures* r_bound { λ r. ⌜ r ≤ n + 44 ⌝ }
-    ensures* out_after { λ r. ⌜ take r out.new ≡ take n out.old ++ line_text letter (answer_number answer) (result_of answer byte) ⌝ }
+    ensures upper_bound { result ≤ n + 44 }
+    ensures out_after { take result out.new ≡ take n out.old ++ line_text letter (answer_number answer) (result_of answer byte) }
 {
     let s = show(answer, byte);
     let a = print::byte(out, n, letter);
@@ -89,7 +89,7 @@ pub fn put(out: &mut [u8], n: usize, letter: u8, answer: Answer, byte: u8) -> us
 
 // The letter of a call; 0 for a line of another form.
 pub fn letter(call: Call) -> u8
-    ensures* { λ r. ⌜ r ≡ letter_of call ⌝ }
+    ensures { result ≡ letter_of call }
 {
     match call {
         Call::Begin(_) => b'B',
@@ -103,7 +103,7 @@ pub fn letter(call: Call) -> u8
 
 // A power cut, and opening again: state and cache are lost.
 fn cut(words: &mut [u64; 448], tail: &mut [u8; 512], medium: &[u8], cache: &mut [u8]) -> Answer
-    ensures* { λ r. ⌜ leaves r (state_of words.new tail.new) medium.now cache.new ≡ open_of medium.now (zeros (length cache.old)) 4 2 ⌝ }
+    ensures { leaves result (state_of words.new tail.new) medium.now cache.new ≡ open_of medium.now (zeros (length cache.old)) 4 2 }
 {
     fields::block::clear(cache);
     media::open::open(medium, cache, words, tail, 4, 2)
@@ -117,7 +117,7 @@ pub fn change(
     medium: &mut [u8],
     cache: &mut [u8],
 ) -> Answer
-    ensures* { λ r. ⌜ leaves r (state_of words.new tail.new) medium.new cache.new ≡ change_of call (state_of words.old tail.old) medium.old cache.old ⌝ }
+    ensures { leaves result (state_of words.new tail.new) medium.new cache.new ≡ change_of call (state_of words.old tail.old) medium.old cache.old }
 {
     match call {
         Call::Begin(clock) => transactions::begin::begin(words, tail, medium, cache, clock),
@@ -134,7 +134,7 @@ pub fn change(
 }
 
 fn nothing() -> Reading
-    ensures* { λ r. ⌜ r ≡ record { answer = Done; value = zeros 16 } ⌝ }
+    ensures { result ≡ record { answer = Done; value = zeros 16 } }
 {
     Reading {
         answer: Answer::Done,
@@ -150,7 +150,7 @@ pub fn query(
     medium: &[u8],
     cache: &[u8],
 ) -> Reading
-    ensures* { λ r. ⌜ reads r.answer r.value (state_of words.now tail.now) medium.now cache.now ≡ query_of call (state_of words.now tail.now) medium.now cache.now ⌝ }
+    ensures { reads result.answer result.value (state_of words.now tail.now) medium.now cache.now ≡ query_of call (state_of words.now tail.now) medium.now cache.now }
 {
     match call {
         Call::Begin(_) => nothing(),
