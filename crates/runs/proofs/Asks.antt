@@ -55,8 +55,11 @@ stops ((true, n) ∷ qs) r e = later refl (stops qs r e)
 stops ((false, n) ∷ qs) r e = let h : n ≡ r = cc in rw h (here refl)
 
 pub stopped : (qs : List (Bool × Refusal)) (r : Refusal) → Stops r qs → ask qs ≡ some r
-stopped qs r (here e) = rw e
-stopped (q ∷ qs) r (later e t) = rw e (stopped qs r t)
+stopped qs r s = go s
+  where
+    go : {qs : List (Bool × Refusal)} → Stops r qs → ask qs ≡ some r
+    go (here e) = rw e
+    go (later e t) = rw e (go t)
 
 -- what holds for each refusal, and where all are passed, holds of the outcome of the questions
 pub asked : (P : Option Refusal → Type 0) (qs : List (Bool × Refusal)) → ((r : Refusal) → ask qs ≡ some r → P (some r))

@@ -14,7 +14,7 @@ use Rattle.fields.specs.Field.{dec}
 use Rattle.fields.specs.Part.{part, splice}
 use Rattle.fields.specs.Block.{blk, put, log_block_at, page_block_at, cache_length, page_of, slot_at}
 use Rattle.layout.specs.Item.{bytes_of, head_of, value_of, of_length, version_item, by_tag, item_of}
-use Rattle.layout.specs.Journal.{Record, version, commit, Parsed, onward, parse_more, parse, used_of, body_of, parsed, record_form}
+use Rattle.layout.specs.Journal.{Record, version, commit, Parsed, onward, parse_more, parse, used_of, body_of, parsed, record_form, record_size}
 use Rattle.layout.specs.Slot.{Cell, slot_bytes, slot_key, cell_of, key_form, slot_form}
 use Rattle.layout.specs.Page.{page_slot, slot_form_at, slots_form, page_form, put_version, cache_slot}
 use Rattle.layout.specs.declared.item.Width.{Width}
@@ -166,12 +166,12 @@ records_small : (s off : ℕ) (rs : List Record) → Each RecordSized rs → old
 unfolding old_log place_from
 records_small s off [] z o = tt
 records_small s off (r ∷ rs) z o =
-    (record_small r z.0 (and_0 (old_record r) _ o), records_small s _ rs z.1 (and_1 (old_record r) _ o))
+    (record_small r z.0 (and_0 (old_record r) _ o), records_small s (off + record_size r) rs z.1 (and_1 (old_record r) _ o))
 
 placed_small : (s off : ℕ) (rs : List Record) → Each Small rs → Each (λ (x : Placed). Small x.rec) (place_from s off rs)
 unfolding place_from
 placed_small s off [] z = tt
-placed_small s off (r ∷ rs) z = (z.0, placed_small s _ rs z.1)
+placed_small s off (r ∷ rs) z = (z.0, placed_small s (off + record_size r) rs z.1)
 
 module _ (m : List ℕ) (l : ℕ) where
   -- the records of the block of sequence s are old ones

@@ -47,6 +47,8 @@ use Rattle.runs.specs.Machine.{called}
 use Rattle.store.proofs.AskLaws.{Passed}
 use Rattle.store.proofs.FitLaws.{TailFit, Fit, fit_of, fit_is}
 use Rattle.runs.proofs.Asks.{asks, Way, refused, begins, writes, erases, looks, commits, ends, aborts, logs, pages, checks, way}
+use Rattle.layout.specs.Slot.{slot_state}
+use Rattle.layout.specs.Page.{page_slot}
 
 -- ---- the tail once a record is taken
 
@@ -106,7 +108,8 @@ pub length_settle_from : (pair : ℕ → Timing) (old : List Place) (page : List
     → length (settle_from pair old page ps i k) ≡ length ps
 unfolding settle_from
 length_settle_from pair old page ps i zero = refl
-length_settle_from pair old page ps i (suc k) = length_settle_from pair old page _ (i + 1) k ∙ one (stamp_time pair _) _
+length_settle_from pair old page ps i (suc k) = length_settle_from pair old page (settle_with (stamp_time pair (slot_state (page_slot page i))) (slot_state (page_slot page i)) old ps) (i + 1) k
+    ∙ one (stamp_time pair (slot_state (page_slot page i))) (slot_state (page_slot page i))
   where
     lower : (f : Found) → length (lower_at f ps) ≡ length ps
     lower (At j) = length-set ps j _

@@ -26,8 +26,11 @@ opened_alone Present w o e = e
 opened_alone (Listed k) w o e = e
 
 pub one_of : {m n : List ℕ} {k : ℕ} → Stores m k n → OneStore m n
-one_of nothing = alone
-one_of {k = k} (block b e) = replaced k b e
+one_of {m = m} s = go s
+  where
+    go : {k : ℕ} {n : List ℕ} → Stores m k n → OneStore m n
+    go nothing = alone
+    go {k = k} (block b e) = replaced k b e
 
 one_store : (l d : ℕ) (w : World) (e : Event) → OneStore (medium_of w) (medium_of (step l d w e).world)
 unfolding step opens

@@ -31,9 +31,9 @@ use Rattle.store.specs.Answer.{Outcome}
 use Rattle.store.specs.Places.{first, place_at, is_free}
 use Rattle.store.specs.State.{in_range, fits}
 use Rattle.store.specs.Write.{cell_for, touched}
-use Rattle.store.specs.OpenLog.{Placed, block_of, matching, read_count, tail_after, read_tail, read_log}
-use Rattle.store.specs.OpenRedo.{pages_on, Redone, applies, redo_if, redo_record, redo_one, redo, used_in, untouched}
-use Rattle.store.specs.OpenPairs.{table_places, take_at, take_free, open_places}
+use Rattle.store.specs.OpenLog.{Placed, block_of, matching, read_count, tail_after, read_tail, read_log, commit_under}
+use Rattle.store.specs.OpenRedo.{Redone, applies, redo_if, redo_record, redo_one, redo, used_in, untouched}
+use Rattle.store.specs.OpenPairs.{table_places, take_at, take_free, open_places, live_place, time_or_zero}
 use Rattle.store.specs.OpenConditions.{Checks, holds, all_hold, each, table_checks, block_checks, sizes_are, forms_of, fields_in_form, sequences_in_range, conditions, well_formed, copied, redone}
 use Rattle.store.specs.Open.{opened_state, open_of}
 use Rattle.store.proofs.FitLaws.{InRange, TailFit, Fit, range_of, fit_is}
@@ -73,7 +73,9 @@ pub length_take_free : (m : List ℕ) (log : List Placed) (c : List ℕ) (slots 
 unfolding take_free
 length_take_free m log c slots ps [] = refl
 length_take_free m log c slots ps (n ∷ ns) =
-    length_take_free m log c slots _ ns ∙ one (first (λ i. is_free (place_at ps i).life) 64 0) _
+    let p = live_place m log c slots n (time_or_zero (commit_under log n)) in
+    length_take_free m log c slots (take_at (first (λ i. is_free (place_at ps i).life) 64 0) ps p) ns
+    ∙ one (first (λ i. is_free (place_at ps i).life) 64 0) p
   where
     one : (f : Found) (p : Place) → length (take_at f ps p) ≡ length ps
     one (At i) p = length-set ps i p
