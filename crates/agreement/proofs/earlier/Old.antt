@@ -15,7 +15,7 @@ use Rattle.fields.specs.Block.{blk, log_block_at, page_block_at, medium_length}
 use Rattle.fields.proofs.Choose.{and_0, and_1}
 use Rattle.fields.proofs.FieldLaws.{Bytes, bytes_tail}
 use Rattle.fields.proofs.CellLaws.{Each, bytes_zeros}
-use Rattle.layout.specs.Journal.{Record, parsed}
+use Rattle.layout.specs.Journal.{Record, parsed, record_size}
 use Rattle.layout.specs.Master.{oldest_on}
 use Rattle.layout.proofs.PlaceLaws.{log_block_low, log_block_high}
 use Rattle.store.specs.OpenLog.{Placed, place_from, block_of, read_count, logged_from, read_log}
@@ -57,7 +57,7 @@ old_append (x ∷ xs) ys a b = rw (and_0 (old_record x.rec) (old_log xs) a) (old
 old_placed : (s off : ℕ) (rs : List Record) → Each Short rs → old_log (place_from s off rs) ≡ true
 unfolding old_log place_from
 old_placed s off [] h = refl
-old_placed s off (r ∷ rs) h = rw h.0 (old_placed s _ rs h.1)
+old_placed s off (r ∷ rs) h = rw h.0 (old_placed s (off + record_size r) rs h.1)
 
 module _ (m : List ℕ) (l : ℕ) (some : 0 < l) (kept : Kept l m) where
   pub short_block : (s : ℕ) → Each Short (parsed (block_of m l s)).records
