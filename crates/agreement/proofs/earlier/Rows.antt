@@ -23,7 +23,7 @@ use Rattle.runs.specs.Event.{Call, Event, Observation, opening, cut, call, begin
 use Rattle.runs.specs.Book.{Book, Row, version, committed, add, commits, has_row, fall, entered, unless_refused, feed}
 use Rattle.runs.specs.OldMedia.{of_byte, old_typed}
 use Rattle.runs.proofs.EarlierReads.{Low, slot_copied, byte_low, low_within}
-use Rattle.agreement.proofs.history.Ghost.{versions_in, versions_of, LoggedVersion, no_version, as_version, at, cell, end_of_page, page_with, full, row_of, rows_in, Disk}
+use Rattle.agreement.proofs.history.Ghost.{versions_in, versions_of, LoggedVersion, no_version, as_version, cell, end_of_page, page_with, full, row_of, rows_in, Disk}
 use Rattle.agreement.proofs.history.ListLaws.{split, each_take, each_drop}
 use Rattle.agreement.proofs.history.SlotLaws.{slot_page}
 use Rattle.agreement.proofs.invariant.Invariant.{OnMedium, CacheIs}

@@ -16,7 +16,7 @@ use Rattle.store.specs.declared.Timing.TheVariants.{Untimed}
 use Rattle.store.specs.declared.Life.{Life}
 use Rattle.store.specs.declared.Life.TheVariants.{Free, Active, Committed}
 use Rattle.agreement.proofs.history.CommitLaws.{timed}
-use Rattle.agreement.proofs.history.Ghost.{at, LoggedCommit, find, timing, count}
+use Rattle.agreement.proofs.history.Ghost.{LoggedCommit, find, timing, count}
 use Rattle.agreement.proofs.history.ListLaws.{same?}
 use Rattle.agreement.proofs.invariant.Invariant.{life_num, life_time, Formed, Living, num_at, time_at}
 

@@ -15,7 +15,7 @@ use Rattle.fields.proofs.CellLaws.{Each, each_append}
 use Rattle.layout.proofs.PageLaws.{no_cell}
 use Rattle.store.specs.Write.{or_none}
 use Rattle.store.specs.OpenLog.{Placed, number_in}
-use Rattle.agreement.proofs.history.Ghost.{versions_of, commits_of, BlockSound, records, LoggedVersion, no_version, at, newest_of, LoggedCommit, find, last_of, cell, waiting_cell, Match, still, count, page_with, Disk}
+use Rattle.agreement.proofs.history.Ghost.{versions_of, commits_of, BlockSound, records, LoggedVersion, no_version, at, newest_of, LoggedCommit, find, last_of, cell, waiting_cell, Match, still, page_with, Disk}
 use Rattle.agreement.proofs.history.ListLaws.{same?}
 use Rattle.agreement.proofs.history.CommitLaws.{once_snoc, rising_snoc, rising_above, find_last}
 use Rattle.agreement.proofs.history.VersionLaws.{newest_append}

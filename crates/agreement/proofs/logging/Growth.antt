@@ -34,7 +34,7 @@ use Rattle.runs.specs.Book.{Book}
 use Rattle.runs.specs.Machine.{log_changed}
 use Rattle.agreement.proofs.logging.GrowthLaws.{tail_sequence, stored_length, stored_at, stored_more, take_size, match_more, block_used, block_end, sound_snoc, zero_size, one_size, record_high, empty_room, next_end, tail_sound, tail_length, tail_low, tail_seq, tail_used, tail_inside}
 use Rattle.agreement.proofs.history.PlacingLaws.{block_size, records_more, records_next}
-use Rattle.agreement.proofs.history.Ghost.{commits_of, size_of, Sound, BlockSound, records, at, LoggedCommit, commits_in, find, last_of, count, Disk}
+use Rattle.agreement.proofs.history.Ghost.{commits_of, size_of, Sound, BlockSound, records, LoggedCommit, commits_in, find, last_of, Disk}
 use Rattle.agreement.proofs.history.ListLaws.{same?, each_left, each_right}
 use Rattle.agreement.proofs.history.CommitLaws.{find_left, last_append}
 use Rattle.agreement.proofs.invariant.MediumFacts.{oldest_is, commits_split, fewer_stored}

@@ -23,9 +23,9 @@ use Rattle.layout.proofs.PageLaws.{form_page_bytes}
 use Rattle.layout.proofs.SlotLaws.{SlotSized, SlotHolds}
 use Rattle.layout.specs.declared.master.Found.{Found as MasterFound}
 use Rattle.store.specs.OpenLog.{Placed, place_from, block_of, read_count, log_end}
-use Rattle.store.specs.OpenConditions.{holds, each, sizes_are, forms_of, records_fit, low_after_all, records_from, fields_in_form, sequences_in_range, records_whole, ends_logged}
+use Rattle.store.specs.OpenConditions.{holds, sizes_are, forms_of, records_fit, low_after_all, records_from, fields_in_form, sequences_in_range, records_whole, ends_logged}
 use Rattle.agreement.proofs.opening.Reading.{sound_block, small_block, block_is, count_is, log_is, log_split, ends_below}
-use Rattle.agreement.proofs.history.Ghost.{versions_of, Sound, place_all, records, LoggedVersion, no_version, at, commits_in, Rising, end_of_page, page_with, Disk}
+use Rattle.agreement.proofs.history.Ghost.{versions_of, Sound, place_all, records, LoggedVersion, no_version, commits_in, Rising, end_of_page, page_with, Disk}
 use Rattle.agreement.proofs.history.ListLaws.{same?, each_take, each_drop}
 use Rattle.agreement.proofs.history.PlacingLaws.{sound_sized}
 use Rattle.agreement.proofs.history.VersionLaws.{commits_append, place_versions, near}

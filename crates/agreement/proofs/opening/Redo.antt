@@ -12,7 +12,7 @@ use lib.Dec.{eqb, ltb}
 use lib.ListN.{length, take, drop, get_or, length-append, length-drop, get_or-append, length-replicate, get_or-replicate, get_or-eq_default, replicate}
 use lib.Seq.{drop-cons, drop-append_seam, get_or-append-add}
 use borrow.Author.Tests.{lt-ltb, le-ltb, eq-eqb}
-use Rattle.fields.specs.Block.{blk, page_of, page_block_at, cache_length, medium_length}
+use Rattle.fields.specs.Block.{blk, page_of, cache_length, medium_length}
 use Rattle.layout.specs.Page.{page_end, page_used, put_version}
 use Rattle.layout.specs.Slot.{Cell}
 use Rattle.layout.specs.Journal.{Record, version, commit}

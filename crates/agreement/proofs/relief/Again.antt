@@ -1,7 +1,7 @@
 -- A call that was refused 8 is done once the log may take its record: its other questions were answered "yes" then, and are
 -- answered the same as long as the log's history and the active places are. A record is held just if its newest version's number
 -- is another that is active.
-use Prim.Native.Nat.{ℕ, ◌+◌, ◌-◌, ◌*◌, ◌^◌}
+use Prim.Native.Nat.{ℕ, ◌-◌, ◌*◌, ◌^◌}
 use native.Mathlib.Omega.{arith}
 use mathlib.Core.Path.{◌≡◌, refl, sym, ap, ◌∙◌}
 use mathlib.Core.Bool.{Bool, true, false, not, ◌&&◌, ◌||◌, and-false, or-true, false≢true}

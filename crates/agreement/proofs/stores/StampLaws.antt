@@ -37,7 +37,7 @@ use Rattle.store.specs.OpenPairs.{waits_under}
 use Rattle.store.specs.StorePage.{stamp_time, stamp_with, stamp_from, stored_pair, stamped_page, lower_at, settle_with, settle_from, settled}
 use Rattle.runs.specs.Book.{Book}
 use Rattle.agreement.proofs.invariant.MediumFacts.{match_sized}
-use Rattle.agreement.proofs.history.Ghost.{versions_of, commits_of, LoggedVersion, at, LoggedCommit, find, cell, Match, still, marked, count, end_of_page, page_with, full, Disk}
+use Rattle.agreement.proofs.history.Ghost.{versions_of, commits_of, LoggedVersion, at, LoggedCommit, find, cell, Match, still, marked, end_of_page, page_with, full, Disk}
 use Rattle.agreement.proofs.history.ListLaws.{split, same?, each_take, each_drop}
 use Rattle.agreement.proofs.history.SlotLaws.{count_at, slot_page}
 use Rattle.agreement.proofs.invariant.Invariant.{life_num, life_time, life_end, num_at, time_at, Living, Up}
