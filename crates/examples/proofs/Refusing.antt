@@ -4,13 +4,12 @@ use native.Mathlib.Omega.{arith}
 use mathlib.Core.Path.{◌≡◌, refl, sym, ap, ◌∙◌, subst}
 use mathlib.Core.Bool.{true}
 use Rattle.store.specs.State.{in_range}
-use Rattle.runs.specs.Event.{Strip}
 use Rattle.runs.specs.Machine.{World, down, up, formatted}
 use Rattle.runs.specs.Moments.{world_after}
 use Rattle.handover.specs.Calls.{hand_typed}
 use Rattle.handover.specs.Promise.{Owned, Handover}
 use Rattle.examples.specs.Compute.{Ran}
-use Rattle.examples.specs.OldBoard.{Refused, Seen, seen_by, Shows, kept, lost, Passed, passed}
+use Rattle.examples.specs.OldBoard.{Refused, Seen, seen_by, Shows, lost, Passed, passed}
 use Rattle.examples.proofs.Passes.{ran_is}
 
 -- a computed run
