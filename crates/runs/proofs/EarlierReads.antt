@@ -165,8 +165,10 @@ old_append (x ∷ xs) ys o =
 records_small : (s off : ℕ) (rs : List Record) → Each RecordSized rs → old_log (place_from s off rs) ≡ true → Each Small rs
 unfolding old_log place_from
 records_small s off [] z o = tt
-records_small s off (r ∷ rs) z o =
-    (record_small r z.0 (and_0 (old_record r) _ o), records_small s (off + record_size r) rs z.1 (and_1 (old_record r) _ o))
+records_small s off (r ∷ rs) z o = (
+  record_small r z.0 (and_0 (old_record r) _ o),
+  records_small s (off + record_size r) rs z.1 (and_1 (old_record r) _ o),
+)
 
 placed_small : (s off : ℕ) (rs : List Record) → Each Small rs → Each (λ (x : Placed). Small x.rec) (place_from s off rs)
 unfolding place_from

@@ -108,8 +108,10 @@ pub length_settle_from : (pair : ℕ → Timing) (old : List Place) (page : List
     → length (settle_from pair old page ps i k) ≡ length ps
 unfolding settle_from
 length_settle_from pair old page ps i zero = refl
-length_settle_from pair old page ps i (suc k) = length_settle_from pair old page (settle_with (stamp_time pair (slot_state (page_slot page i))) (slot_state (page_slot page i)) old ps) (i + 1) k
-    ∙ one (stamp_time pair (slot_state (page_slot page i))) (slot_state (page_slot page i))
+length_settle_from pair old page ps i (suc k) =
+    let x = slot_state (page_slot page i) in
+    let settled = settle_with (stamp_time pair x) x old ps in
+    length_settle_from pair old page settled (i + 1) k ∙ one (stamp_time pair x) x
   where
     lower : (f : Found) → length (lower_at f ps) ≡ length ps
     lower (At j) = length-set ps j _
