@@ -147,7 +147,7 @@ module _ {l d : ℕ} {m : List ℕ} {disk : Disk} (medium : OnMedium l d m disk 
     where
       go : (closed : List (List Record)) (tail : List Record) → Taking disk.oldest disk.stored closed tail → records (closed ++ (tail ∷ [])) ≡ records disk.stored
       go _ _ (none_read e) = records_empty disk.stored
-      go closed tail (last_read _ _ a e) = ap (place_all 0) (sym e)
+      go _ _ (last_read _ _ a e) = ap (place_all 0) (sym e)
 
   pub medium_taken : OnMedium l d m disk (taken disk)
   medium_taken = go closed tail how
