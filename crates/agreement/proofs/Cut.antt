@@ -1,5 +1,5 @@
--- A cut: a running store is down with the stored rows, since the medium's facts speak of the medium alone and each stored
--- commit that is waited for had a place; one that is down stays so.
+-- A cut: a running store is down with the stored rows, since the medium's facts speak of the medium alone and each
+-- stored commit that is waited for had a place; one that is down stays so.
 use Prim.Native.Nat.{ℕ, ◌≤◌, ◌<◌}
 use native.Mathlib.Omega.{arith}
 use mathlib.Core.List.{List, [], ◌∷◌, ◌++◌, map, append-nil}
@@ -15,13 +15,15 @@ use Rattle.store.specs.Places.{free_place, place_at}
 use Rattle.store.specs.Write.{or_none}
 use Rattle.store.specs.declared.State.{State}
 use Rattle.runs.specs.Book.{Book, Row, Opened, fall}
-use Rattle.agreement.proofs.history.Ghost.{versions_of, commits_of, records, LoggedVersion, versions_in, at, newest_of, LoggedCommit, commits_in, find, cell, count, page_with, rows_in, Disk}
+use Rattle.agreement.proofs.history.Ghost.{versions_of, commits_of, records, LoggedVersion, versions_in, at, newest_of}
+use Rattle.agreement.proofs.history.Ghost.{LoggedCommit, commits_in, find, cell, count, page_with, rows_in, Disk}
 use Rattle.agreement.proofs.history.ListLaws.{same?, each_left}
 use Rattle.agreement.proofs.history.CommitLaws.{rising_left, once_left}
 use Rattle.agreement.proofs.history.VersionLaws.{newest_append}
 use Rattle.agreement.proofs.history.SlotLaws.{count_take, page_with_grow}
 use Rattle.agreement.proofs.history.RowLaws.{rows_append, length_rows}
-use Rattle.agreement.proofs.invariant.MediumFacts.{sound_at, versions_split, commits_split, find_stored, version_stored, fewer_stored, waiting_slot}
+use Rattle.agreement.proofs.invariant.MediumFacts.{sound_at, versions_split, commits_split, find_stored, version_stored}
+use Rattle.agreement.proofs.invariant.MediumFacts.{fewer_stored, waiting_slot}
 use Rattle.agreement.proofs.invariant.Invariant.{life_num, num_at, time_at, Up, Down}
 
 take_at : {A : Type 0} (xs ys : List A) (n : ℕ) → length xs ≡ n → take n (xs ++ ys) ≡ xs
@@ -29,9 +31,19 @@ take_at xs ys n e = take-append-le n xs ys (omega arith) ∙ take_all n xs (omeg
 
 -- the disk with the slots of the stored versions alone
 abbrev pub fallen_disk : Disk → Disk
-fallen_disk k = record { oldest = k.oldest; next = k.next; time = k.time; stored = k.stored; cells = take (length (versions_of k.stored)) k.cells; on = k.on }
+fallen_disk k =
+    record {
+      oldest = k.oldest;
+      next = k.next;
+      time = k.time;
+      stored = k.stored;
+      cells =
+          take (length (versions_of k.stored)) k.cells;
+      on = k.on;
+    }
 
-module _ {l d : ℕ} {m c : List ℕ} {s : State} {b : Book} {disk : Disk} {closed : List (List Record)} {tail : List Record} (u : Up l d m c s b disk closed tail) where
+module _ {l d : ℕ} {m c : List ℕ} {s : State} {b : Book} {disk : Disk} {closed : List (List Record)}
+    {tail : List Record} (u : Up l d m c s b disk closed tail) where
   abbrev history : List (List Record)
   history = closed ++ (tail ∷ [])
 
@@ -63,21 +75,30 @@ module _ {l d : ℕ} {m c : List ℕ} {s : State} {b : Book} {disk : Disk} {clos
       real : 0 < n
       real = let (j, h, e, f) = waiting_slot u.medium n (waited n w) in omega (arith, (sound_at u.medium j h).low, e)
 
-      go : (i : ℕ) → i < 64 → num_at s.places i ≡ n → (time_at s.places i ≡ 0) ⊎ (time_at s.places i ≢ 0) → 0 < time_at s.places i
+      go : (i : ℕ) → i < 64 → num_at s.places i ≡ n → (time_at s.places i ≡ 0) ⊎ (time_at s.places i ≢ 0)
+          → 0 < time_at s.places i
       go i h e (inr t) = omega arith
       go i h e (inl t) =
-          absurd (omega (arith, rw e at ((u.living.each i h).unended (omega (arith, real, e)) t), ap (λ (x : LoggedCommit). x.time) (find_stored u.medium n z)))
+          absurd (omega (
+            arith,
+            rw e at ((u.living.each i h).unended (omega (arith, real, e)) t),
+            ap (λ (x : LoggedCommit). x.time) (find_stored u.medium n z),
+          ))
 
-  steady' : (i j : ℕ) → i < j → j < length (versions_of disk.stored) → (at (versions_of disk.stored) i).key ≡ (at (versions_of disk.stored) j).key
-      → 0 < (find (commits_of disk.stored) (at (versions_of disk.stored) i).num).time → 0 < (find (commits_of disk.stored) (at (versions_of disk.stored) j).num).time
-      → (find (commits_of disk.stored) (at (versions_of disk.stored) i).num).time ≤ (find (commits_of disk.stored) (at (versions_of disk.stored) j).num).time
+  steady' : (i j : ℕ) → i < j → j < length (versions_of disk.stored)
+      → (at (versions_of disk.stored) i).key ≡ (at (versions_of disk.stored) j).key
+      → 0 < (find (commits_of disk.stored) (at (versions_of disk.stored) i).num).time
+      → 0 < (find (commits_of disk.stored) (at (versions_of disk.stored) j).num).time
+      → (find (commits_of disk.stored) (at (versions_of disk.stored) i).num).time
+      ≤ (find (commits_of disk.stored) (at (versions_of disk.stored) j).num).time
   steady' i j h a e f g =
       let i' = version_stored u.medium i (omega arith) in
       let j' = version_stored u.medium j a in
       let p = find_stored u.medium (at (versions_of disk.stored) i).num f in
       let q = find_stored u.medium (at (versions_of disk.stored) j).num g in
       rw (← p, ← q, ← i', ← j')
-      (u.medium.numbers.steady i j h (omega (arith, fewer_stored u.medium)) (rw (i', j') e) (rw (i', p) f) (rw (j', q) g))
+      (u.medium.numbers.steady i j h (omega (arith, fewer_stored u.medium)) (rw (i', j') e) (rw (i', p) f)
+      (rw (j', q) g))
 
   pub cut_down : Down l d m (fall b) (fallen_disk disk)
   unfolding fall place_at
@@ -101,27 +122,44 @@ module _ {l d : ℕ} {m c : List ℕ} {s : State} {b : Book} {disk : Disk} {clos
       };
       pages = record {
         slots = record {
-          slot = λ n h. rw (← (version_stored u.medium n h)) (u.medium.pages.slots.slot n (omega (arith, fewer_stored u.medium)));
+          slot =
+              λ n h. rw (← (version_stored u.medium n h))
+              (u.medium.pages.slots.slot n (omega (arith, fewer_stored u.medium)));
           room = omega (arith, u.medium.pages.slots.room, fewer_stored u.medium);
           count = kept_length;
-          match = λ n h. rw (← (version_stored u.medium n h), here_cell n h) (u.medium.pages.slots.match n (omega (arith, fewer_stored u.medium)));
+          match =
+              λ n h. rw (← (version_stored u.medium n h), here_cell n h)
+              (u.medium.pages.slots.match n (omega (arith, fewer_stored u.medium)));
           chain = λ n h. chain' n h;
         };
         few = u.medium.pages.few;
         page = λ p h. u.medium.pages.page p h
             ∙ ap (λ (vs : List LoggedVersion). page_with vs disk.cells p (disk.on p)) (versions_split u.medium)
-            ∙ ap (λ (cs : List Cell). page_with (versions_of disk.stored ++ versions_in u.medium.log.shape.rest) cs p (disk.on p)) cells_split
-            ∙ page_with_grow (versions_of disk.stored) (versions_in u.medium.log.shape.rest) mine gone p (disk.on p) kept_length (u.medium.pages.few p).1;
-        kept = λ n h. rw (← (version_stored u.medium n h)) (u.medium.pages.kept n (omega (arith, fewer_stored u.medium)));
-        plain = λ n h. rw (← (version_stored u.medium n h), here_cell n h) (u.medium.pages.plain n (omega (arith, fewer_stored u.medium)));
+            ∙ ap (λ (cs : List Cell). page_with (versions_of disk.stored ++ versions_in u.medium.log.shape.rest) cs p
+            (disk.on p)) cells_split
+            ∙ page_with_grow (versions_of disk.stored) (versions_in u.medium.log.shape.rest) mine gone p (disk.on p)
+            kept_length (u.medium.pages.few p).1;
+        kept =
+            λ n h. rw (← (version_stored u.medium n h)) (u.medium.pages.kept n (omega (arith, fewer_stored u.medium)));
+        plain =
+            λ n h. rw (← (version_stored u.medium n h), here_cell n h)
+            (u.medium.pages.plain n (omega (arith, fewer_stored u.medium)));
       };
       table = u.medium.table;
       numbers = record {
-        below = each_left _ (records disk.stored) u.medium.log.shape.rest (rw u.medium.log.shape.split at u.medium.numbers.below);
-        early = each_left _ (commits_of disk.stored) (commits_in u.medium.log.shape.rest) (rw (commits_split u.medium) at u.medium.numbers.early);
+        below =
+            each_left _ (records disk.stored) u.medium.log.shape.rest
+            (rw u.medium.log.shape.split at u.medium.numbers.below);
+        early =
+            each_left _ (commits_of disk.stored) (commits_in u.medium.log.shape.rest)
+            (rw (commits_split u.medium) at u.medium.numbers.early);
         late = u.medium.numbers.late;
-        rising = rising_left 0 (commits_of disk.stored) (commits_in u.medium.log.shape.rest) (rw (commits_split u.medium) at u.medium.numbers.rising);
-        once = once_left (commits_of disk.stored) (commits_in u.medium.log.shape.rest) (rw (commits_split u.medium) at u.medium.numbers.once);
+        rising =
+            rising_left 0 (commits_of disk.stored) (commits_in u.medium.log.shape.rest)
+            (rw (commits_split u.medium) at u.medium.numbers.rising);
+        once =
+            once_left (commits_of disk.stored) (commits_in u.medium.log.shape.rest)
+            (rw (commits_split u.medium) at u.medium.numbers.once);
         steady = steady';
       };
     };
@@ -129,7 +167,9 @@ module _ {l d : ℕ} {m c : List ℕ} {s : State} {b : Book} {disk : Disk} {clos
         (i, h, (u.living.covered i h t (rw (e, find_stored u.medium n z) q)).0 ∙ e);
     owners = map (λ (p : Place). life_num p.life) s.places;
     size = rw length-map u.living.size;
-    owned = λ n w z. let (i, h, e, t) = home_of n w z in (i, h, get_or-map (λ (p : Place). life_num p.life) s.places i free_place ∙ e);
+    owned =
+        λ n w z. let (i, h, e, t) = home_of n w z in
+        (i, h, get_or-map (λ (p : Place). life_num p.life) s.places i free_place ∙ e);
     rows = rw (u.stored, u.rows, u.medium.log.shape.split, rows_append)
         (take_at (rows_in (records disk.stored)) _ (length (records disk.stored)) (length_rows (records disk.stored)));
     stored = u.stored;
@@ -137,13 +177,16 @@ module _ {l d : ℕ} {m c : List ℕ} {s : State} {b : Book} {disk : Disk} {clos
   }
     where
       chain' : (n : ℕ) → n < length (versions_of disk.stored)
-          → (at (versions_of disk.stored) n).earlier ≡ or_none (newest_of (versions_of disk.stored) (at (versions_of disk.stored) n).key n)
+          → (at (versions_of disk.stored) n).earlier ≡ or_none
+          (newest_of (versions_of disk.stored) (at (versions_of disk.stored) n).key n)
       chain' n h =
           sym (ap (λ (v : LoggedVersion). v.earlier) (version_stored u.medium n h))
           ∙ u.medium.pages.slots.chain n (omega (arith, fewer_stored u.medium))
           ∙ ap (λ (v : LoggedVersion). or_none (newest_of (versions_of history) v.key n)) (version_stored u.medium n h)
-          ∙ ap (λ (vs : List LoggedVersion). or_none (newest_of vs (at (versions_of disk.stored) n).key n)) (versions_split u.medium)
-          ∙ ap or_none (newest_append (versions_of disk.stored) (versions_in u.medium.log.shape.rest) (at (versions_of disk.stored) n).key n (omega arith))
+          ∙ ap (λ (vs : List LoggedVersion). or_none (newest_of vs (at (versions_of disk.stored) n).key n))
+          (versions_split u.medium)
+          ∙ ap or_none (newest_append (versions_of disk.stored) (versions_in u.medium.log.shape.rest)
+          (at (versions_of disk.stored) n).key n (omega arith))
 
 -- the book of a store that is down has nothing to lose
 pub fall_down : {l d : ℕ} {m : List ℕ} {b : Book} {disk : Disk} → Down l d m b disk → fall b ≡ b

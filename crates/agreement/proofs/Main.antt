@@ -30,12 +30,15 @@ use Rattle.store.specs.Open.{opened_state, refused_cache, open_if, open_of}
 use Rattle.store.specs.OpenLog.{last_time}
 use Rattle.store.specs.OpenConditions.{redone}
 use Rattle.store.proofs.FitLaws.{range_is}
-use Rattle.runs.specs.Event.{Call, Event, opening, cut, call, begin, write, erase, current_read, commit, abort, as_of, changes, store_log, store_page, checkpoint, are_bytes, is_record, call_typed, typed}
+use Rattle.runs.specs.Event.{Call, Event, opening, cut, call, begin, write, erase, current_read, commit, abort, as_of}
+use Rattle.runs.specs.Event.{changes, store_log, store_page, checkpoint, are_bytes, is_record, call_typed, typed}
 use Rattle.runs.specs.Book.{Book, blank, committed, add, fall, close, entered, unless_refused, feed, Fits}
-use Rattle.runs.specs.Machine.{World, up, down, medium_of, called, seen_of, after, opens, step, allowed, is_run, formatted, log_changed}
+use Rattle.runs.specs.Machine.{World, up, down, medium_of, called, seen_of, after, opens, step, allowed, is_run}
+use Rattle.runs.specs.Machine.{formatted, log_changed}
 use Rattle.runs.specs.Demand.{Agrees, Demand3}
 use Rattle.runs.proofs.EarlierReads.{bytes_of_law}
-use Rattle.runs.proofs.Asks.{is_reading, Way, refused, begins, writes, erases, looks, commits as commits_way, ends, aborts, logs, pages, checks, way}
+use Rattle.runs.proofs.Asks.{is_reading, Way, refused, begins, writes, erases, looks, commits as commits_way, ends}
+use Rattle.runs.proofs.Asks.{aborts, logs, pages, checks, way}
 use Rattle.runs.proofs.Refusals.{is_quiet, quiet_leaves, reading_leaves}
 use Rattle.agreement.proofs.history.Ghost.{Disk}
 use Rattle.agreement.proofs.invariant.Invariant.{Up, Down, Inv, running, fallen}
@@ -68,7 +71,8 @@ same_book (suc n) b = refl
 abbrev Keeps : ℕ → ℕ → List ℕ → Book → Call → Outcome → Type 0
 Keeps l d m b k o = Fits d b (call k) (seen_of l m o []) × Inv l d (after o) (feed b (call k) (seen_of l m o []))
 
-module _ {l d : ℕ} {m c : List ℕ} {s : State} {b : Book} {disk : Disk} {closed : List (List Record)} {tail : List Record} (u : Up l d m c s b disk closed tail) where
+module _ {l d : ℕ} {m c : List ℕ} {s : State} {b : Book} {disk : Disk} {closed : List (List Record)}
+    {tail : List Record} (u : Up l d m c s b disk closed tail) where
   checked : (ph : Phase) → s.phase ≡ ph → Keeps l d m b checkpoint (checkpoint_step ph s m c)
   unfolding checkpoint_step feed seen_of answer_number answer_value entered
   checked Idle e = (λ z. refl, unfold checkpoint_step in first_stored u e)
@@ -76,9 +80,12 @@ module _ {l d : ℕ} {m c : List ℕ} {s : State} {b : Book} {disk : Disk} {clos
   checked (SecondStored o t) e = (λ z. refl, unfold checkpoint_step in third_stored u o t e)
 
   kept : {x : Call} {o : Outcome} → is_reading x ≡ false → call_typed x ≡ true → Way m c s x o → Keeps l d m b x o
-  unfolding feed seen_of answer_number answer_value entered call_typed write_step commit_step store_log_if store_page_if kind_form
-  kept q t (refused x r w) =
-      (λ e. absurd (omega (arith, positive r)), rw (old_book_law (refusal_number r) b (entered b x 0 (log_changed l m m)) (positive r)) (running u))
+  unfolding feed seen_of answer_number answer_value entered call_typed write_step commit_step store_log_if
+      store_page_if kind_form
+  kept q t (refused x r w) = (
+    λ e. absurd (omega (arith, positive r)),
+    rw (old_book_law (refusal_number r) b (entered b x 0 (log_changed l m m)) (positive r)) (running u),
+  )
   kept q t (begins clock i p w) = (λ e. (not_open u, not_used u), began u clock i (ltb-true clock (2 ^ 64) t) p w)
   kept q t (writes n key i v p w) =
       let t1 = and_1 (ltb n (2 ^ 64)) _ t in
@@ -94,10 +101,12 @@ module _ {l d : ℕ} {m c : List ℕ} {s : State} {b : Book} {disk : Disk} {clos
   kept q t (looks x a v y r p n w) = absurd (false≢true (sym q ∙ r))
   kept q t (commits_way n clock i p w z) =
       let o : Outcome = commit_step s m c i n (commit_time s i clock) in
-      let h = committed_up u n clock i (ltb-true clock (2 ^ 64) (and_1 (ltb n (2 ^ 64)) (ltb clock (2 ^ 64)) t)) p w z in
+      let h = committed_up u n clock i (ltb-true clock (2 ^ 64) (and_1 (ltb n (2 ^ 64)) (ltb clock (2 ^ 64)) t)) p w
+      z in
       rw (some_row u n i w z) (
         λ e. row_time_law u n clock i w,
-        subst (λ (y : ℕ). Inv l d (after o) (add b (committed n y) (log_changed l m o.medium) (close b.opened n))) (row_time_law u n clock i w) h,
+        subst (λ (y : ℕ). Inv l d (after o) (add b (committed n y) (log_changed l m o.medium) (close b.opened n)))
+            (row_time_law u n clock i w) h,
       )
   kept q t (ends n clock i p w z) = rw (no_row u n i w z) (λ e. refl, closes u n i w)
   kept q t (aborts n i p w) = (λ e. refl, closes u n i w)
@@ -109,7 +118,8 @@ module _ {l d : ℕ} {m c : List ℕ} {s : State} {b : Book} {disk : Disk} {clos
   stays : (o : Outcome) → o.medium ≡ m → o.cache ≡ c → o.state ≡ s → Inv l d (after o) b
   stays o e f g = rw (e, f, g) (running u)
 
-  read : (x : Call) → is_reading x ≡ true → is_quiet x ≡ true → (n : ℕ) → Inv l d (after (called m c s x)) (unless_refused n b b)
+  read : (x : Call) → is_reading x ≡ true → is_quiet x ≡ true → (n : ℕ)
+      → Inv l d (after (called m c s x)) (unless_refused n b b)
   read x r q n =
       rw (same_book n b)
       (stays (called m c s x) (quiet_leaves m c s x q).medium (quiet_leaves m c s x q).cache (reading_leaves m c s x r))
@@ -119,11 +129,20 @@ module _ {l d : ℕ} {m c : List ℕ} {s : State} {b : Book} {disk : Disk} {clos
   kept_call (begin a) t = kept refl t (way m c s (begin a))
   kept_call (write n key v) t = kept refl t (way m c s (write n key v))
   kept_call (erase n key) t = kept refl t (way m c s (erase n key))
-  kept_call (current_read n key) t = (λ e. unfold called seen_of in current_answers u n key e, read (current_read n key) refl refl (seen_of l m (called m c s (current_read n key)) []).refusal)
+  kept_call (current_read n key) t = (
+    λ e. unfold called seen_of in current_answers u n key e,
+    read (current_read n key) refl refl (seen_of l m (called m c s (current_read n key)) []).refusal,
+  )
   kept_call (commit n a) t = kept refl t (way m c s (commit n a))
   kept_call (abort n) t = kept refl t (way m c s (abort n))
-  kept_call (as_of key a) t = (λ e. unfold called seen_of in as_of_answers u key a e, read (as_of key a) refl refl (seen_of l m (called m c s (as_of key a)) []).refusal)
-  kept_call (changes key t1 t2 y) t = (λ e. unfold called in lists_answer u key t1 t2 y (unfold called seen_of in e), read (changes key t1 t2 y) refl refl (seen_of l m (called m c s (changes key t1 t2 y)) []).refusal)
+  kept_call (as_of key a) t = (
+    λ e. unfold called seen_of in as_of_answers u key a e,
+    read (as_of key a) refl refl (seen_of l m (called m c s (as_of key a)) []).refusal,
+  )
+  kept_call (changes key t1 t2 y) t = (
+    λ e. unfold called in lists_answer u key t1 t2 y (unfold called seen_of in e),
+    read (changes key t1 t2 y) refl refl (seen_of l m (called m c s (changes key t1 t2 y)) []).refusal,
+  )
   kept_call store_log t = kept refl t (way m c s store_log)
   kept_call (store_page p) t = kept refl t (way m c s (store_page p))
   kept_call checkpoint t = kept refl t (way m c s checkpoint)
@@ -135,7 +154,12 @@ module _ {l d : ℕ} {m : List ℕ} {b : Book} {disk : Disk} (x : Down l d m b d
       → open_of m y l d ≡ leaves (Opened (record { 0 = last_time m l })) (opened_state m l d) m (redone m l d).cache
   unfolding open_of open_if
   open_right y e =
-      rw (range_is l d x.medium.sizes.range, eq-eqb (length m) (medium_length l d) x.medium.sizes.size, e, well_formed_law x)
+      rw (
+        range_is l d x.medium.sizes.range,
+        eq-eqb (length m) (medium_length l d) x.medium.sizes.size,
+        e,
+        well_formed_law x,
+      )
 
   open_wrong : (y : List ℕ) → eqb (length y) (cache_length d) ≡ false → open_of m y l d ≡ refuses BadCache no_state m y
   unfolding open_of open_if refused_cache refusal_number
@@ -145,7 +169,9 @@ module _ {l d : ℕ} {m : List ℕ} {b : Book} {disk : Disk} (x : Down l d m b d
   -- w is the world before, with this medium, and `old` its book, of which b is what a cut leaves
   module _ (w : World) (old : Book) (at : medium_of w ≡ m) (fell : fall old ≡ b) (inv : Inv l d w old) where
     abbrev OpenKeeps : List ℕ → Outcome → Type 0
-    OpenKeeps y o = Fits d old (opening y) (opens l d w o).seen × Inv l d (opens l d w o).world (feed old (opening y) (opens l d w o).seen)
+    OpenKeeps y o =
+        Fits d old (opening y) (opens l d w o).seen
+        × Inv l d (opens l d w o).world (feed old (opening y) (opens l d w o).seen)
 
     by_right : (y : List ℕ) → eqb (length y) (cache_length d) ≡ true
         → OpenKeeps y (leaves (Opened (record { 0 = last_time m l })) (opened_state m l d) m (redone m l d).cache)
@@ -173,7 +199,8 @@ module _ {l d : ℕ} {m : List ℕ} {b : Book} {disk : Disk} (x : Down l d m b d
       inv,
     )
 
-    pub opening_kept : (y : List ℕ) → Fits d old (opening y) (step l d w (opening y)).seen × Inv l d (step l d w (opening y)).world (feed old (opening y) (step l d w (opening y)).seen)
+    pub opening_kept : (y : List ℕ) → Fits d old (opening y) (step l d w (opening y)).seen
+        × Inv l d (step l d w (opening y)).world (feed old (opening y) (step l d w (opening y)).seen)
     unfolding step
     opening_kept y = rw at (go (eqb (length y) (cache_length d)) refl)
       where

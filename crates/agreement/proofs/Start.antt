@@ -29,7 +29,8 @@ use Rattle.store.specs.Format.{fresh_medium}
 use Rattle.store.specs.State.{in_range}
 use Rattle.runs.proofs.Lengths.{length_fresh_medium}
 use Rattle.runs.specs.Book.{blank}
-use Rattle.agreement.proofs.history.Ghost.{size_of, place_all, versions_in, commits_in, find, last_of, count, page_with, rows_in, Disk}
+use Rattle.agreement.proofs.history.Ghost.{size_of, place_all, versions_in, commits_in, find, last_of, count, page_with}
+use Rattle.agreement.proofs.history.Ghost.{rows_in, Disk}
 use Rattle.agreement.proofs.invariant.Invariant.{Down}
 
 zero_pair : pair_of (zeros 16) ≡ record { number = record { 0 = 0 }; time = record { 0 = 0 } }
@@ -62,7 +63,9 @@ module _ (l d : ℕ) (r : in_range l d ≡ true) where
 
   pub master_block : blk (fresh_medium l d) 0 ≡ master_bytes first
   unfolding blk fresh_medium
-  master_block = take-append-le 512 (master_bytes first) _ (omega (arith, length_master_bytes first)) ∙ take_all 512 (master_bytes first) (omega (arith, length_master_bytes first))
+  master_block =
+      take-append-le 512 (master_bytes first) _ (omega (arith, length_master_bytes first))
+      ∙ take_all 512 (master_bytes first) (omega (arith, length_master_bytes first))
 
   -- every other block is zeros
   pub rest_zeros : (k : ℕ) → 0 < k → k < 3 + l + d → blk (fresh_medium l d) k ≡ zeros 512
@@ -73,11 +76,13 @@ module _ (l d : ℕ) (r : in_range l d ≡ true) where
       ∙ part_behind (master_bytes first) (zeros (512 * (2 + l + d))) (512 * k - 512) 512
       ∙ part_zeros (512 * (2 + l + d)) (512 * k - 512) 512 (omega arith)
 
-  no_pair : (i : ℕ) → i < 64 → table_pair (fresh_medium l d) i ≡ record { number = record { 0 = 0 }; time = record { 0 = 0 } }
+  no_pair : (i : ℕ) → i < 64 → table_pair (fresh_medium l d) i
+      ≡ record { number = record { 0 = 0 }; time = record { 0 = 0 } }
   unfolding block_pair
   no_pair i h =
       table_pair_is (fresh_medium l d) i
-      ∙ ap (λ (x : List ℕ). pair_of (part x (16 * (i % 32)) 16)) (rest_zeros (1 + i / 32) (omega arith) (omega (arith, range.blocks_low)))
+      ∙ ap (λ (x : List ℕ). pair_of (part x (16 * (i % 32)) 16))
+      (rest_zeros (1 + i / 32) (omega arith) (omega (arith, range.blocks_low)))
       ∙ ap pair_of (part_zeros 512 (16 * (i % 32)) 16 (omega arith))
       ∙ zero_pair
 
@@ -130,7 +135,16 @@ module _ (l d : ℕ) (r : in_range l d ≡ true) where
         vacant = λ i h z. ap (λ (p : Pair). p.time.0) (no_pair i h);
         apart = λ i j h g z. absurd (omega (arith, ap (λ (p : Pair). p.number.0) (no_pair i h)));
       };
-      numbers = record { below = tt; early = tt; late = omega arith; rising = tt; once = tt; steady = λ i j h g. absurd (omega arith) };
+      numbers =
+          record {
+            below = tt;
+            early = tt;
+            late = omega arith;
+            rising = tt;
+            once = tt;
+            steady =
+                λ i j h g. absurd (omega arith);
+          };
     };
     covered = λ n h. absurd (omega arith);
     owners = zeros 64;
@@ -142,4 +156,5 @@ module _ (l d : ℕ) (r : in_range l d ≡ true) where
   }
     where
       page_zeros : (p : ℕ) → p < d → blk (fresh_medium l d) (page_block_at l p) ≡ page_bytes 0 []
-      page_zeros p a = rest_zeros (page_block_at l p) (omega (arith, page_block_low l p)) (page_block_high l d p a) ∙ sym page_empty
+      page_zeros p a =
+          rest_zeros (page_block_at l p) (omega (arith, page_block_low l p)) (page_block_high l d p a) ∙ sym page_empty

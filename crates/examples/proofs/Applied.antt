@@ -28,11 +28,15 @@ run : Run 5 3 (closed_up.before ++ (closed_up.last ∷ []))
 unfolding in_range
 run = record {
   range = refl;
-  run = ap (λ (x : Computed). x.run) (sym (computed_is 5 3 closed_up.before closed_up.last)) ∙ ap (λ (x : Ready). x.run) passed;
+  run =
+      ap (λ (x : Computed). x.run) (sym (computed_is 5 3 closed_up.before closed_up.last))
+      ∙ ap (λ (x : Ready). x.run) passed;
 }
 
 book : book_at 5 3 closed_up.before ≡ closed_up.book
-book = ap (λ (x : Computed). x.book) (sym (computed_is 5 3 closed_up.before closed_up.last)) ∙ ap (λ (x : Ready). x.book) passed
+book =
+    ap (λ (x : Computed). x.book) (sym (computed_is 5 3 closed_up.before closed_up.last))
+    ∙ ap (λ (x : Ready). x.book) passed
 
 abbrev seen : Observation
 seen = seen_at 5 3 closed_up.before closed_up.last

@@ -21,7 +21,9 @@ passed_is : (l d : ℕ) (es : List Event) (k : Call) (calls : List Event)
       full = (step l d (world_after l d (formatted l d) es) (call k)).seen.refusal;
       tail = tail_in (world_after l d (formatted l d) (es ++ (call k ∷ [])));
       list = relief l d (world_after l d (formatted l d) (es ++ (call k ∷ [])));
-      then = (step l d (world_after l d (world_after l d (formatted l d) (es ++ (call k ∷ []))) calls) (call k)).seen.refusal;
+      then =
+          (step l d (world_after l d (world_after l d (formatted l d) (es ++ (call k ∷ []))) calls)
+          (call k)).seen.refusal;
     }
 unfolding passed
 passed_is l d es k calls =
@@ -32,11 +34,16 @@ passed_is l d es k calls =
       list = relief l d (step l d r.world (call k)).world;
       then = (step l d (ran_from l d (step l d r.world (call k)).world blank calls).world (call k)).seen.refusal;
     }) (ran_is l d es)
-    ∙ rw (sym (run_behind l d (formatted l d) es (call k)), sym (world_behind l d (formatted l d) es (call k)), ran_from_law l d (world_after l d (formatted l d) (es ++ (call k ∷ []))) blank calls)
+    ∙ rw (
+      sym (run_behind l d (formatted l d) es (call k)),
+      sym (world_behind l d (formatted l d) es (call k)),
+      ran_from_law l d (world_after l d (formatted l d) (es ++ (call k ∷ []))) blank calls,
+    )
 
 -- a computed run
 pub shows : (c : Filled) (tail again : ℕ) → in_range c.blocks c.pages ≡ true → tail < 2 ^ 48 - 1
-    → passed c.blocks c.pages c.before c.refused c.calls ≡ record { run = true; full = 8; tail = tail; list = c.calls; then = again }
+    → passed c.blocks c.pages c.before c.refused c.calls
+    ≡ record { run = true; full = 8; tail = tail; list = c.calls; then = again }
     → Shows c again
 shows c tail again h t e =
     let q = sym (passed_is c.blocks c.pages c.before c.refused c.calls) ∙ e in
@@ -50,13 +57,18 @@ shows c tail again h t e =
 
 pub tells : (c : Filled) (es : List Event) → told c.blocks c.pages (c.before ++ (call c.refused ∷ [])) ≡ es → Told c es
 unfolding told
-tells c es e = sym (ap (λ (r : Ran). asking c.blocks c.pages (1 + c.pages + 5) r.world) (ran_is c.blocks c.pages (c.before ++ (call c.refused ∷ [])))) ∙ e
+tells c es e =
+    sym (ap (λ (r : Ran). asking c.blocks c.pages (1 + c.pages + 5) r.world)
+    (ran_is c.blocks c.pages (c.before ++ (call c.refused ∷ [])))) ∙ e
 
 -- definitions that refuse the call 8 again do not meet the claim
 pub refuted : (c : Filled) → Shows c 8 → OutOfFull → ⊥
 unfolding OutOfFull
 refuted c s o =
-    let f = o c.blocks c.pages c.before c.refused (left_by c) (record { run = s.run; full = s.full; leaves = refl; below = s.below }) in
-    let z : (step c.blocks c.pages (world_after c.blocks c.pages (left_by c) c.calls) (call c.refused)).seen.refusal ≡ 0 =
-    subst (λ (es : List Event). (step c.blocks c.pages (world_after c.blocks c.pages (left_by c) es) (call c.refused)).seen.refusal ≡ 0) s.list f.again in
+    let f = o c.blocks c.pages c.before c.refused (left_by c)
+    (record { run = s.run; full = s.full; leaves = refl; below = s.below }) in
+    let z : (step c.blocks c.pages (world_after c.blocks c.pages (left_by c) c.calls) (call c.refused)).seen.refusal
+    ≡ 0 =
+    subst (λ (es : List Event). (step c.blocks c.pages (world_after c.blocks c.pages (left_by c) es)
+    (call c.refused)).seen.refusal ≡ 0) s.list f.again in
     omega (arith, s.then)

@@ -1,5 +1,6 @@
--- The runs with a full log, computed by the definitions: the calls out of it are those listed, the call that was refused 8 is
--- done after them, and asking gives them, but for one more where the checkpoint under way has made the tail the oldest block.
+-- The runs with a full log, computed by the definitions: the calls out of it are those listed, the call that was
+-- refused 8 is done after them, and asking gives them, but for one more where the checkpoint under way has made the
+-- tail the oldest block.
 use native.Mathlib.Omega.{arith}
 use mathlib.Core.Path.{refl}
 use mathlib.Core.List.{[], ◌∷◌}

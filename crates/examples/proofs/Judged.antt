@@ -1,5 +1,5 @@
--- Of each case, the book takes what our definitions give and not what those with the shortcut give: by the rows that the
--- case writes out.
+-- Of each case, the book takes what our definitions give and not what those with the shortcut give: by the rows that
+-- the case writes out.
 use Prim.Native.Nat.{ℕ, ◌+◌}
 use native.Mathlib.Omega.{arith}
 use mathlib.Core.Path.{◌≡◌, refl, sym, ap}
@@ -7,7 +7,8 @@ use mathlib.Core.Bool.{cond, false≢true}
 use mathlib.Core.List.{List, [], ◌∷◌}
 use Rattle.runs.specs.Event.{Sight}
 use Rattle.runs.specs.Book.{versions, time_of, last_time, has_row, is_open, fall, sight, sights, is_some}
-use Rattle.examples.specs.Spoiling.{Judged, stamped_early, closed_up, dropped_early, numbers_again, nothing_logged, logged_short}
+use Rattle.examples.specs.Spoiling.{Judged, stamped_early, closed_up, dropped_early, numbers_again, nothing_logged}
+use Rattle.examples.specs.Spoiling.{logged_short}
 
 -- how many slots have no time
 abbrev untimed : List Sight → ℕ

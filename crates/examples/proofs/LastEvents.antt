@@ -20,7 +20,8 @@ last_agrees l d w b [] e a = a.0
 last_agrees l d w b (x ∷ es) e a =
     last_agrees l d (step l d w x).world (feed b x (step l d w x).seen) es e a.1
 
-pub last_fits : Demand3 → (l d : ℕ) (es : List Event) (e : Event) → Run l d (es ++ (e ∷ [])) → Fits d (book_at l d es) e (seen_at l d es e)
+pub last_fits : Demand3 → (l d : ℕ) (es : List Event) (e : Event) → Run l d (es ++ (e ∷ []))
+    → Fits d (book_at l d es) e (seen_at l d es e)
 unfolding Demand3
 last_fits t l d es e r = last_agrees l d (formatted l d) blank es e (t l d r.range (es ++ (e ∷ [])) r.run)
 

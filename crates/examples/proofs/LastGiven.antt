@@ -1,5 +1,5 @@
--- By 01's question one run answers the same read twice, and differently; by that of #102, with the log stored before the
--- first, alike. Both are computed.
+-- By 01's question one run answers the same read twice, and differently; by that of #102, with the log stored before
+-- the first, alike. Both are computed.
 use mathlib.Core.Path.{refl}
 use Rattle.examples.specs.Compute.{ran}
 use Rattle.examples.specs.Table.{Right}

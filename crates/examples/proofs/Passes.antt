@@ -18,7 +18,13 @@ unfolding ran_from world_after book_after trace is_run
 ran_from_law l d w b [] = refl
 ran_from_law l d w b (e ∷ es) =
     let x = step l d w e in
-    ap (λ (r : Ran). record { world = r.world; book = r.book; seen = x.seen ∷ r.seen; run = typed e && (allowed l d w e && r.run) })
+    ap (λ (r : Ran). record {
+      world = r.world;
+      book = r.book;
+      seen = x.seen ∷ r.seen;
+      run =
+          typed e && (allowed l d w e && r.run);
+    })
     (ran_from_law l d x.world (feed b e x.seen) es)
 
 pub ran_is : (l d : ℕ) (es : List Event) → ran l d es ≡ said l d (formatted l d) blank es
@@ -35,14 +41,26 @@ run_behind l d w (x ∷ es) e =
     ap (λ (a : Bool). typed x && (allowed l d w x && a)) (run_behind l d (step l d w x).world es e)
     ∙ sym (simp (and_assoc, and_assoc))
 
-pub world_behind : (l d : ℕ) (w : World) (es : List Event) (e : Event) → world_after l d w (es ++ (e ∷ [])) ≡ (step l d (world_after l d w es) e).world
+pub world_behind : (l d : ℕ) (w : World) (es : List Event) (e : Event)
+    → world_after l d w (es ++ (e ∷ [])) ≡ (step l d (world_after l d w es) e).world
 unfolding world_after
 world_behind l d w [] e = refl
 world_behind l d w (x ∷ es) e = world_behind l d (step l d w x).world es e
 
 pub computed_is : (l d : ℕ) (es : List Event) (e : Event)
-    → computed l d es e ≡ record { run = is_run l d (formatted l d) (es ++ (e ∷ [])); book = book_at l d es; seen = seen_at l d es e }
+    → computed l d es e ≡ record {
+      run = is_run l d (formatted l d) (es ++ (e ∷ []));
+      book = book_at l d es;
+      seen =
+          seen_at l d es e;
+    }
 unfolding computed
 computed_is l d es e =
-    ap (λ (r : Ran). record { run = r.run && (typed e && allowed l d r.world e); book = r.book; seen = (step l d r.world e).seen }) (ran_is l d es)
-    ∙ ap (λ (a : Bool). record { run = a; book = book_at l d es; seen = seen_at l d es e }) (sym (run_behind l d (formatted l d) es e))
+    ap (λ (r : Ran). record {
+      run = r.run && (typed e && allowed l d r.world e);
+      book = r.book;
+      seen =
+          (step l d r.world e).seen;
+    }) (ran_is l d es)
+    ∙ ap (λ (a : Bool). record { run = a; book = book_at l d es; seen = seen_at l d es e })
+    (sym (run_behind l d (formatted l d) es e))

@@ -17,14 +17,16 @@ told_by : (c : Repeat) → Shows c c.right → c.right.first.refusal ≡ 10 → 
 told_by c s r u = record {
   shows = s;
   never = λ t.
-      let e : c.right.first.refusal ≡ c.wrong.first.refusal = ap (λ (o : Observation). o.refusal) (sym s.first ∙ t.first) in
+      let e : c.right.first.refusal ≡ c.wrong.first.refusal =
+      ap (λ (o : Observation). o.refusal) (sym s.first ∙ t.first) in
       omega (arith, u.answered);
   unlike = u;
 }
 
 read_unstored_told : Told read_unstored
 unfolding computed in_range
-read_unstored_told = told_by read_unstored (shows read_unstored read_unstored.right refl refl refl) refl read_unstored_unlike
+read_unstored_told =
+    told_by read_unstored (shows read_unstored read_unstored.right refl refl refl) refl read_unstored_unlike
 
 read_lost_told : Told read_lost
 unfolding computed in_range

@@ -3,7 +3,7 @@ use Prim.Native.Nat.{ℕ}
 use native.Mathlib.Omega.{arith}
 use mathlib.Core.Path.{◌≡◌, refl, sym, ap, ◌∙◌}
 use mathlib.Core.Bool.{Bool, true}
-use mathlib.Core.List.{[], ◌∷◌, ◌++◌}
+use mathlib.Core.List.{◌∷◌, ◌++◌}
 use lib.ListN.{get_or}
 use Rattle.store.specs.State.{in_range}
 use Rattle.runs.specs.Event.{Strip, missing, erased, present, Observation}
@@ -24,7 +24,8 @@ given x = record { run = x.run; seen = x.seen }
 -- a computed run
 pub shows : (c : Repeat) (o : Both) → in_range c.blocks c.pages ≡ true
     → (computed c.blocks c.pages c.before (read c)).seen ≡ o.first
-    → given (computed c.blocks c.pages (c.before ++ (read c ∷ c.between)) (read c)) ≡ record { run = true; seen = o.later }
+    → given (computed c.blocks c.pages (c.before ++ (read c ∷ c.between)) (read c))
+    ≡ record { run = true; seen = o.later }
     → Shows c o
 shows c o h e f =
     let k = sym (ap given (computed_is c.blocks c.pages (c.before ++ (read c ∷ c.between)) (read c))) ∙ f in
@@ -50,7 +51,8 @@ first_byte erased = 0
 first_byte (present v) = get_or v 0 0
 
 pub read_unstored_unlike : Unlike read_unstored.wrong
-read_unstored_unlike = record { answered = refl; other = λ e. let z : ◌≡◌ {A = ℕ} 66 65 = ap first_byte e in omega arith }
+read_unstored_unlike =
+    record { answered = refl; other = λ e. let z : ◌≡◌ {A = ℕ} 66 65 = ap first_byte e in omega arith }
 
 pub read_lost_unlike : Unlike read_lost.wrong
 read_lost_unlike = record { answered = refl; other = λ e. let z : ◌≡◌ {A = ℕ} 66 0 = ap first_byte e in omega arith }

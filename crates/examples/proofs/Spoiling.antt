@@ -3,8 +3,10 @@ use mathlib.Core.Path.{refl}
 use mathlib.Core.List.{List, [], ◌∷◌}
 use Rattle.store.specs.State.{in_range}
 use Rattle.examples.specs.Compute.{computed}
-use Rattle.examples.specs.Spoiling.{Case, Caught, cases, stamped_early, closed_up, dropped_early, numbers_again, nothing_logged, logged_short}
-use Rattle.examples.proofs.Judged.{stamped_early_judged, closed_up_judged, dropped_early_judged, numbers_again_judged, nothing_logged_judged, logged_short_judged}
+use Rattle.examples.specs.Spoiling.{Case, Caught, cases, stamped_early, closed_up, dropped_early, numbers_again}
+use Rattle.examples.specs.Spoiling.{nothing_logged, logged_short}
+use Rattle.examples.proofs.Judged.{stamped_early_judged, closed_up_judged, dropped_early_judged, numbers_again_judged}
+use Rattle.examples.proofs.Judged.{nothing_logged_judged, logged_short_judged}
 use Rattle.examples.proofs.LastEvents.{shows, caught}
 
 abbrev Each : List Case → Type 0
@@ -29,7 +31,8 @@ numbers_again_caught = caught numbers_again numbers_again_judged (shows numbers_
 
 nothing_logged_caught : Caught nothing_logged
 unfolding computed in_range
-nothing_logged_caught = caught nothing_logged nothing_logged_judged (shows nothing_logged nothing_logged.right refl refl)
+nothing_logged_caught =
+    caught nothing_logged nothing_logged_judged (shows nothing_logged nothing_logged.right refl refl)
 
 logged_short_caught : Caught logged_short
 unfolding computed in_range

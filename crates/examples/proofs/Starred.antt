@@ -4,7 +4,9 @@ use mathlib.Core.Path.{◌≡◌, refl, sym, ap, ◌∙◌}
 use mathlib.Core.List.{List, [], ◌∷◌, map}
 use Rattle.runs.specs.Event.{Event}
 use Rattle.examples.specs.Compute.{Ran, ran}
-use Rattle.examples.specs.Table.{Outcome, shown, tail_of, outcome_of, Row, Right, table, fresh, clocks, last_time, twice, slots_used, fourteen, commit_fits, two_bytes, no_record, log_full, erased_first, given_again, listing}
+use Rattle.examples.specs.Table.{Outcome, shown, tail_of, outcome_of, Row, Right, table, fresh, clocks, last_time}
+use Rattle.examples.specs.Table.{twice, slots_used, fourteen, commit_fits, two_bytes, no_record, log_full, erased_first}
+use Rattle.examples.specs.Table.{given_again, listing}
 use Rattle.examples.proofs.Passes.{ran_is}
 
 -- the outcome by one pass
@@ -14,7 +16,9 @@ passed l d es = let r = ran l d es in record { answers = map shown r.seen; tail 
 
 pub by_pass : (r : Row) → passed r.blocks r.pages r.script ≡ record { answers = r.answers; tail = r.tail } → Right r
 unfolding Right passed outcome_of
-by_pass r e = sym (ap (λ (x : Ran). record { answers = map shown x.seen; tail = tail_of x.world }) (ran_is r.blocks r.pages r.script)) ∙ e
+by_pass r e =
+    sym (ap (λ (x : Ran). record { answers = map shown x.seen; tail = tail_of x.world })
+    (ran_is r.blocks r.pages r.script)) ∙ e
 
 abbrev Each : List Row → Type 0
 Each [] = Unit {0}

@@ -1,7 +1,8 @@
 -- One run in which every call is made and accepted and every kind of answer comes: demand 3 says something of each.
 use Rattle.std.specs.Prelude.{ℕ, ◌≡◌, Bool, true, ◌&&◌, List, [], ◌∷◌, ◌++◌, map, replicate, eqb}
 use Rattle.std.proofs.Math.Option.{some}
-use Rattle.runs.specs.Event.{Event, cut, call, begin, write, erase, current_read, commit, abort, as_of, changes, store_log, store_page, checkpoint, missing, erased, present, Observation}
+use Rattle.runs.specs.Event.{Event, cut, call, begin, write, erase, current_read, commit, abort, as_of, changes}
+use Rattle.runs.specs.Event.{store_log, store_page, checkpoint, missing, erased, present, Observation}
 use Rattle.runs.specs.Moments.{Run, trace_at}
 use Rattle.examples.specs.Words.{bytes, opened, answers, stores, reads, lists, finds, at, waits}
 
@@ -17,8 +18,8 @@ line e o = record { event = e; seen = o }
 abbrev field : ℕ → List ℕ
 field n = n ∷ replicate 7 0
 
--- 01: "time 8, kind 1, zeros 7, value 16": record 7 has a value from time 10 on, and is erased at 11; a byte of the buffer
--- stays behind the two lines
+-- 01: "time 8, kind 1, zeros 7, value 16": record 7 has a value from time 10 on, and is erased at 11; a byte of the
+-- buffer stays behind the two lines
 abbrev changed : List ℕ
 changed = (field 10 ++ (field 0 ++ bytes 65)) ++ ((field 11 ++ (field 1 ++ bytes 0)) ++ (255 ∷ []))
 
@@ -54,7 +55,8 @@ lines =
     ∷ line (call store_log) (stores 0)
     ∷ line cut (answers 0)
     -- a value and an erasure with their times, and a version that has none
-    ∷ line (opened 1) (finds 11 (at 10 7 65 ∷ record { key = 7; kind = 1; value = bytes 0; time = some 11 } ∷ waits 8 66 ∷ []))
+    ∷ line (opened 1)
+    (finds 11 (at 10 7 65 ∷ record { key = 7; kind = 1; value = bytes 0; time = some 11 } ∷ waits 8 66 ∷ []))
     ∷ []
 
 abbrev pub events : List Event

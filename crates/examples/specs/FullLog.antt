@@ -1,5 +1,5 @@
--- Runs whose log is full: the calls that free it, what asking gives, and how the call that was refused 8 is then answered.
--- `.ci/mutants` has stores in which it is refused 8 again, as edits of the definitions.
+-- Runs whose log is full: the calls that free it, what asking gives, and how the call that was refused 8 is then
+-- answered. `.ci/mutants` has stores in which it is refused 8 again, as edits of the definitions.
 use Rattle.std.specs.Prelude.{ℕ, ◌+◌, ◌-◌, ◌^◌, ◌<◌, ◌≡◌, Bool, ◌&&◌, List, [], ◌∷◌, ◌++◌}
 use Rattle.store.specs.Relief.{page_left, checkpoint_left, relief_of}
 use Rattle.runs.specs.Event.{Call, Event, call, begin, write, store_log, store_page, checkpoint, typed}
@@ -28,7 +28,8 @@ pub record Shows (c : Filled) (again : ℕ) : Type 0 where
   pub full : (seen_at c.blocks c.pages c.before (call c.refused)).refusal ≡ 8
   pub below : tail_in (left_by c) < 2 ^ 48 - 1
   pub list : relief c.blocks c.pages (left_by c) ≡ c.calls
-  pub then : (step c.blocks c.pages (world_after c.blocks c.pages (left_by c) c.calls) (call c.refused)).seen.refusal ≡ again
+  pub then : (step c.blocks c.pages (world_after c.blocks c.pages (left_by c) c.calls) (call c.refused)).seen.refusal
+      ≡ again
 
 -- whoever asks behind them is told these calls
 abbrev pub Told : Filled → List Event → Type 0
@@ -51,7 +52,9 @@ abbrev pub under_way : Filled
 under_way = record {
   blocks = 2;
   pages = 3;
-  before = opened 3 ∷ call (begin 0) ∷ (writes 28 ++ (call store_log ∷ call (store_page 0) ∷ call (store_page 1) ∷ call checkpoint ∷ []));
+  before =
+      opened 3 ∷ call (begin 0) ∷ (writes 28
+      ++ (call store_log ∷ call (store_page 0) ∷ call (store_page 1) ∷ call checkpoint ∷ []));
   refused = write 1 7 (bytes 65);
   calls = call checkpoint ∷ call checkpoint ∷ one_more;
 }

@@ -4,7 +4,8 @@ use Rattle.runs.specs.Event.{Event, call, begin, write, commit, as_of, store_log
 use Rattle.runs.specs.Machine.{World, down, up, step, formatted}
 use Rattle.runs.specs.Moments.{world_after}
 use Rattle.handover.specs.declared.Transfer.{Transfer}
-use Rattle.handover.specs.Hand.{hand_number, hand_value, may_hand, after_commit, after_write, after_check, after_read, after_begin, hand_of}
+use Rattle.handover.specs.Hand.{hand_number, hand_value, may_hand, after_commit, after_write, after_check, after_read}
+use Rattle.handover.specs.Hand.{after_begin, hand_of}
 use Rattle.handover.specs.Promise.{look}
 use Rattle.examples.specs.Words.{opened}
 use Rattle.examples.specs.Compute.{ran_from}
@@ -34,7 +35,8 @@ hands (up m c s) (h ∷ hs) said =
     hands (up o.medium o.cache o.state) hs (record { number = hand_number o.answer; time = hand_value o.answer } ∷ said)
 
 unfoldable pub hands_after : List Event → List Transfer → Seen
-unfolding ran_from world_after look strip7 hands hand_number hand_value may_hand after_commit after_write after_check after_read after_begin hand_of
+unfolding ran_from world_after look strip7 hands hand_number hand_value may_hand after_commit after_write after_check
+    after_read after_begin hand_of
 hands_after es hs = hands (world_after 2 1 (formatted 2 1) es) hs []
 
 -- a strip with this owner
@@ -58,8 +60,9 @@ hand f a b = record { flight = f; from = a; to = b; began = 0; ended = 0 }
 abbrev says : ℕ → ℕ → Said
 says n t = record { number = n; time = t }
 
--- 02, #101: "17, is the strip present, a its owner, and neither a nor b 0?": another owner; b 0; a 0; no strip. Then a flight that
--- another holds: 6, though b is 0. Then handed at 11; again from the sector that has it no more: 17; and at 12 to the one that has it.
+-- 02, #101: "17, is the strip present, a its owner, and neither a nor b 0?": another owner; b 0; a 0; no strip. Then a
+-- flight that another holds: 6, though b is 0. Then handed at 11; again from the sector that has it no more: 17; and at
+-- 12 to the one that has it.
 unfoldable pub Example : Type 0
 Example =
     hands_after script

@@ -1,6 +1,6 @@
--- Why request #102 compares times with the last stored commit time. By 01's own question, which compares them with the last
--- one given, a run can answer the same read as of a time twice, and differently, with a cut between. 01's question is kept
--- here alone.
+-- Why request #102 compares times with the last stored commit time. By 01's own question, which compares them with the
+-- last one given, a run can answer the same read as of a time twice, and differently, with a cut between. 01's question
+-- is kept here alone.
 use Rattle.std.specs.Prelude.{ℕ, ◌≡◌, Bool, true, ◌&&◌, List, [], ◌∷◌, ◌++◌, length, leb}
 use Rattle.store.specs.declared.Refusal.{Refusal}
 use Rattle.store.specs.declared.Refusal.TheVariants.{Unfit, NotYet}
@@ -8,7 +8,8 @@ use Rattle.store.specs.declared.State.{State}
 use Rattle.store.specs.Answer.{Outcome, ask}
 use Rattle.store.specs.State.{fits}
 use Rattle.store.specs.AsOf.{as_of_if}
-use Rattle.runs.specs.Event.{Call, Event, opening, cut, call, begin, write, erase, current_read, commit, abort, as_of, changes, store_log, store_page, checkpoint, present, typed}
+use Rattle.runs.specs.Event.{Call, Event, opening, cut, call, begin, write, erase, current_read, commit, abort, as_of}
+use Rattle.runs.specs.Event.{changes, store_log, store_page, checkpoint, present, typed}
 use Rattle.runs.specs.Machine.{World, down, up, Step, after, called, seen_of, step, allowed, formatted}
 use Rattle.examples.specs.Words.{bytes, opened}
 use Rattle.examples.specs.Table.{Shown, shown, Row, done, reads, tail}
@@ -48,7 +49,8 @@ module _ (l d : ℕ) where
   given_step (down m) e = step l d (down m) e
   given_step (up m c s) (opening y) = step l d (up m c s) (opening y)
   given_step (up m c s) cut = step l d (up m c s) cut
-  given_step (up m c s) (call k) = record { world = after (given_called m c s k); seen = seen_of l m (given_called m c s k) [] }
+  given_step (up m c s) (call k) =
+      record { world = after (given_called m c s k); seen = seen_of l m (given_called m c s k) [] }
 
   -- events in this room
   unfoldable pub given_ran : World → List Event → Given
@@ -82,8 +84,8 @@ Differ = given_ran 2 1 (formatted 2 1) two_reads ≡ record {
 
 -- ---- by the question of #102
 
--- neither of these reads is answered (`readUnstored` in Repeats). With the log stored before the first of them both are, and
--- alike, for the later commit gets a later time
+-- neither of these reads is answered (`readUnstored` in Repeats). With the log stored before the first of them both
+-- are, and alike, for the later commit gets a later time
 abbrev pub survives : Row
 survives = record {
   blocks = 2;

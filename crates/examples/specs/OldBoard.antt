@@ -1,11 +1,12 @@
--- A handover that is refused 17 in a run: what an open number reads of the flight before it and after it. `.ci/mutants` has the old
--- board, which clears the owner and then refuses, as an edit of the definitions.
+-- A handover that is refused 17 in a run: what an open number reads of the flight before it and after it. `.ci/mutants`
+-- has the old board, which clears the owner and then refuses, as an edit of the definitions.
 use Rattle.std.specs.Prelude.{ℕ, ◌≡◌, Bool, true, List, [], ◌∷◌}
 use Rattle.runs.specs.Event.{Event, call, begin, write, commit, current_read, Strip, missing, present}
 use Rattle.runs.specs.Machine.{World, down, up, formatted}
 use Rattle.runs.specs.Moments.{Run, world_after}
 use Rattle.handover.specs.declared.Transfer.{Transfer}
-use Rattle.handover.specs.Hand.{hand_number, may_hand, after_commit, after_write, after_check, after_read, after_begin, hand_of}
+use Rattle.handover.specs.Hand.{hand_number, may_hand, after_commit, after_write, after_check, after_read, after_begin}
+use Rattle.handover.specs.Hand.{hand_of}
 use Rattle.handover.specs.Calls.{hand_typed}
 use Rattle.handover.specs.Promise.{look}
 use Rattle.examples.specs.Words.{opened}
@@ -40,7 +41,8 @@ seen_by l d (up m c s) h n =
 pub record Shows (c : Refused) (x : Seen) : Type 0 where
   pub run : Run c.blocks c.pages c.before
   pub typed : hand_typed c.asked ≡ true
-  pub seen : seen_by c.blocks c.pages (world_after c.blocks c.pages (formatted c.blocks c.pages) c.before) c.asked c.reader ≡ x
+  pub seen : seen_by c.blocks c.pages (world_after c.blocks c.pages (formatted c.blocks c.pages) c.before) c.asked
+      c.reader ≡ x
 
 -- ---- the run
 
@@ -69,7 +71,8 @@ pub record Passed : Type 0 where
   pub seen : Seen
 
 unfoldable pub passed : Refused → Passed
-unfolding ran_from ran look seen_by hand_number may_hand after_commit after_write after_check after_read after_begin hand_of
+unfolding ran_from ran look seen_by hand_number may_hand after_commit after_write after_check after_read
+    after_begin hand_of
 passed c =
     let r = ran c.blocks c.pages c.before in
     record { run = r.run; seen = seen_by c.blocks c.pages r.world c.asked c.reader }

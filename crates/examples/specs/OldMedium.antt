@@ -1,4 +1,5 @@
--- An old medium that goes on: a strip logged under tag 1 by the store as it was, then one under tag 3 behind it in the same block.
+-- An old medium that goes on: a strip logged under tag 1 by the store as it was, then one under tag 3 behind it in the
+-- same block.
 use Rattle.std.specs.Prelude.{◌≡◌, Bool, true, List, [], ◌∷◌, map}
 use Rattle.runs.specs.Event.{Event, cut, call, begin, write, commit, as_of, store_log, missing, present}
 use Rattle.runs.specs.Book.{blank}
@@ -8,8 +9,8 @@ use Rattle.examples.specs.Words.{bytes, opened}
 use Rattle.examples.specs.Compute.{ran_from}
 use Rattle.examples.specs.Table.{Shown, shown, Tail, tail_of, done, reads, tail}
 
--- whether the events before the cut are a run of the store as it was and those behind it one of today's, what these answer, and
--- the tail that they leave
+-- whether the events before the cut are a run of the store as it was and those behind it one of today's, what these
+-- answer, and the tail that they leave
 pub record Over : Type 0 where
   pub before : Bool
   pub since : Bool
@@ -20,7 +21,13 @@ unfoldable pub over_from : List Event → List Event → Over
 unfolding ran_from
 over_from es fs =
     let r = ran_from 2 1 (down (old_medium 2 1 es)) blank fs in
-    record { before = is_old_run 2 1 (formatted 2 1) es; since = r.run; answers = map shown r.seen; tail = tail_of r.world }
+    record {
+      before = is_old_run 2 1 (formatted 2 1) es;
+      since = r.run;
+      answers = map shown r.seen;
+      tail =
+          tail_of r.world;
+    }
 
 -- strip 44 is committed at 10 and stored
 abbrev pub old : List Event
@@ -41,7 +48,8 @@ new =
     ∷ call (as_of 300 10)
     ∷ []
 
--- 02, #104: "Old media open unchanged .. new versions use tag 3 only": one record of 33 bytes and one of 34, each with its commit of 19
+-- 02, #104: "Old media open unchanged .. new versions use tag 3 only": one record of 33 bytes and one of 34, each with
+-- its commit of 19
 unfoldable pub GoesOn : Type 0
 GoesOn = over_from old new ≡ record {
   before = true;

@@ -1,5 +1,5 @@
--- Runs in which a strip is read as of one time twice: a store that takes a time for stored whose commit is not answers both
--- reads, and differently. `.ci/mutants` has three such stores as edits of the definitions.
+-- Runs in which a strip is read as of one time twice: a store that takes a time for stored whose commit is not answers
+-- both reads, and differently. `.ci/mutants` has three such stores as edits of the definitions.
 use Rattle.std.specs.Prelude.{ℕ, ◌≡◌, List, [], ◌∷◌, ◌++◌}
 use Rattle.runs.specs.Event.{Event, cut, call, begin, write, commit, as_of, store_log, missing, present, Observation}
 use Rattle.runs.specs.Moments.{Run, seen_at}
@@ -11,8 +11,8 @@ pub record Both : Type 0 where
   pub first : Observation
   pub later : Observation
 
--- sizes, the events before the first read and those between the two, the record and the time; what our definitions give, and
--- what those of a wrong store give
+-- sizes, the events before the first read and those between the two, the record and the time; what our definitions
+-- give, and what those of a wrong store give
 pub record Repeat : Type 0 where
   pub blocks : ℕ
   pub pages : ℕ

@@ -1,14 +1,15 @@
--- Runs that show a shortcut: one for each of 01's 'Shortcuts that spoil a history', one for the commit of its buyer's note that
--- reports a time and logs nothing, and one for a version that is logged as it was before request #104. Each ends in an opening or a begin, where a store with the shortcut gives what
--- the book does not take. `.ci/mutants` has each shortcut as an edit of the definitions.
+-- Runs that show a shortcut: one for each of 01's 'Shortcuts that spoil a history', one for the commit of its buyer's
+-- note that reports a time and logs nothing, and one for a version that is logged as it was before request #104. Each
+-- ends in an opening or a begin, where a store with the shortcut gives what the book does not take. `.ci/mutants` has
+-- each shortcut as an edit of the definitions.
 use Rattle.std.specs.Prelude.{ℕ, zero, suc, ◌≡◌, List, [], ◌∷◌, ◌++◌, replicate}
 use Rattle.runs.specs.Event.{Event, cut, call, begin, write, commit, store_log, store_page, checkpoint, Observation}
 use Rattle.runs.specs.Book.{Row, version, committed, Book, Fits}
 use Rattle.runs.specs.Moments.{Run, book_at, seen_at}
 use Rattle.examples.specs.Words.{bytes, opened, answers, finds, refuses, at, waits}
 
--- sizes, the events of a run up to its last, the last, and the book before that; what our definitions give there, and what
--- those with the shortcut give
+-- sizes, the events of a run up to its last, the last, and the book before that; what our definitions give there, and
+-- what those with the shortcut give
 pub record Case : Type 0 where
   pub blocks : ℕ
   pub pages : ℕ
@@ -53,8 +54,8 @@ abbrev each : {A : Type 0} → (ℕ → A) → ℕ → ℕ → List A
 each f n zero = []
 each f n (suc k) = f n ∷ each f (suc n) k
 
--- L = 2, D = 1: number 1 commits in log block 1 at time 5, and its page is stored. Number 2 begins block 2, which is never
--- stored. The checkpoint gives block 1 up, so after the cut the log is empty.
+-- L = 2, D = 1: number 1 commits in log block 1 at time 5, and its page is stored. Number 2 begins block 2, which is
+-- never stored. The checkpoint gives block 1 up, so after the cut the log is empty.
 abbrev given_up : List Event
 given_up = opened 1 ∷ call (begin 5) ∷ (replicate 14 (puts 1 7 65)
     ++ (call (commit 1 5) ∷ call store_log ∷ call (store_page 0) ∷ call (begin 5) ∷ puts 2 8 66
@@ -65,23 +66,24 @@ given_up_book = stored (replicate 14 (row 1 7 65) ++ (committed 1 5 ∷ [])) 15
 
 -- ---- the cases
 
--- 01: "Stamping a page with a time whose commit record is not stored." The version is stored, its commit is not: it waits
--- for ever. Stamped, it has a time above the last that the log knows, and opening refuses the medium.
+-- 01: "Stamping a page with a time whose commit record is not stored." The version is stored, its commit is not: it
+-- waits for ever. Stamped, it has a time above the last that the log knows, and opening refuses the medium.
 abbrev pub stamped_early : Case
 stamped_early = record {
   blocks = 2;
   pages = 1;
-  before = opened 1 ∷ call (begin 5) ∷ puts 1 7 65 ∷ call store_log ∷ call (commit 1 5) ∷ call (store_page 0) ∷ cut ∷ [];
+  before =
+      opened 1 ∷ call (begin 5) ∷ puts 1 7 65 ∷ call store_log ∷ call (commit 1 5) ∷ call (store_page 0) ∷ cut ∷ [];
   last = opened 1;
   book = stored (row 1 7 65 ∷ []) 1;
   right = finds 0 (waits 7 65 ∷ []);
   wrong = refuses 3;
 }
 
--- 01: "Closing up the pair table, so that a cut between its blocks loses a pair." Numbers 1 to 34 commit in places 0 to 33
--- and wait on pages stored before. The first call of a checkpoint stores places 0 to 31. Then page 0 is stored, and numbers
--- 1 to 12 are no longer live. In a table closed up at each store, numbers 33 and 34 were behind the first block and are before
--- the second, so neither has their pairs. Number 35 commits in a block that is never stored.
+-- 01: "Closing up the pair table, so that a cut between its blocks loses a pair." Numbers 1 to 34 commit in places 0 to
+-- 33 and wait on pages stored before. The first call of a checkpoint stores places 0 to 31. Then page 0 is stored, and
+-- numbers 1 to 12 are no longer live. In a table closed up at each store, numbers 33 and 34 were behind the first block
+-- and are before the second, so neither has their pairs. Number 35 commits in a block that is never stored.
 abbrev pub closed_up : Case
 closed_up = record {
   blocks = 5;
@@ -93,11 +95,13 @@ closed_up = record {
   last = opened 3;
   book = stored (replicate 4 (row 1 1 1) ++ (each (λ n. row n n n) 2 34 ++ each (λ n. committed n n) 1 34)) 72;
   right = finds 34 (replicate 4 (at 1 1 1) ++ (each (λ n. at n n n) 2 33 ++ (waits 35 35 ∷ [])));
-  wrong = finds 34 (replicate 4 (at 1 1 1) ++ (each (λ n. at n n n) 2 31 ++ (waits 33 33 ∷ waits 34 34 ∷ waits 35 35 ∷ [])));
+  wrong =
+      finds 34 (replicate 4 (at 1 1 1) ++ (each (λ n. at n n n) 2 31
+      ++ (waits 33 33 ∷ waits 34 34 ∷ waits 35 35 ∷ [])));
 }
 
--- 01: "Dropping a pair when the cached page is stamped and not when it is stored." The versions wait on the medium, where
--- their stamps have not come, and no pair is left.
+-- 01: "Dropping a pair when the cached page is stamped and not when it is stored." The versions wait on the medium,
+-- where their stamps have not come, and no pair is left.
 abbrev pub dropped_early : Case
 dropped_early = record {
   blocks = 2;

@@ -1,8 +1,9 @@
--- The starred examples of 01, as the requests of 02 change them, and beside them those of #104 and the `stripbook` listing at the
--- level of calls.
+-- The starred examples of 01, as the requests of 02 change them, and beside them those of #104 and the `stripbook`
+-- listing at the level of calls.
 use Rattle.std.specs.Prelude.{ℕ, zero, suc, ◌-◌, ◌^◌, ◌≡◌, List, [], ◌∷◌, ◌++◌, map}
 use Rattle.layout.specs.Journal.{sequence_of, used_of}
-use Rattle.runs.specs.Event.{Event, cut, call, begin, write, erase, current_read, commit, as_of, changes, store_log, Strip, missing, erased, present, Observation}
+use Rattle.runs.specs.Event.{Event, cut, call, begin, write, erase, current_read, commit, as_of, changes, store_log}
+use Rattle.runs.specs.Event.{Strip, missing, erased, present, Observation}
 use Rattle.runs.specs.Machine.{World, down, up, trace, formatted}
 use Rattle.runs.specs.Moments.{world_after}
 use Rattle.examples.specs.Words.{bytes, opened}
@@ -104,8 +105,8 @@ last_time = record {
   tail = tail 1 131;
 }
 
--- * "Two writes of one record in a transaction: as of its time, the second."; 02, #102: "after a commit, the log is stored
--- before its time can be read"
+-- * "Two writes of one record in a transaction: as of its time, the second."; 02, #102: "after a commit, the log is
+-- stored before its time can be read"
 abbrev pub twice : Row
 twice = record {
   blocks = 2;
@@ -116,8 +117,8 @@ twice = record {
   tail = tail 1 97;
 }
 
--- * "D = 1: the 15th write done, the 16th 7."; 02, #104: "Fourteen such records of 34 bytes now fit a block", so the 15th begins a
--- second one
+-- * "D = 1: the 15th write done, the 16th 7."; 02, #104: "Fourteen such records of 34 bytes now fit a block", so the
+-- 15th begins a second one
 abbrev pub slots_used : Row
 slots_used = record {
   blocks = 2;
@@ -127,7 +128,8 @@ slots_used = record {
   tail = tail 2 44;
 }
 
--- * "Fifteen versions use 505 bytes of a block; a commit record (19) begins the next."; 02, #104: "fourteen use 486 bytes"
+-- * "Fifteen versions use 505 bytes of a block; a commit record (19) begins the next."; 02, #104: "fourteen use 486
+-- bytes"
 abbrev pub fourteen : Row
 fourteen = record {
   blocks = 2;
@@ -147,7 +149,8 @@ commit_fits = record {
   tail = tail 1 505;
 }
 
--- * "L = 2, D = 3, no checkpoint: 30 versions fit, the 31st 8."; 02, #104: "the log example with L = 2 becomes 28 and the 29th"
+-- * "L = 2, D = 3, no checkpoint: 30 versions fit, the 31st 8."; 02, #104: "the log example with L = 2 becomes 28 and
+-- the 29th"
 abbrev pub log_full : Row
 log_full = record {
   blocks = 2;
@@ -157,8 +160,8 @@ log_full = record {
   tail = tail 2 486;
 }
 
--- * "Erase of a never written record: as of its commit, erased."; 02, #102: "after a commit, the log is stored before its
--- time can be read"
+-- * "Erase of a never written record: as of its commit, erased."; 02, #102: "after a commit, the log is stored before
+-- its time can be read"
 abbrev pub erased_first : Row
 erased_first = record {
   blocks = 2;
@@ -183,22 +186,28 @@ abbrev pub two_bytes : Row
 two_bytes = record {
   blocks = 2;
   pages = 1;
-  script = opened 1 ∷ call (begin 4) ∷ call (write 1 255 (bytes 65)) ∷ call (write 1 256 (bytes 66)) ∷ call (write 1 1023 (bytes 67))
+  script =
+      opened 1 ∷ call (begin 4) ∷ call (write 1 255 (bytes 65)) ∷ call (write 1 256 (bytes 66))
+      ∷ call (write 1 1023 (bytes 67))
       ∷ call (commit 1 4) ∷ call store_log ∷ cut ∷ opened 1
       ∷ call (as_of 255 4) ∷ call (as_of 256 4) ∷ call (as_of 1023 4) ∷ call (as_of 0 4) ∷ call (as_of 7 4) ∷ [];
   answers = done 0 ∷ done 1 ∷ done 0 ∷ done 1 ∷ done 2 ∷ done 4 ∷ done 0 ∷ done 0 ∷ done 4
-      ∷ reads (present (bytes 65)) ∷ reads (present (bytes 66)) ∷ reads (present (bytes 67)) ∷ reads missing ∷ reads missing ∷ [];
+      ∷ reads (present (bytes 65)) ∷ reads (present (bytes 66)) ∷ reads (present (bytes 67)) ∷ reads missing
+      ∷ reads missing ∷ [];
   tail = tail 1 131;
 }
 
--- 02, #104: "18, is the record number below 1,024? It comes before 5, and before 10.": number 2 is not active, and 99 is above
--- the last time
+-- 02, #104: "18, is the record number below 1,024? It comes before 5, and before 10.": number 2 is not active, and 99
+-- is above the last time
 abbrev pub no_record : Row
 no_record = record {
   blocks = 2;
   pages = 1;
-  script = opened 1 ∷ call (begin 4) ∷ call (write 1 1024 (bytes 65)) ∷ call (write 2 1024 (bytes 65)) ∷ call (write 2 1023 (bytes 65))
-      ∷ call (erase 2 65535) ∷ call (current_read 2 1024) ∷ call (as_of 1024 99) ∷ call (as_of 1023 99) ∷ call (changes 1024 1 99 []) ∷ [];
+  script =
+      opened 1 ∷ call (begin 4) ∷ call (write 1 1024 (bytes 65)) ∷ call (write 2 1024 (bytes 65))
+      ∷ call (write 2 1023 (bytes 65))
+      ∷ call (erase 2 65535) ∷ call (current_read 2 1024) ∷ call (as_of 1024 99) ∷ call (as_of 1023 99)
+      ∷ call (changes 1024 1 99 []) ∷ [];
   answers = done 0 ∷ done 1 ∷ refused 18 ∷ refused 18 ∷ refused 5
       ∷ refused 18 ∷ refused 18 ∷ refused 18 ∷ refused 10 ∷ refused 18 ∷ [];
   tail = tail 1 10;

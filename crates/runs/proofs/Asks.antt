@@ -16,7 +16,8 @@ use Rattle.layout.specs.Slot.{Cell}
 use Rattle.fields.proofs.Choose.{cond_elim}
 use Rattle.fields.proofs.PartLaws.{length_splice}
 use Rattle.store.specs.declared.Answer.{Answer}
-use Rattle.store.specs.declared.Answer.TheVariants.{Refused, Done, Begun, Written, Committed, Opened, Missing, Erased, Present, Listed}
+use Rattle.store.specs.declared.Answer.TheVariants.{Refused, Done, Begun, Written, Committed, Opened, Missing, Erased}
+use Rattle.store.specs.declared.Answer.TheVariants.{Present, Listed}
 use Rattle.store.specs.declared.Best.{Best}
 use Rattle.store.specs.declared.Best.TheVariants.{Version, Neither}
 use Rattle.store.specs.declared.Found.{Found}
@@ -40,7 +41,8 @@ use Rattle.store.specs.Changes.{line_bytes, changes_asks, change_lines, changes_
 use Rattle.store.specs.StoreLog.{store_log_asks, store_log_if, store_log_of}
 use Rattle.store.specs.StorePage.{store_page_asks, store_page_if, store_page_of}
 use Rattle.store.specs.Checkpoint.{checkpoint_asks, checkpoint_step, checkpoint_if, checkpoint_of}
-use Rattle.runs.specs.Event.{Call, begin, write, erase, current_read, commit, abort, as_of, changes, store_log, store_page, checkpoint}
+use Rattle.runs.specs.Event.{Call, begin, write, erase, current_read, commit, abort, as_of, changes, store_log}
+use Rattle.runs.specs.Event.{store_page, checkpoint}
 use Rattle.runs.specs.Machine.{called}
 
 -- ---- the first "no": those before it are "yes"
@@ -55,8 +57,11 @@ stops ((true, n) ∷ qs) r e = later refl (stops qs r e)
 stops ((false, n) ∷ qs) r e = let h : n ≡ r = cc in rw h (here refl)
 
 pub stopped : (qs : List (Bool × Refusal)) (r : Refusal) → Stops r qs → ask qs ≡ some r
-stopped qs r (here e) = rw e
-stopped (q ∷ qs) r (later e t) = rw e (stopped qs r t)
+stopped qs r s = go s
+  where
+    go : {qs : List (Bool × Refusal)} → Stops r qs → ask qs ≡ some r
+    go (here e) = rw e
+    go (later e t) = rw e (go t)
 
 -- what holds for each refusal, and where all are passed, holds of the outcome of the questions
 pub asked : (P : Option Refusal → Type 0) (qs : List (Bool × Refusal)) → ((r : Refusal) → ask qs ≡ some r → P (some r))
@@ -138,7 +143,8 @@ told a v b s m c = record { answer = a; value = v; state = s; medium = m; cache 
 
 -- what was asked and found, and what the call then leaves
 pub data Way (m c : List ℕ) (s : State) : Call → Outcome → Type 0 where
-  refused : (k : Call) (r : Refusal) → ask (asks m c s k) ≡ some r → Way m c s k (told (Refused r) (zeros 16) (given k) s m c)
+  refused : (k : Call) (r : Refusal) → ask (asks m c s k) ≡ some r
+      → Way m c s k (told (Refused r) (zeros 16) (given k) s m c)
   begins : (clock i : ℕ) → Passed (begin_asks s m c) → find_free s.places s.ring ≡ At i
       → Way m c s (begin clock) (leaves (Begun s.next) (begun s (ring_place s.ring i) clock) m c)
   writes : (n key i : ℕ) (v : List ℕ) → Passed (write_asks s m c n key) → find_active s.places n ≡ At i
@@ -157,7 +163,8 @@ pub data Way (m c : List ℕ) (s : State) : Call → Outcome → Type 0 where
       → Way m c s (abort n) (leaves Done (with_place s i free_place) m c)
   logs : Passed (store_log_asks s m c) → Way m c s store_log (store_log_if none s m c)
   pages : (p : ℕ) → Passed (store_page_asks s m c p) → Way m c s (store_page p) (store_page_if none s m c p)
-  checks : (ph : Phase) → Passed (checkpoint_asks s m c) → s.phase ≡ ph → Way m c s checkpoint (checkpoint_step ph s m c)
+  checks : (ph : Phase) → Passed (checkpoint_asks s m c) → s.phase ≡ ph
+      → Way m c s checkpoint (checkpoint_step ph s m c)
 
 module _ (m c : List ℕ) (s : State) where
   begin_way : (clock : ℕ) → Way m c s (begin clock) (begin_of s m c clock)
@@ -188,7 +195,8 @@ module _ (m c : List ℕ) (s : State) where
       erases n key i p e))
 
   -- a version that is read, of either kind
-  cell_way : (k : Call) (x : Cell) → is_reading k ≡ true → given k ≡ [] → Passed (asks m c s k) → Way m c s k (read_cell x s m c)
+  cell_way : (k : Call) (x : Cell) → is_reading k ≡ true → given k ≡ [] → Passed (asks m c s k)
+      → Way m c s k (read_cell x s m c)
   unfolding read_cell
   cell_way k x h b p =
       cond_elim (Way m c s k) (eqb x.kind 1) (λ t. looks k Erased (zeros 16) [] h p refl (rw b))
@@ -247,7 +255,8 @@ module _ (m c : List ℕ) (s : State) where
   store_log_way : Way m c s store_log (store_log_of s m c)
   unfolding store_log_of store_log_if
   store_log_way =
-      asked (λ (a : Option Refusal). Way m c s store_log (store_log_if a s m c)) (store_log_asks s m c) (refused store_log) logs
+      asked (λ (a : Option Refusal). Way m c s store_log (store_log_if a s m c)) (store_log_asks s m c)
+      (refused store_log) logs
 
   store_page_way : (p : ℕ) → Way m c s (store_page p) (store_page_of s m c p)
   unfolding store_page_of store_page_if

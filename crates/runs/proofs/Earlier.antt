@@ -1,5 +1,6 @@
--- An old medium opens as it did. Its log, its slots and its cache after the log read the same with both readers, so each question
--- has the same answer and each part of the outcome the same value; on a medium of another length both openings refuse 1.
+-- An old medium opens as it did. Its log, its slots and its cache after the log read the same with both readers, so
+-- each question has the same answer and each part of the outcome the same value; on a medium of another length both
+-- openings refuse 1.
 use Prim.Native.Nat.{ℕ, zero, suc, ◌+◌, ◌*◌, ◌≤◌, ◌<◌}
 use native.Mathlib.Omega.{arith}
 use mathlib.Core.Path.{◌≡◌, refl, ap, fun_ext}
@@ -19,16 +20,25 @@ use Rattle.store.specs.declared.Refusal.{Refusal}
 use Rattle.store.specs.State.{in_range}
 use Rattle.store.specs.OpenLog.{Placed, block_of, read_count, read_log, next_number, last_time}
 use Rattle.store.specs.OpenRedo.{pages_on}
-use Rattle.store.specs.OpenConditions.{all_hold, forms_of, block_checks, fields_in_form, records_whole, numbers_left, pairs_once, earlier_true, time_below, not_falling, pair_in_bounds, slot_true, history_true, from_one, few_waiting, copied, redone, applied_next, conditions, well_formed}
+use Rattle.store.specs.OpenConditions.{all_hold, forms_of, block_checks, fields_in_form, records_whole, numbers_left}
+use Rattle.store.specs.OpenConditions.{pairs_once, earlier_true, time_below, not_falling, pair_in_bounds, slot_true}
+use Rattle.store.specs.OpenConditions.{history_true, from_one, few_waiting, copied, redone, applied_next, conditions}
+use Rattle.store.specs.OpenConditions.{well_formed}
 use Rattle.store.specs.Open.{opened_state, open_if, open_of}
-use Rattle.runs.specs.Earlier.{log_before, parsed_before, forms_before, page_form_before, cell_at_before, next_before, last_before, time_at_before, time_below_before, slot_true_before, pair_in_bounds_before, fields_before, records_before, redone_before, history_before, from_one_before, conditions_before, state_before, open_if_before, open_before, Old, OpensAsBefore}
+use Rattle.runs.specs.Earlier.{log_before, parsed_before, forms_before, page_form_before, cell_at_before, next_before}
+use Rattle.runs.specs.Earlier.{last_before, time_at_before, time_below_before, slot_true_before, pair_in_bounds_before}
+use Rattle.runs.specs.Earlier.{fields_before, records_before, redone_before, history_before, from_one_before}
+use Rattle.runs.specs.Earlier.{conditions_before, state_before, open_if_before, open_before, Old, OpensAsBefore}
 use Rattle.runs.proofs.Lengths.{length_pages_on}
-use Rattle.runs.proofs.EarlierReads.{Small, Along, BlockSmall, each_same, bytes_of_law, parsed_same, forms_same, blocks_small, log_small, logged_same, records_same, Low, page_form_same, slot_copied, low_within, low_redo, at_same, version_same, newest_same}
+use Rattle.runs.proofs.EarlierReads.{Small, Along, BlockSmall, each_same, bytes_of_law, parsed_same, forms_same}
+use Rattle.runs.proofs.EarlierReads.{blocks_small, log_small, logged_same, records_same, Low, page_form_same}
+use Rattle.runs.proofs.EarlierReads.{slot_copied, low_within, low_redo, at_same, version_same, newest_same}
 
 -- the k numbers from s on, each with its bounds
 along_all : (P : ℕ → Type 0) (s k : ℕ) → ((j : ℕ) → s ≤ j → j < s + k → P j) → Along P s k
 along_all P s zero f = tt
-along_all P s (suc k) f = (f s (omega arith) (omega arith), along_all P (s + 1) k (λ j a b. f j (omega arith) (omega arith)))
+along_all P s (suc k) f =
+    (f s (omega arith) (omega arith), along_all P (s + 1) k (λ j a b. f j (omega arith) (omega arith)))
 
 module _ (m : List ℕ) (l d : ℕ) (old : Old m l d) where
   -- ---- the log
@@ -56,19 +66,23 @@ module _ (m : List ℕ) (l d : ℕ) (old : Old m l d) where
   -- ---- the conditions
 
   block_form : (s : ℕ) → BlockSmall m l s
-      → used_form (block_of m l s) && forms_of (parsed (block_of m l s)).records ≡ used_form (block_of m l s) && forms_before (parsed_before (block_of m l s)).records
+      → used_form (block_of m l s) && forms_of (parsed (block_of m l s)).records
+      ≡ used_form (block_of m l s) && forms_before (parsed_before (block_of m l s)).records
   block_form s a = rw (forms_same (parsed (block_of m l s)).records a, parsed_same (block_of m l s) a)
 
   page_form_law : (p : ℕ) → p < d → page_form (blk m (page_block_at l p)) ≡ page_form_before (blk m (page_block_at l p))
   page_form_law p h =
-      page_form_same (blk m (page_block_at l p)) (λ i k. rw (slot_copied m l d p i h k) (old.slots (15 * p + i) (omega arith)))
+      page_form_same (blk m (page_block_at l p))
+      (λ i k. rw (slot_copied m l d p i h k) (old.slots (15 * p + i) (omega arith)))
 
   fields_same : fields_in_form m l d ≡ fields_before m l d
   unfolding fields_in_form fields_before block_checks
   fields_same =
       rw (
-        each_same (BlockSmall m l) _ _ (oldest_on m) (read_count m l) (λ s a. ap (λ (t : Bool). (t, log_block_at l s)) (block_form s a)) blocks,
-        each_same (λ p. p < d) _ _ 0 d (λ p h. ap (λ (t : Bool). (t, page_block_at l p)) (page_form_law p h)) (along_all (λ p. p < d) 0 d (λ j a b. omega arith)),
+        each_same (BlockSmall m l) _ _ (oldest_on m) (read_count m l)
+            (λ s a. ap (λ (t : Bool). (t, log_block_at l s)) (block_form s a)) blocks,
+        each_same (λ p. p < d) _ _ 0 d (λ p h. ap (λ (t : Bool). (t, page_block_at l p)) (page_form_law p h))
+            (along_all (λ p. p < d) 0 d (λ j a b. omega arith)),
       )
 
   whole_same : records_whole m l d ≡ records_before m l d 0 (oldest_on m) (read_count m l)
@@ -101,7 +115,8 @@ module _ (m : List ℕ) (l d : ℕ) (old : Old m l d) where
     unfolding redone_before copied
     low_redone =
         let q : length (pages_on m l d) ≡ cache_length d = length_pages_on m l d size in
-        low_redo d (copied m l d) (log_before m l) q (rw log_same at records) (low_within (pages_on m l d) d q old.slots)
+        low_redo d (copied m l d) (log_before m l) q (rw log_same at records)
+        (low_within (pages_on m l d) d q old.slots)
 
     pub low_opened : Low (redone m l d).cache
     low_opened = rw redone_same low_redone
@@ -140,7 +155,8 @@ module _ (m : List ℕ) (l d : ℕ) (old : Old m l d) where
   opens_same c =
       let sizes = in_range l d && eqb (length m) (medium_length l d) in
       bool_case sizes
-      (λ t. rw (well_same (eqb-true (length m) (medium_length l d) (and_1 (in_range l d) (eqb (length m) (medium_length l d)) t))) (if_same _ c))
+      (λ t. rw (well_same (eqb-true (length m) (medium_length l d)
+      (and_1 (in_range l d) (eqb (length m) (medium_length l d)) t))) (if_same _ c))
       (λ f. rw f (if_same _ c))
 
 -- 02, #104: "Old media open unchanged"

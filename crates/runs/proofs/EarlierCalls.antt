@@ -1,6 +1,7 @@
--- The calls as they were are those of today, but for writes and erases, on a record number of one byte and a cache in which byte 3 of
--- every slot is zero: both readers then find the same newest version of a record, and question 18 is passed. So is what an opening
--- finds. Written with such a record number, a slot and a record of tag 1 are the bytes that they were.
+-- The calls as they were are those of today, but for writes and erases, on a record number of one byte and a cache in
+-- which byte 3 of every slot is zero: both readers then find the same newest version of a record, and question 18 is
+-- passed. So is what an opening finds. Written with such a record number, a slot and a record of tag 1 are the bytes
+-- that they were.
 use Prim.Native.Nat.{ℕ, zero, suc, ◌+◌, ◌/◌, ◌%◌, ◌<◌}
 use native.Mathlib.Omega.{arith}
 use mathlib.Core.Bool.{Bool, true, false, false≢true}
@@ -26,10 +27,12 @@ use Rattle.store.specs.CurrentRead.{current_if, current_of}
 use Rattle.store.specs.AsOf.{as_of_if, as_of_of}
 use Rattle.store.specs.Changes.{change_lines, changes_of}
 use Rattle.store.specs.Open.{open_asks, opened_state, open_if, open_of}
-use Rattle.runs.specs.Event.{Call, begin, write, erase, current_read, commit, abort, as_of, changes, store_log, store_page, checkpoint}
+use Rattle.runs.specs.Event.{Call, begin, write, erase, current_read, commit, abort, as_of, changes, store_log}
+use Rattle.runs.specs.Event.{store_page, checkpoint}
 use Rattle.runs.specs.Machine.{World, medium_of, called, opens, sight_at, sights_from}
 use Rattle.runs.specs.Earlier.{Old, OpensAsBefore, open_before}
-use Rattle.runs.specs.EarlierCalls.{held_before, old_current_asks, old_current_if, old_as_of_asks, old_as_of_if, old_lines, old_called, slot_before, version_before, WritesAsBefore}
+use Rattle.runs.specs.EarlierCalls.{held_before, old_current_asks, old_current_if, old_as_of_asks, old_as_of_if}
+use Rattle.runs.specs.EarlierCalls.{old_lines, old_called, slot_before, version_before, WritesAsBefore}
 use Rattle.runs.specs.OldMedia.{of_byte, old_sight, old_sights, old_opens}
 use Rattle.runs.proofs.Asks.{asked}
 use Rattle.runs.proofs.EarlierReads.{Low, at_same, newest_same}
@@ -61,7 +64,8 @@ module _ (m c : List ℕ) (s : State) (low : Low c) where
   unfolding held_before held
   held_same key n = rw (newest_same c low key s.slots)
 
-  current_same : (n key : ℕ) → key < 256 → old_current_if (ask (old_current_asks s m c n key)) s m c n key ≡ current_of s m c n key
+  current_same : (n key : ℕ) → key < 256 → old_current_if (ask (old_current_asks s m c n key)) s m c n key
+      ≡ current_of s m c n key
   unfolding current_of old_current_if current_if
   current_same n key h = rw (byte_form key h, ← held_same key n) (go (ask (old_current_asks s m c n key)))
     where
@@ -108,9 +112,11 @@ pub opening_same : (l d : ℕ) (w : World) (y : List ℕ) → Old (medium_of w) 
 unfolding OpensAsBefore open_of
 opening_same l d w y old size =
     ap (old_opens l d w) (sym (opens_as_before (medium_of w) y l d old))
-    ∙ asked (λ (a : Option Refusal). old_opens l d w (open_if a (medium_of w) y l d) ≡ opens l d w (open_if a (medium_of w) y l d)) (open_asks (medium_of w) y l d)
+    ∙ asked (λ (a : Option Refusal). old_opens l d w (open_if a (medium_of w) y l d)
+    ≡ opens l d w (open_if a (medium_of w) y l d)) (open_asks (medium_of w) y l d)
     (λ r e. unfold old_opens opens open_if no_state old_sights sights_from in refl)
-    (λ p. unfold old_opens opens open_if opened_state in rw (sights_same _ _ (low_opened (medium_of w) l d old size) 0 _))
+    (λ p. unfold old_opens opens open_if opened_state in
+    rw (sights_same _ _ (low_opened (medium_of w) l d old size) 0 _))
 
 -- ---- the bytes that were written
 
@@ -125,7 +131,8 @@ enc_one : (n : ℕ) → n < 256 → enc 1 n ≡ n ∷ []
 unfolding enc
 enc_one n h = let a : n % 256 ≡ n = omega arith in rw a
 
-version_as_before : (h : VersionHead) (v : List ℕ) → h.width ≡ One → h.key < 256 → record_bytes (version h v) ≡ version_before h v
+version_as_before : (h : VersionHead) (v : List ℕ) → h.width ≡ One → h.key < 256
+    → record_bytes (version h v) ≡ version_before h v
 unfolding record_bytes version_before version_body tag_of bytes_of
 version_as_before h v w k = rw (w, enc_one h.key k)
 

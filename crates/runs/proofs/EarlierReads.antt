@@ -1,6 +1,7 @@
--- An old medium reads as it did. A record number of one byte is that byte, so the two readers of a log record differ only at a
--- whole record of tag 3, which an old log does not have; and where byte 3 of a slot is zero, both readers give byte 1 as its record
--- number. Byte 3 stays zero while the log is applied, for a record number of one byte has no high byte.
+-- An old medium reads as it did. A record number of one byte is that byte, so the two readers of a log record differ
+-- only at a whole record of tag 3, which an old log does not have; and where byte 3 of a slot is zero, both readers
+-- give byte 1 as its record number. Byte 3 stays zero while the log is applied, for a record number of one byte has no
+-- high byte.
 use Prim.Native.Nat.{ℕ, zero, suc, ◌+◌, ◌-◌, ◌*◌, ◌/◌, ◌%◌, ◌≤◌, ◌<◌}
 use native.Mathlib.Omega.{arith}
 use native.Mathlib.Decide.{dec_lt, ℕ_discrete}
@@ -14,7 +15,8 @@ use Rattle.fields.specs.Field.{dec}
 use Rattle.fields.specs.Part.{part, splice}
 use Rattle.fields.specs.Block.{blk, put, log_block_at, page_block_at, cache_length, page_of, slot_at}
 use Rattle.layout.specs.Item.{bytes_of, head_of, value_of, of_length, version_item, by_tag, item_of}
-use Rattle.layout.specs.Journal.{Record, version, commit, Parsed, onward, parse_more, parse, used_of, body_of, parsed, record_form}
+use Rattle.layout.specs.Journal.{Record, version, commit, Parsed, onward, parse_more, parse, used_of, body_of, parsed}
+use Rattle.layout.specs.Journal.{record_form, record_size}
 use Rattle.layout.specs.Slot.{Cell, slot_bytes, slot_key, cell_of, key_form, slot_form}
 use Rattle.layout.specs.Page.{page_slot, slot_form_at, slots_form, page_form, put_version, cache_slot}
 use Rattle.layout.specs.declared.item.Width.{Width}
@@ -37,7 +39,10 @@ use Rattle.store.specs.OpenRedo.{Redone, pages_on, applies, redo_if, redo_record
 use Rattle.store.specs.OpenConditions.{each, forms_of, low_after_all, records_from}
 use Rattle.store.proofs.CopyLaws.{page_copied}
 use Rattle.runs.specs.Event.{are_bytes}
-use Rattle.runs.specs.Earlier.{head_before, item_before, more_before, parse_before, parsed_before, record_form_before, forms_before, logged_before, records_before, old_width, old_record, old_log, cell_before, slot_form_before, slots_form_before, page_form_before, cell_at_before, version_of_before, newest_before}
+use Rattle.runs.specs.Earlier.{head_before, item_before, more_before, parse_before, parsed_before, record_form_before}
+use Rattle.runs.specs.Earlier.{forms_before, logged_before, records_before, old_width, old_record, old_log, cell_before}
+use Rattle.runs.specs.Earlier.{slot_form_before, slots_form_before, page_form_before, cell_at_before, version_of_before}
+use Rattle.runs.specs.Earlier.{newest_before}
 use Rattle.runs.proofs.Lengths.{length_redo}
 
 -- ---- one record
@@ -79,10 +84,12 @@ unfolding item_of item_before by_tag version_item head_of bytes_of
 item_same bs =
     same_cond (eqb (length bs) 0) (λ _. refl)
     (same_cond (ltb (length bs) 3) (λ _. refl)
-    (same_cond (eqb (get_or bs 0 0) 1) (λ _. ap (λ (h : VersionHead). of_length 30 (dec (part bs 1 2)) (drop 3 bs) (Version h)) (head_same (drop 3 bs)))
+    (same_cond (eqb (get_or bs 0 0) 1) (λ _. ap
+    (λ (h : VersionHead). of_length 30 (dec (part bs 1 2)) (drop 3 bs) (Version h)) (head_same (drop 3 bs)))
     (same_cond (eqb (get_or bs 0 0) 2) (λ _. refl)
     (same_both (eqb (get_or bs 0 0) 3)
-    (same_both (eqb (dec (part bs 1 2)) 31) (same_both (leb 31 (length (drop 3 bs))) (λ o. absurd (false≢true o)) (λ _. refl)) (λ _. refl))
+    (same_both (eqb (dec (part bs 1 2)) 31)
+    (same_both (leb 31 (length (drop 3 bs))) (λ o. absurd (false≢true o)) (λ _. refl)) (λ _. refl))
     (same_both (eqb (get_or bs 0 0) 4) (λ _. refl) (same_both (eqb (get_or bs 0 0) 5) (λ _. refl) (λ _. refl)))))))
 
 -- ---- the records of a block
@@ -108,7 +115,8 @@ parse_same : (k : ℕ) (bs : List ℕ) → Each Small (parse k bs).records → p
 unfolding parse parse_before
 parse_same zero bs o = refl
 parse_same (suc k) bs o =
-    more_same bs (item_of Journal bs) (item_before bs) (λ n. parse k (drop n bs)) (λ n. parse_before k (drop n bs)) (item_same bs) o
+    more_same bs (item_of Journal bs) (item_before bs) (λ n. parse k (drop n bs)) (λ n. parse_before k (drop n bs))
+    (item_same bs) o
     (λ n. parse_same k (drop n bs))
 
 pub parsed_same : (b : List ℕ) → Each Small (parsed b).records → parsed b ≡ parsed_before b
@@ -132,7 +140,8 @@ abbrev pub Along : (ℕ → Type 0) → ℕ → ℕ → Type 0
 Along P s zero = Unit {0}
 Along P s (suc k) = P s × Along P (s + 1) k
 
-pub each_same : (P : ℕ → Type 0) (f g : ℕ → Bool × ℕ) (s k : ℕ) → ((j : ℕ) → P j → f j ≡ g j) → Along P s k → each f s k ≡ each g s k
+pub each_same : (P : ℕ → Type 0) (f g : ℕ → Bool × ℕ) (s k : ℕ) → ((j : ℕ) → P j → f j ≡ g j) → Along P s k
+    → each f s k ≡ each g s k
 unfolding each
 each_same P f g s zero e a = refl
 each_same P f g s (suc k) e a = rw (e s a.0, each_same P f g (s + 1) k e a.1)
@@ -140,7 +149,9 @@ each_same P f g s (suc k) e a = rw (e s a.0, each_same P f g (s + 1) k e a.1)
 pub bytes_of_law : (v : List ℕ) → are_bytes v ≡ true → Bytes v
 unfolding are_bytes
 bytes_of_law [] e = bytes_zeros 0
-bytes_of_law (x ∷ v) e = bytes_cons x v (ltb-true x 256 (and_0 (ltb x 256) (are_bytes v) e)) (bytes_of_law v (and_1 (ltb x 256) (are_bytes v) e))
+bytes_of_law (x ∷ v) e =
+    bytes_cons x v (ltb-true x 256 (and_0 (ltb x 256) (are_bytes v) e))
+    (bytes_of_law v (and_1 (ltb x 256) (are_bytes v) e))
 
 width_old : (w : Width) → old_width w ≡ true → w ≡ One
 width_old One e = refl
@@ -162,16 +173,19 @@ old_append (x ∷ xs) ys o =
     let r = old_append xs ys (and_1 (old_record x.rec) (old_log (xs ++ ys)) o) in
     (rw a r.0, r.1)
 
-records_small : (s off : ℕ) (rs : List Record) → Each RecordSized rs → old_log (place_from s off rs) ≡ true → Each Small rs
+records_small : (s off : ℕ) (rs : List Record) → Each RecordSized rs → old_log (place_from s off rs) ≡ true
+    → Each Small rs
 unfolding old_log place_from
 records_small s off [] z o = tt
-records_small s off (r ∷ rs) z o =
-    (record_small r z.0 (and_0 (old_record r) _ o), records_small s _ rs z.1 (and_1 (old_record r) _ o))
+records_small s off (r ∷ rs) z o = (
+  record_small r z.0 (and_0 (old_record r) _ o),
+  records_small s (off + record_size r) rs z.1 (and_1 (old_record r) _ o),
+)
 
 placed_small : (s off : ℕ) (rs : List Record) → Each Small rs → Each (λ (x : Placed). Small x.rec) (place_from s off rs)
 unfolding place_from
 placed_small s off [] z = tt
-placed_small s off (r ∷ rs) z = (z.0, placed_small s _ rs z.1)
+placed_small s off (r ∷ rs) z = (z.0, placed_small s (off + record_size r) rs z.1)
 
 module _ (m : List ℕ) (l : ℕ) where
   -- the records of the block of sequence s are old ones
@@ -182,7 +196,8 @@ module _ (m : List ℕ) (l : ℕ) where
   unfolding parsed body_of block_of blk
   parsed_sized b s =
       let block = blk m (log_block_at l s) in
-      let whole : Bytes block = bytes_take 512 (drop (512 * log_block_at l s) m) (bytes_drop (512 * log_block_at l s) m b) in
+      let whole : Bytes block = bytes_take 512 (drop (512 * log_block_at l s) m)
+      (bytes_drop (512 * log_block_at l s) m b) in
       parse_sized _ (body_of block) (bytes_take (used_of block - 10) (drop 10 block) (bytes_drop 10 block whole))
 
   pub blocks_small : Bytes m → (s k : ℕ) → old_log (logged_from m l s k) ≡ true → Along BlockSmall s k
@@ -196,7 +211,8 @@ module _ (m : List ℕ) (l : ℕ) where
   unfolding logged_from
   log_small s zero a = tt
   log_small s (suc k) a =
-      each_append (λ (x : Placed). Small x.rec) (place_from s 10 (parsed (block_of m l s)).records) (logged_from m l (s + 1) k)
+      each_append (λ (x : Placed). Small x.rec) (place_from s 10 (parsed (block_of m l s)).records)
+      (logged_from m l (s + 1) k)
       (placed_small s 10 (parsed (block_of m l s)).records a.0) (log_small (s + 1) k a.1)
 
   pub logged_same : (s k : ℕ) → Along BlockSmall s k → logged_from m l s k ≡ logged_before m l s k
@@ -223,17 +239,21 @@ slot_form_same s z = rw z
 
 -- ---- a page
 
-slots_form_same : (p : List ℕ) (i k : ℕ) → i + k ≤ 15 → ((j : ℕ) → j < 15 → get_or (page_slot p j) 3 0 ≡ 0) → slots_form p i k ≡ slots_form_before p i k
+slots_form_same : (p : List ℕ) (i k : ℕ) → i + k ≤ 15 → ((j : ℕ) → j < 15 → get_or (page_slot p j) 3 0 ≡ 0)
+    → slots_form p i k ≡ slots_form_before p i k
 unfolding slots_form slots_form_before slot_form_at
 slots_form_same p i zero h z = refl
-slots_form_same p i (suc k) h z = rw (slot_form_same (page_slot p i) (z i (omega arith)), slots_form_same p (i + 1) k (omega arith) z)
+slots_form_same p i (suc k) h z =
+    rw (slot_form_same (page_slot p i) (z i (omega arith)), slots_form_same p (i + 1) k (omega arith) z)
 
-pub page_form_same : (p : List ℕ) → ((j : ℕ) → j < 15 → get_or (page_slot p j) 3 0 ≡ 0) → page_form p ≡ page_form_before p
+pub page_form_same : (p : List ℕ) → ((j : ℕ) → j < 15 → get_or (page_slot p j) 3 0 ≡ 0)
+    → page_form p ≡ page_form_before p
 unfolding page_form page_form_before
 page_form_same p z = rw (slots_form_same p 0 15 (omega arith) z)
 
 -- a slot of a page of the medium is one of the pages copied
-pub slot_copied : (m : List ℕ) (l d p i : ℕ) → p < d → i < 15 → page_slot (blk m (page_block_at l p)) i ≡ cache_slot (pages_on m l d) (15 * p + i)
+pub slot_copied : (m : List ℕ) (l d p i : ℕ) → p < d → i < 15
+    → page_slot (blk m (page_block_at l p)) i ≡ cache_slot (pages_on m l d) (15 * p + i)
 unfolding page_of
 slot_copied m l d p i h k =
     let e : (15 * p + i) / 15 ≡ p = omega arith in
@@ -247,7 +267,8 @@ abbrev pub Low : List ℕ → Type 0
 Low c = (n : ℕ) → get_or (cache_slot c n) 3 0 ≡ 0
 
 -- beyond the pages there is no byte
-pub low_within : (c : List ℕ) (d : ℕ) → length c ≡ cache_length d → ((n : ℕ) → n < 15 * d → get_or (cache_slot c n) 3 0 ≡ 0) → Low c
+pub low_within : (c : List ℕ) (d : ℕ) → length c ≡ cache_length d
+    → ((n : ℕ) → n < 15 * d → get_or (cache_slot c n) 3 0 ≡ 0) → Low c
 unfolding cache_slot slot_at cache_length
 low_within c d e z n = go (dec_lt n (15 * d))
   where
@@ -272,7 +293,8 @@ unfolding slot_bytes
 byte_low v h = omega arith
 
 -- a version of an old record is put
-pub low_put : (c : List ℕ) (d n e : ℕ) (v : Cell) → length c ≡ cache_length d → v.key < 256 → length v.value ≡ 16 → Low c → Low (put_version c n e v)
+pub low_put : (c : List ℕ) (d n e : ℕ) (v : Cell) → length c ≡ cache_length d → v.key < 256 → length v.value ≡ 16
+    → Low c → Low (put_version c n e v)
 unfolding cache_length
 low_put c d n e v q k w z = go (dec_lt (page_of n) d)
   where
@@ -287,18 +309,21 @@ low_put c d n e v q k w z = go (dec_lt (page_of n) d)
     go (yes h) j = at (omega arith) j (ℕ_discrete j n)
     go (no h) j = rw (put_past c n e v (omega arith)) (z j)
 
-low_if : (t : Bool) (d : ℕ) (r : Redone) (h : VersionHead) (v : List ℕ) (x : Placed) → length r.cache ≡ cache_length d → Small (version h v) → Low r.cache
+low_if : (t : Bool) (d : ℕ) (r : Redone) (h : VersionHead) (v : List ℕ) (x : Placed) → length r.cache ≡ cache_length d
+    → Small (version h v) → Low r.cache
     → Low (redo_if t r h v x).cache
 unfolding cell_for
 low_if true d r h v x q s z = low_put r.cache d h.slot x.end (cell_for h v) q s.1 s.2 z
 low_if false d r h v x q s z = z
 
-low_record : (k : Record) (d : ℕ) (r : Redone) (x : Placed) → length r.cache ≡ cache_length d → Small k → Low r.cache → Low (redo_record k r x).cache
+low_record : (k : Record) (d : ℕ) (r : Redone) (x : Placed) → length r.cache ≡ cache_length d → Small k → Low r.cache
+    → Low (redo_record k r x).cache
 low_record (version h v) d r x q s z = low_if (applies r.cache h x.end) d r h v x q s z
 low_record (commit p) d r x q s z = z
 
 -- so after the log
-pub low_redo : (d : ℕ) (r : Redone) (xs : List Placed) → length r.cache ≡ cache_length d → Each (λ (x : Placed). Small x.rec) xs → Low r.cache
+pub low_redo : (d : ℕ) (r : Redone) (xs : List Placed) → length r.cache ≡ cache_length d
+    → Each (λ (x : Placed). Small x.rec) xs → Low r.cache
     → Low (redo r xs).cache
 unfolding redo redo_one
 low_redo d r [] q s z = z

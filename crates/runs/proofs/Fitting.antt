@@ -1,5 +1,6 @@
 -- A call that is not refused 16 leaves a state that fits. A refusal leaves all as it was, which fits since question 16
--- was answered yes; a step changes only slots, tail, places and first changes, within the bounds that its questions ask.
+-- was answered yes; a step changes only slots, tail, places and first changes, within the bounds that its questions
+-- ask.
 use mathlib.Core.Path.{◌≡◌, refl, sym, ap, subst, ◌∙◌}
 use mathlib.Core.Bool.{Bool, true, false, ◌&&◌, ◌||◌}
 use mathlib.Core.Option.{some}
@@ -20,7 +21,8 @@ use Rattle.fields.proofs.Choose.{and_1}
 use Rattle.fields.proofs.BlockLaws.{length_put}
 use Rattle.layout.proofs.CacheLaws.{length_put_version}
 use Rattle.layout.proofs.RecordLaws.{bytes_few}
-use Rattle.layout.proofs.JournalLaws.{length_empty_block, sequence_empty_block, used_empty_block, length_add_record, sequence_add_record, used_add_record}
+use Rattle.layout.proofs.JournalLaws.{length_empty_block, sequence_empty_block, used_empty_block, length_add_record}
+use Rattle.layout.proofs.JournalLaws.{sequence_add_record, used_add_record}
 use Rattle.store.specs.declared.Place.{Place}
 use Rattle.store.specs.declared.Phase.{Phase}
 use Rattle.store.specs.declared.Phase.TheVariants.{Idle, FirstStored, SecondStored}
@@ -42,11 +44,15 @@ use Rattle.store.specs.Commit.{committed, commit_step}
 use Rattle.store.specs.StoreLog.{log_stored, store_log_if}
 use Rattle.store.specs.StorePage.{stamp_time, lower_at, settle_with, settle_from, settled, page_stored, store_page_if}
 use Rattle.store.specs.Checkpoint.{checkpoint_step}
-use Rattle.runs.specs.Event.{Call, begin, write, erase, current_read, commit as commit_call, abort, as_of, changes, store_log, store_page, checkpoint}
+use Rattle.runs.specs.Event.{Call, begin, write, erase, current_read, commit as commit_call, abort, as_of, changes}
+use Rattle.runs.specs.Event.{store_log, store_page, checkpoint}
 use Rattle.runs.specs.Machine.{called}
 use Rattle.store.proofs.AskLaws.{Passed}
 use Rattle.store.proofs.FitLaws.{TailFit, Fit, fit_of, fit_is}
-use Rattle.runs.proofs.Asks.{asks, Way, refused, begins, writes, erases, looks, commits, ends, aborts, logs, pages, checks, way}
+use Rattle.runs.proofs.Asks.{asks, Way, refused, begins, writes, erases, looks, commits, ends, aborts, logs, pages}
+use Rattle.runs.proofs.Asks.{checks, way}
+use Rattle.layout.specs.Slot.{slot_state}
+use Rattle.layout.specs.Page.{page_slot}
 
 -- ---- the tail once a record is taken
 
@@ -79,7 +85,8 @@ small (version h v) = omega (arith, bytes_few h.width)
 small (commit p) = omega arith
 
 -- question 8 keeps the next block's sequence below 2^48
-pub logged_fits : (s : State) (m : List ℕ) (r : Record) → TailFit s.tail → may_log s m (record_size r) ≡ true → TailFit (logged s m r).tail
+pub logged_fits : (s : State) (m : List ℕ) (r : Record) → TailFit s.tail → may_log s m (record_size r) ≡ true
+    → TailFit (logged s m r).tail
 unfolding logged logged_if may_log tail_fits
 logged_fits s m r f e = go (leb (used_of s.tail + record_size r) 512) refl e
   where
@@ -106,7 +113,10 @@ pub length_settle_from : (pair : ℕ → Timing) (old : List Place) (page : List
     → length (settle_from pair old page ps i k) ≡ length ps
 unfolding settle_from
 length_settle_from pair old page ps i zero = refl
-length_settle_from pair old page ps i (suc k) = length_settle_from pair old page _ (i + 1) k ∙ one (stamp_time pair _) _
+length_settle_from pair old page ps i (suc k) =
+    let x = slot_state (page_slot page i) in
+    let settled = settle_with (stamp_time pair x) x old ps in
+    length_settle_from pair old page settled (i + 1) k ∙ one (stamp_time pair x) x
   where
     lower : (f : Found) → length (lower_at f ps) ≡ length ps
     lower (At j) = length-set ps j _
@@ -121,7 +131,8 @@ length_settle_from pair old page ps i (suc k) = length_settle_from pair old page
 -- ---- the first question
 
 -- every call asks first whether state and buffers fit
-first_asked : (m c : List ℕ) (s : State) (k : Call) → asks m c s k ≡ (fits s (length m) (length c), Unfit) ∷ drop 1 (asks m c s k)
+first_asked : (m c : List ℕ) (s : State) (k : Call) → asks m c s k
+    ≡ (fits s (length m) (length c), Unfit) ∷ drop 1 (asks m c s k)
 first_asked m c s (begin clock) = refl
 first_asked m c s (write n key v) = refl
 first_asked m c s (erase n key) = refl
@@ -143,7 +154,8 @@ module _ (m c : List ℕ) (s : State) where
   passed_fit k p = fit_of s _ _ (subst Passed (first_asked m c s k) p).0
 
   pub refused_fit : (k : Call) (r : Refusal) → ask (asks m c s k) ≡ some r → (Refused r ≡ Refused Unfit → ⊥) → Fitting
-  refused_fit k r e h = fit_of s _ _ (go (fits s (length m) (length c)) (drop 1 (asks m c s k)) (ap ask (sym (first_asked m c s k)) ∙ e))
+  refused_fit k r e h =
+      fit_of s _ _ (go (fits s (length m) (length c)) (drop 1 (asks m c s k)) (ap ask (sym (first_asked m c s k)) ∙ e))
     where
       go : (b : Bool) (qs : List (Bool × Refusal)) → ask ((b, Unfit) ∷ qs) ≡ some r → b ≡ true
       go true qs e = refl
@@ -194,8 +206,10 @@ write_fits m c s i h v k a b = record {
   first = length-set s.first _ _ ∙ k.first;
 }
 
-leaves_way : {m c : List ℕ} {s : State} {k : Call} {o : Outcome} → Way m c s k o → (o.answer ≡ Refused Unfit → ⊥) → Leaves o
-unfolding begun commit_step committed store_log_if log_stored stored_tail store_page_if page_stored settled checkpoint_step record_size new_head bytes_of
+leaves_way : {m c : List ℕ} {s : State} {k : Call} {o : Outcome} → Way m c s k o
+    → (o.answer ≡ Refused Unfit → ⊥) → Leaves o
+unfolding begun commit_step committed store_log_if log_stored stored_tail store_page_if page_stored settled
+    checkpoint_step record_size new_head bytes_of
 leaves_way {m} {c} {s} (refused k r w) h = refused_fit m c s k r w h
 leaves_way {m} {c} {s} (begins clock i p w) h =
     let k : Fitting m c s = fit_of s _ _ p.0 in
@@ -254,7 +268,8 @@ leaves_way {m} {c} {s} (checks (SecondStored o t) p w) h = phase_fits m c s _ 0 
 
 -- ---- each call
 
-pub call_leaves : (m c : List ℕ) (s : State) (k : Call) → ((called m c s k).answer ≡ Refused Unfit → ⊥) → Leaves (called m c s k)
+pub call_leaves : (m c : List ℕ) (s : State) (k : Call) → ((called m c s k).answer ≡ Refused Unfit → ⊥)
+    → Leaves (called m c s k)
 call_leaves m c s k h = leaves_way (way m c s k) h
 
 pub call_fits : (m c : List ℕ) (s : State) (k : Call) → ((called m c s k).answer ≡ Refused Unfit → ⊥)

@@ -35,7 +35,8 @@ use Rattle.store.specs.Open.{open_of}
 use Rattle.store.specs.Format.{format_asks, fresh_medium, format_if, format_of}
 use Rattle.runs.specs.Event.{Call}
 use Rattle.runs.specs.Machine.{called}
-use Rattle.runs.proofs.Asks.{asked, given, Way, refused, begins, writes, erases, looks, commits, ends, aborts, logs, pages, checks, way}
+use Rattle.runs.proofs.Asks.{asked, given, Way, refused, begins, writes, erases, looks, commits, ends, aborts, logs}
+use Rattle.runs.proofs.Asks.{pages, checks, way}
 use Rattle.runs.proofs.Refusals.{Opening, bad_sizes, bad_cache, malformed, opened, opening_way}
 use Rattle.runs.proofs.OneBlock.{stores, stores_length}
 
@@ -73,7 +74,8 @@ lengths m c s k = record {
 
 -- ---- opening
 
-length_redo_if : (t : Bool) (d : Redone) (h : VersionHead) (v : List ℕ) (x : Placed) → length (redo_if t d h v x).cache ≡ length d.cache
+length_redo_if : (t : Bool) (d : Redone) (h : VersionHead) (v : List ℕ) (x : Placed)
+    → length (redo_if t d h v x).cache ≡ length d.cache
 length_redo_if true d h v x = length_put_version d.cache _ _ _
 length_redo_if false d h v x = refl
 

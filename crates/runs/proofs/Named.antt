@@ -1,5 +1,5 @@
--- The call that `relief` names is accepted, whatever state, medium and cache are: it is named only where each of its questions is
--- answered "yes".
+-- The call that `relief` names is accepted, whatever state, medium and cache are: it is named only where each of its
+-- questions is answered "yes".
 use Prim.Native.Nat.{ℕ}
 use mathlib.Core.Path.{◌≡◌, refl}
 use mathlib.Core.Bool.{Bool, true, false, cond, false≢true}
@@ -53,10 +53,13 @@ module _ (l d : ℕ) (m c : List ℕ) (s : State) where
   checkpoint_done e = rw (all_yes_law (checkpoint_asks s m c) (rw e)) (step_done s.phase)
 
   -- the log does not differ
-  after_log_law : fits s (length m) (length c) ≡ true → (f : Found) → page_left s m c ≡ f → (more : Bool) → AllAccepted (trace l d (up m c s) (named (after_log f more)))
+  after_log_law : fits s (length m) (length c) ≡ true → (f : Found) → page_left s m c ≡ f → (more : Bool)
+      → AllAccepted (trace l d (up m c s) (named (after_log f more)))
   unfolding page_left trace
   after_log_law h (At p) e more =
-      one_call (store_page p) (page_done p (all_yes_law (store_page_asks s m c p) (first_found (λ i. all_yes (store_page_asks s m c i)) s.pages 0 p e).2))
+      one_call (store_page p) (page_done p
+      (all_yes_law (store_page_asks s m c p)
+      (first_found (λ i. all_yes (store_page_asks s m c i)) s.pages 0 p e).2))
   after_log_law h Nothing e true = one_call checkpoint (checkpoint_done h)
   after_log_law h Nothing e false = tt
 
@@ -65,11 +68,15 @@ module _ (l d : ℕ) (m c : List ℕ) (s : State) where
   named_accepted = go (fits s (length m) (length c)) refl
     where
       log : (t : Bool) → all_yes (store_log_asks s m c) ≡ t → fits s (length m) (length c) ≡ true
-          → AllAccepted (trace l d (up m c s) (named (cond t StoreLog (after_log (page_left s m c) (checkpoint_left s m)))))
+          → AllAccepted (trace l d (up m c s)
+          (named (cond t StoreLog (after_log (page_left s m c) (checkpoint_left s m)))))
       log true e h = one_call store_log (log_done (all_yes_law (store_log_asks s m c) e))
       log false e h = after_log_law h (page_left s m c) refl (checkpoint_left s m)
 
       go : (t : Bool) → fits s (length m) (length c) ≡ t
-          → AllAccepted (trace l d (up m c s) (named (cond t (cond (all_yes (store_log_asks s m c)) StoreLog (after_log (page_left s m c) (checkpoint_left s m))) NothingLeft)))
+          → AllAccepted (trace l d (up m c s)
+          (named
+          (cond t (cond (all_yes (store_log_asks s m c)) StoreLog (after_log (page_left s m c) (checkpoint_left s m)))
+          NothingLeft)))
       go true h = log (all_yes (store_log_asks s m c)) refl h
       go false h = tt

@@ -31,9 +31,11 @@ use Rattle.store.specs.StoreLog.{store_log_if}
 use Rattle.store.specs.StorePage.{stamp_time, stamp_with, stamp_from, stored_pair, stamped_page, store_page_if}
 use Rattle.store.specs.Checkpoint.{pairs_from, table_block, checkpoint_step}
 use Rattle.store.specs.Open.{open_of}
-use Rattle.runs.specs.Event.{Call, begin, write, erase, current_read, commit, abort, as_of, changes, store_log, store_page, checkpoint}
+use Rattle.runs.specs.Event.{Call, begin, write, erase, current_read, commit, abort, as_of, changes, store_log}
+use Rattle.runs.specs.Event.{store_page, checkpoint}
 use Rattle.runs.specs.Machine.{called}
-use Rattle.runs.proofs.Asks.{Way, refused, begins, writes, erases, looks, commits, ends, aborts, logs, pages, checks, way}
+use Rattle.runs.proofs.Asks.{Way, refused, begins, writes, erases, looks, commits, ends, aborts, logs, pages, checks}
+use Rattle.runs.proofs.Asks.{way}
 use Rattle.store.proofs.FitLaws.{fit_of}
 use Rattle.store.proofs.LengthLaws.{length_stamp_with, length_pairs_from}
 use Rattle.runs.proofs.Refusals.{open_medium}
@@ -133,7 +135,8 @@ stores_way {s = s} (checks (SecondStored o t) p w) = rw w (block _ (length_maste
 pub stores : (m c : List ℕ) (s : State) (k : Call) → Stores m (store_block s k) (called m c s k).medium
 stores m c s k = stores_way (way m c s k)
 
-pub one_block : (m c : List ℕ) (s : State) (k : Call) → (b : ℕ) × ((j : ℕ) → j ≢ b → blk (called m c s k).medium j ≡ blk m j)
+pub one_block : (m c : List ℕ) (s : State) (k : Call) → (b : ℕ)
+    × ((j : ℕ) → j ≢ b → blk (called m c s k).medium j ≡ blk m j)
 one_block m c s k = (store_block s k, stores_other (stores m c s k))
 
 -- opening stores none

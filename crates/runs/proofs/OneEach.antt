@@ -1,10 +1,11 @@
--- Each event makes at most one store: a call leaves the medium alone or replaces one block (OneBlock), and openings and cuts
--- leave it alone.
+-- Each event makes at most one store: a call leaves the medium alone or replaces one block (OneBlock), and openings and
+-- cuts leave it alone.
 use Prim.Native.Nat.{ℕ}
 use mathlib.Core.Path.{◌≡◌, refl, sym, subst}
 use mathlib.Core.List.{List, [], ◌∷◌}
 use Rattle.store.specs.declared.Answer.{Answer}
-use Rattle.store.specs.declared.Answer.TheVariants.{Refused, Done, Begun, Written, Committed, Opened, Missing, Erased, Present, Listed}
+use Rattle.store.specs.declared.Answer.TheVariants.{Refused, Done, Begun, Written, Committed, Opened, Missing, Erased}
+use Rattle.store.specs.declared.Answer.TheVariants.{Present, Listed}
 use Rattle.store.specs.Answer.{Outcome}
 use Rattle.store.specs.Open.{open_of}
 use Rattle.runs.specs.Event.{Event, opening, cut, call}
@@ -13,7 +14,8 @@ use Rattle.runs.specs.Relief.{OneStore, alone, replaced, OneEach}
 use Rattle.runs.proofs.OneBlock.{Stores, nothing, block, stores}
 use Rattle.runs.proofs.Refusals.{open_medium}
 
-opened_alone : (a : Answer) (w : World) (o : Outcome) → o.medium ≡ medium_of w → medium_of (opened_to a w o) ≡ medium_of w
+opened_alone : (a : Answer) (w : World) (o : Outcome) → o.medium ≡ medium_of w
+    → medium_of (opened_to a w o) ≡ medium_of w
 opened_alone (Refused r) w o e = refl
 opened_alone Done w o e = e
 opened_alone (Begun n) w o e = e
@@ -26,13 +28,18 @@ opened_alone Present w o e = e
 opened_alone (Listed k) w o e = e
 
 pub one_of : {m n : List ℕ} {k : ℕ} → Stores m k n → OneStore m n
-one_of nothing = alone
-one_of {k = k} (block b e) = replaced k b e
+one_of {m = m} s = go s
+  where
+    go : {k : ℕ} {n : List ℕ} → Stores m k n → OneStore m n
+    go nothing = alone
+    go {k = k} (block b e) = replaced k b e
 
 one_store : (l d : ℕ) (w : World) (e : Event) → OneStore (medium_of w) (medium_of (step l d w e).world)
 unfolding step opens
 one_store l d w (opening c) =
-    subst (OneStore (medium_of w)) (sym (opened_alone (open_of (medium_of w) c l d).answer w (open_of (medium_of w) c l d) (open_medium (medium_of w) c l d))) alone
+    subst (OneStore (medium_of w))
+    (sym (opened_alone (open_of (medium_of w) c l d).answer w (open_of (medium_of w) c l d)
+    (open_medium (medium_of w) c l d))) alone
 one_store l d w cut = alone
 one_store l d (down m) (call k) = alone
 one_store l d (up m c s) (call k) = one_of (stores m c s k)

@@ -31,10 +31,11 @@ use Rattle.store.specs.Answer.{Outcome}
 use Rattle.store.specs.Places.{first, place_at, is_free}
 use Rattle.store.specs.State.{in_range, fits}
 use Rattle.store.specs.Write.{cell_for, touched}
-use Rattle.store.specs.OpenLog.{Placed, block_of, matching, read_count, tail_after, read_tail, read_log}
-use Rattle.store.specs.OpenRedo.{pages_on, Redone, applies, redo_if, redo_record, redo_one, redo, used_in, untouched}
-use Rattle.store.specs.OpenPairs.{table_places, take_at, take_free, open_places}
-use Rattle.store.specs.OpenConditions.{Checks, holds, all_hold, each, table_checks, block_checks, sizes_are, forms_of, fields_in_form, sequences_in_range, conditions, well_formed, copied, redone}
+use Rattle.store.specs.OpenLog.{Placed, block_of, matching, read_count, tail_after, read_tail, read_log, commit_under}
+use Rattle.store.specs.OpenRedo.{Redone, applies, redo_if, redo_record, redo_one, redo, used_in, untouched}
+use Rattle.store.specs.OpenPairs.{table_places, take_at, take_free, open_places, live_place, time_or_zero}
+use Rattle.store.specs.OpenConditions.{Checks, holds, all_hold, each, table_checks, block_checks, sizes_are, forms_of}
+use Rattle.store.specs.OpenConditions.{fields_in_form, sequences_in_range, conditions, well_formed, copied, redone}
 use Rattle.store.specs.Open.{opened_state, open_of}
 use Rattle.store.proofs.FitLaws.{InRange, TailFit, Fit, range_of, fit_is}
 use Rattle.store.proofs.CopyLaws.{page_copied}
@@ -73,18 +74,22 @@ pub length_take_free : (m : List ℕ) (log : List Placed) (c : List ℕ) (slots 
 unfolding take_free
 length_take_free m log c slots ps [] = refl
 length_take_free m log c slots ps (n ∷ ns) =
-    length_take_free m log c slots _ ns ∙ one (first (λ i. is_free (place_at ps i).life) 64 0) _
+    let p = live_place m log c slots n (time_or_zero (commit_under log n)) in
+    length_take_free m log c slots (take_at (first (λ i. is_free (place_at ps i).life) 64 0) ps p) ns
+    ∙ one (first (λ i. is_free (place_at ps i).life) 64 0) p
   where
     one : (f : Found) (p : Place) → length (take_at f ps p) ≡ length ps
     one (At i) p = length-set ps i p
     one Nothing p = refl
 
-pub length_table_places : (m : List ℕ) (log : List Placed) (c : List ℕ) (slots i k : ℕ) → length (table_places m log c slots i k) ≡ k
+pub length_table_places : (m : List ℕ) (log : List Placed) (c : List ℕ) (slots i k : ℕ)
+    → length (table_places m log c slots i k) ≡ k
 unfolding table_places
 length_table_places m log c slots i zero = refl
 length_table_places m log c slots i (suc k) = ap suc (length_table_places m log c slots (i + 1) k)
 
-pub length_open_places : (m : List ℕ) (log : List Placed) (c : List ℕ) (slots : ℕ) → length (open_places m log c slots) ≡ 64
+pub length_open_places : (m : List ℕ) (log : List Placed) (c : List ℕ) (slots : ℕ)
+    → length (open_places m log c slots) ≡ 64
 unfolding open_places
 length_open_places m log c slots = length_take_free m log c slots _ _ ∙ length_table_places m log c slots 0 64
 
@@ -102,7 +107,8 @@ unfolding put_version blk put
 page_before c n e v p h = part_before c (512 * page_of n) _ (512 * p) 512 (omega arith)
 
 -- a version in any slot n: the page has n mod 15 + 1 used slots then, the others what they had
-put_used : (c : List ℕ) (d n e : ℕ) (v : Cell) → length c ≡ cache_length d → ((p : ℕ) → p < d → page_used (blk c p) ≤ 15)
+put_used : (c : List ℕ) (d n e : ℕ) (v : Cell) → length c ≡ cache_length d
+    → ((p : ℕ) → p < d → page_used (blk c p) ≤ 15)
     → (p : ℕ) → p < d → page_used (blk (put_version c n e v) p) ≤ 15
 unfolding cache_length
 put_used c d n e v len few p h = go (dec_lt p (page_of n)) (dec_lt (page_of n) p)
@@ -113,7 +119,8 @@ put_used c d n e v len few p h = go (dec_lt p (page_of n)) (dec_lt (page_of n) p
     go (no a) (no b) =
         let w : 512 * page_of n + 512 ≤ length c = omega arith in
         let q : p ≡ page_of n = omega arith in
-        let u : page_used (put_cell (blk c (page_of n)) (n % 15) e v) ≡ n % 15 + 1 = put_cell_used (blk c (page_of n)) (n % 15) e v (length_blk c (page_of n) w) in
+        let u : page_used (put_cell (blk c (page_of n)) (n % 15) e v) ≡ n % 15 + 1 =
+        put_cell_used (blk c (page_of n)) (n % 15) e v (length_blk c (page_of n) w) in
         rw (q, put_version_page c n w e v) (omega arith)
 
 pub one_sound : (d : ℕ) (r : Redone) (x : Placed) → Sound d r → Sound d (redo_one r x)
@@ -148,10 +155,12 @@ used_few c (suc d) few = omega (arith, few d (omega arith), used_few c d (λ p h
 pub matching_at : (m : List ℕ) (l s k n : ℕ) → s ≤ n → n < s + matching m l s k → sequence_of (block_of m l n) ≡ n
 unfolding matching
 matching_at m l s zero n lo hi = absurd (omega arith)
-matching_at m l s (suc k) n lo hi = go (eqb (sequence_of (block_of m l s)) s) refl hi (λ a b. matching_at m l (s + 1) k n a b)
+matching_at m l s (suc k) n lo hi =
+    go (eqb (sequence_of (block_of m l s)) s) refl hi (λ a b. matching_at m l (s + 1) k n a b)
   where
     go : (t : Bool) → eqb (sequence_of (block_of m l s)) s ≡ t → n < s + cond t (suc (matching m l (s + 1) k)) 0
-        → (s + 1 ≤ n → n < s + 1 + matching m l (s + 1) k → sequence_of (block_of m l n) ≡ n) → sequence_of (block_of m l n) ≡ n
+        → (s + 1 ≤ n → n < s + 1 + matching m l (s + 1) k → sequence_of (block_of m l n) ≡ n)
+        → sequence_of (block_of m l n) ≡ n
     go false t h ih = absurd (omega arith)
     go true t h ih = further (dec_lt s n)
       where
@@ -180,7 +189,8 @@ module _ (m : List ℕ) (l d : ℕ) (well : well_formed m l d ≡ true) where
   blocks_pages : holds (block_checks m l d block_form ++ each page_check 0 d) ≡ true
   unfolding fields_in_form holds
   blocks_pages =
-      holds_right (table_checks (λ i. pair_form (table_pair m i))) _ (and_1 (sizes_are (master_of (blk m 0)) l d) _ fields_hold)
+      holds_right (table_checks (λ i. pair_form (table_pair m i))) _
+      (and_1 (sizes_are (master_of (blk m 0)) l d) _ fields_hold)
 
   -- s is the sequence of a block read
   module _ (s : ℕ) (lo : oldest_on m ≤ s) (hi : s < oldest_on m + read_count m l) where
@@ -188,7 +198,8 @@ module _ (m : List ℕ) (l d : ℕ) (well : well_formed m l d ≡ true) where
     unfolding block_checks
     block_used =
         let e : block_form s ≡ true =
-        holds_each (λ n. (block_form n, log_block_at l n)) (oldest_on m) (read_count m l) s lo hi (holds_left (block_checks m l d block_form) _ blocks_pages) in
+        holds_each (λ n. (block_form n, log_block_at l n)) (oldest_on m) (read_count m l) s lo hi
+        (holds_left (block_checks m l d block_form) _ blocks_pages) in
         and_0 (used_form (block_of m l s)) _ e
 
     pub block_range : (1 ≤ s) × (s < 2 ^ 48)
@@ -206,11 +217,16 @@ module _ (m : List ℕ) (l d : ℕ) (well : well_formed m l d ≡ true) where
   pub oldest_range : (1 ≤ oldest_on m) × (oldest_on m < 2 ^ 48)
   unfolding sequences_in_range holds
   oldest_range =
-      let e : leb 1 (oldest_on m) && ltb (oldest_on m) (2 ^ 48) ≡ true = and_0 (leb 1 (oldest_on m) && ltb (oldest_on m) (2 ^ 48)) _ sequences_hold in
-      (leb-true 1 (oldest_on m) (and_0 (leb 1 (oldest_on m)) _ e), ltb-true (oldest_on m) (2 ^ 48) (and_1 (leb 1 (oldest_on m)) _ e))
+      let e : leb 1 (oldest_on m) && ltb (oldest_on m) (2 ^ 48) ≡ true =
+      and_0 (leb 1 (oldest_on m) && ltb (oldest_on m) (2 ^ 48)) _ sequences_hold in (
+        leb-true 1 (oldest_on m) (and_0 (leb 1 (oldest_on m)) _ e),
+        ltb-true (oldest_on m) (2 ^ 48) (and_1 (leb 1 (oldest_on m)) _ e),
+      )
 
   pub page_in_form : (p : ℕ) → p < d → page_form (blk m (page_block_at l p)) ≡ true
-  page_in_form p h = holds_each page_check 0 d p (omega arith) (omega arith) (holds_right (block_checks m l d block_form) _ blocks_pages)
+  page_in_form p h =
+      holds_each page_check 0 d p (omega arith) (omega arith)
+      (holds_right (block_checks m l d block_form) _ blocks_pages)
 
   -- ---- the opened state
 

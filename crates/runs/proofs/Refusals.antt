@@ -1,5 +1,5 @@
--- What calls leave alone, for every state, medium and cache. Each claim is read off from the ways in which a call ends: a
--- refusal leaves all as it was, and the steps of begin, abort, reads and lists write neither medium nor cache.
+-- What calls leave alone, for every state, medium and cache. Each claim is read off from the ways in which a call ends:
+-- a refusal leaves all as it was, and the steps of begin, abort, reads and lists write neither medium nor cache.
 use Prim.Native.Nat.{ℕ}
 use native.Mathlib.Omega.{arith}
 use mathlib.Core.Path.{◌≡◌, refl, ◌∙◌}
@@ -26,10 +26,12 @@ use Rattle.store.specs.Open.{open_asks, opened_state, refused_cache, open_if, op
 use Rattle.store.specs.OpenLog.{last_time}
 use Rattle.store.specs.OpenConditions.{well_formed, redone}
 use Rattle.store.specs.Format.{format_asks, format_if, format_of}
-use Rattle.runs.specs.Event.{Call, begin, write, erase, current_read, commit, abort, as_of, changes, store_log, store_page, checkpoint}
+use Rattle.runs.specs.Event.{Call, begin, write, erase, current_read, commit, abort, as_of, changes, store_log}
+use Rattle.runs.specs.Event.{store_page, checkpoint}
 use Rattle.runs.specs.Machine.{called}
 use Rattle.store.proofs.AskLaws.{Passed, passes}
-use Rattle.runs.proofs.Asks.{asked, is_refused, not_refused, asks, given, is_reading, Way, refused, begins, writes, erases, looks, commits, ends, aborts, logs, pages, checks, way}
+use Rattle.runs.proofs.Asks.{asked, is_refused, not_refused, asks, given, is_reading, Way, refused, begins, writes}
+use Rattle.runs.proofs.Asks.{erases, looks, commits, ends, aborts, logs, pages, checks, way}
 
 -- ---- a refused call
 
@@ -43,12 +45,14 @@ pub record Untouched (m c b : List ℕ) (s : State) (o : Outcome) : Type 0 where
 
 -- refused by the first "no", or all questions passed
 data Ended (m c : List ℕ) (s : State) (k : Call) (o : Outcome) : Type 0 where
-  by_no : (r : Refusal) → ask (asks m c s k) ≡ some r → o.answer ≡ Refused r → Untouched m c (given k) s o → Ended m c s k o
+  by_no : (r : Refusal) → ask (asks m c s k) ≡ some r → o.answer ≡ Refused r → Untouched m c (given k) s o
+      → Ended m c s k o
   by_step : Passed (asks m c s k) → is_refused o.answer ≡ false → Ended m c s k o
 
 ended : {m c : List ℕ} {s : State} {k : Call} {o : Outcome} → Way m c s k o → Ended m c s k o
 unfolding write_step commit_step store_log_if store_page_if checkpoint_step
-ended (refused k r w) = by_no r w refl (record { state = refl; medium = refl; cache = refl; buffer = refl; value = refl })
+ended (refused k r w) =
+    by_no r w refl (record { state = refl; medium = refl; cache = refl; buffer = refl; value = refl })
 ended (begins clock i p w) = by_step p refl
 ended (writes n key i v p w) = by_step p refl
 ended (erases n key i p w) = by_step p refl
@@ -173,7 +177,8 @@ pub record Unopened (m c : List ℕ) (r : Refusal) (o : Outcome) : Type 0 where
   pub buffer : o.buffer ≡ []
   pub value : o.value ≡ zeros 16
 
-pub open_refusal_leaves : (m c : List ℕ) (l d : ℕ) (r : Refusal) → (open_of m c l d).answer ≡ Refused r → Unopened m c r (open_of m c l d)
+pub open_refusal_leaves : (m c : List ℕ) (l d : ℕ) (r : Refusal) → (open_of m c l d).answer ≡ Refused r
+    → Unopened m c r (open_of m c l d)
 open_refusal_leaves m c l d r e = go (opening_way m c l d) e
   where
     early : (q : Refusal) → q ≢ Malformed → q ≡ r → Unopened m c r (refuses q no_state m c)
@@ -211,7 +216,8 @@ open_medium m c l d = go (opening_way m c l d)
 
 -- ---- formatting
 
-pub format_refusal_leaves : (m : List ℕ) (l d : ℕ) (r : Refusal) → (format_of m l d).answer ≡ Refused r → (format_of m l d).medium ≡ m
+pub format_refusal_leaves : (m : List ℕ) (l d : ℕ) (r : Refusal) → (format_of m l d).answer ≡ Refused r
+    → (format_of m l d).medium ≡ m
 unfolding format_of format_if
 format_refusal_leaves m l d r =
     asked (λ (a : Option Refusal). (format_if a m l d).answer ≡ Refused r → (format_if a m l d).medium ≡ m)

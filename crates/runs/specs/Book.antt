@@ -1,8 +1,11 @@
 -- The book of 01's 'Runs and their book', and what it answers. It knows calls, cuts, answers and whether a log block
 -- changed, and nothing of the store.
-use Rattle.std.specs.Prelude.{ℕ, zero, suc, ◌+◌, ◌*◌, ◌/◌, ◌%◌, max, ◌≡◌, Bool, true, false, cond, not, ◌&&◌, ◌||◌, List, [], ◌∷◌, ◌++◌, length, take, drop, replicate, eqb, leb, ltb}
+use Rattle.std.specs.Prelude.{ℕ, zero, suc, ◌+◌, ◌*◌, ◌/◌, ◌%◌, max, ◌≡◌, Bool, true, false, cond, not, ◌&&◌, ◌||◌}
+use Rattle.std.specs.Prelude.{List, [], ◌∷◌, ◌++◌, length, take, drop, replicate, eqb, leb, ltb}
 use Rattle.std.proofs.Math.Option.{Option, none, some}
-use Rattle.runs.specs.Event.{Call, Event, opening, cut, call, begin, write, erase, current_read, commit, abort, as_of, changes, store_log, store_page, checkpoint, Strip, missing, erased, present, Sight, Observation}
+use Rattle.runs.specs.Event.{Call, Event, opening, cut, call, begin, write, erase, current_read, commit, abort, as_of}
+use Rattle.runs.specs.Event.{changes, store_log, store_page, checkpoint, Strip, missing, erased, present, Sight}
+use Rattle.runs.specs.Event.{Observation}
 
 -- 01: "a row of number, record, kind, value"
 pub record Version : Type 0 where

@@ -1,7 +1,8 @@
--- The opening as it was before request #104, kept to say that an old medium opens as it did: the readers of a log record and of
--- a slot, and what opening judges and finds by them. Whatever reads neither a record nor a record number is the store's own, and
--- so is the writer of a slot.
-use Rattle.std.specs.Prelude.{ℕ, zero, suc, ◌+◌, ◌-◌, ◌*◌, ◌^◌, ◌<◌, max, ◌≡◌, Bool, true, false, cond, not, ◌&&◌, ◌||◌, List, [], ◌∷◌, ◌++◌, length, get_or, drop, eqb, leb, ltb}
+-- The opening as it was before request #104, kept to say that an old medium opens as it did: the readers of a log
+-- record and of a slot, and what opening judges and finds by them. Whatever reads neither a record nor a record number
+-- is the store's own, and so is the writer of a slot.
+use Rattle.std.specs.Prelude.{ℕ, zero, suc, ◌+◌, ◌-◌, ◌*◌, ◌^◌, ◌<◌, max, ◌≡◌, Bool, true, false, cond, not, ◌&&◌, ◌||◌}
+use Rattle.std.specs.Prelude.{List, [], ◌∷◌, ◌++◌, length, get_or, drop, eqb, leb, ltb}
 use Rattle.std.proofs.Math.Option.{Option, none, some}
 use Rattle.fields.specs.Field.{dec}
 use Rattle.fields.specs.Part.{part}
@@ -31,16 +32,21 @@ use Rattle.store.specs.Answer.{Outcome, leaves, refuses, ask}
 use Rattle.store.specs.State.{in_range, no_state}
 use Rattle.store.specs.Write.{or_none}
 use Rattle.store.specs.Chain.{is_version, version_time}
-use Rattle.store.specs.OpenLog.{Placed, place_from, number_in, above_all, latest, next_on, time_on, block_of, read_count, read_log, read_tail, log_end}
+use Rattle.store.specs.OpenLog.{Placed, place_from, number_in, above_all, latest, next_on, time_on, block_of}
+use Rattle.store.specs.OpenLog.{read_count, read_log, read_tail, log_end}
 use Rattle.store.specs.OpenRedo.{Redone, pages_on, redo, redo_checks, used_in}
 use Rattle.store.specs.OpenPairs.{pair_time, is_paired, waiting_numbers, open_places}
-use Rattle.store.specs.OpenConditions.{Checks, all_hold, each, table_checks, sizes_are, records_fit, low_after_all, log_checks, at_least_one, slot_at_least_one, slot_in_bounds, time_or, not_above, once_checks, block_checks, sequences_in_range, ends_logged, new_in_table, page_checks, full_before, copied}
+use Rattle.store.specs.OpenConditions.{Checks, all_hold, each, table_checks, sizes_are, records_fit, low_after_all}
+use Rattle.store.specs.OpenConditions.{log_checks, at_least_one, slot_at_least_one, slot_in_bounds, time_or, not_above}
+use Rattle.store.specs.OpenConditions.{once_checks, block_checks, sequences_in_range, ends_logged, new_in_table}
+use Rattle.store.specs.OpenConditions.{page_checks, full_before, copied}
 use Rattle.store.specs.Open.{refused_cache, open_of}
 use Rattle.runs.specs.Event.{are_bytes}
 
 -- ---- the earlier reader of a log record
 
--- 01: "Tag 1, version, body 30 bytes: slot (2), record number (1), kind (1), earlier slot (2), transaction number (8), value (16)"
+-- 01: "Tag 1, version, body 30 bytes: slot (2), record number (1), kind (1), earlier slot (2), transaction number (8),
+-- value (16)"
 unfoldable pub head_before : List ℕ → VersionHead
 head_before b = record {
   width = One;
@@ -121,7 +127,8 @@ forms_before (r ∷ rs) = record_form_before r && forms_before rs
 unfoldable pub slots_form_before : List ℕ → ℕ → ℕ → Bool
 slots_form_before p i zero = true
 slots_form_before p i (suc k) =
-    cond (ltb i (page_used p)) (slot_form_before (page_slot p i)) (all_zero (page_slot p i)) && slots_form_before p (i + 1) k
+    cond (ltb i (page_used p)) (slot_form_before (page_slot p i)) (all_zero (page_slot p i))
+    && slots_form_before p (i + 1) k
 
 -- 01: "used slots, 1; zeros", "then 15 slots": a page is in form
 unfoldable pub page_form_before : List ℕ → Bool
@@ -181,11 +188,14 @@ module _ (m : List ℕ) (l d : ℕ) where
       ++ (block_checks m l d (λ s. used_form (block_of m l s) && forms_before (parsed_before (block_of m l s)).records)
       ++ each (λ p. (page_form_before (blk m (page_block_at l p)), page_block_at l p)) 0 d))
 
-  -- 01: "log records whole, their slots below 15 × D, commit times rising": condition 3, of the k blocks from sequence s on
+  -- 01: "log records whole, their slots below 15 × D, commit times rising": condition 3, of the k blocks from sequence
+  -- s on
   unfoldable pub records_before : ℕ → ℕ → ℕ → Checks
   records_before low s zero = []
-  records_before low s (suc k) =
-      (records_fit d low (parsed_before (block_of m l s)).records && (parsed_before (block_of m l s)).whole, log_block_at l s)
+  records_before low s (suc k) = (
+    records_fit d low (parsed_before (block_of m l s)).records && (parsed_before (block_of m l s)).whole,
+    log_block_at l s,
+  )
       ∷ records_before (low_after_all low (parsed_before (block_of m l s)).records) (s + 1) k
 
   -- 01: "It copies the pages", "applies version records": the cache and the first changes that redo leaves
@@ -196,7 +206,8 @@ module _ (m : List ℕ) (l d : ℕ) where
   unfoldable pub history_before : Checks
   history_before =
       table_checks (pair_in_bounds_before m l)
-      ++ page_checks m l d redone_before.cache (full_before m l d redone_before.cache) (slot_true_before m l redone_before.cache)
+      ++ page_checks m l d redone_before.cache (full_before m l d redone_before.cache)
+      (slot_true_before m l redone_before.cache)
 
   -- 01: "numbers at least 1, times too but for the master's and an empty place's": condition 7
   unfoldable pub from_one_before : Checks
@@ -204,7 +215,8 @@ module _ (m : List ℕ) (l d : ℕ) where
       (leb 1 (next_on m), 0)
       ∷ (table_checks (λ i. eqb (table_pair m i).number.0 0 || leb 1 (table_pair m i).time.0)
       ++ (log_checks l at_least_one (log_before m l)
-      ++ page_checks m l d redone_before.cache (λ p. true) (λ n. slot_at_least_one (cell_at_before redone_before.cache n).state)))
+      ++ page_checks m l d redone_before.cache (λ p. true)
+      (λ n. slot_at_least_one (cell_at_before redone_before.cache n).state)))
 
   -- 01: "well formed? 3": the ten conditions, in 01's order
   unfoldable pub conditions_before : List Checks
@@ -273,13 +285,14 @@ unfoldable pub old_log : List Placed → Bool
 old_log [] = true
 old_log (x ∷ xs) = old_record x.rec && old_log xs
 
--- 02, #104: "Old media", "their byte 3 is zero": a medium of bytes, no tag 3 in its log, and in its slots no record number above
--- 255
+-- 02, #104: "Old media", "their byte 3 is zero": a medium of bytes, no tag 3 in its log, and in its slots no record
+-- number above 255
 pub record Old (m : List ℕ) (l d : ℕ) : Type 0 where
   pub bytes : are_bytes m ≡ true
   pub log : old_log (read_log m l) ≡ true
   pub slots : (n : ℕ) → n < 15 * d → get_or (cache_slot (pages_on m l d) n) 3 0 ≡ 0
 
--- 02, #104: "Old media open unchanged": answer, state, medium and cache are those of the opening as it was, be it refused or not
+-- 02, #104: "Old media open unchanged": answer, state, medium and cache are those of the opening as it was, be it
+-- refused or not
 unfoldable pub OpensAsBefore : Type 0
 OpensAsBefore = (m c : List ℕ) (l d : ℕ) → Old m l d → open_of m c l d ≡ open_before m c l d

@@ -1,5 +1,6 @@
--- The calls as they were before request #104: no question 18, a version record of 33 bytes under tag 1, and a record's newest version
--- by the earlier reader of a slot. What reads no record number is the store's own, and so are the writers of a slot and of a record.
+-- The calls as they were before request #104: no question 18, a version record of 33 bytes under tag 1, and a record's
+-- newest version by the earlier reader of a slot. What reads no record number is the store's own, and so are the
+-- writers of a slot and of a record.
 use Rattle.std.specs.Prelude.{ℕ, suc, ◌*◌, ◌<◌, Bool, not, List, [], ◌∷◌, ◌++◌, ◌≡◌, length, leb, ltb}
 use Rattle.std.proofs.Math.Option.{Option, none, some}
 use Rattle.fields.specs.Field.{enc}
@@ -22,7 +23,8 @@ use Rattle.store.specs.Write.{or_none, write_at}
 use Rattle.store.specs.CurrentRead.{current_at}
 use Rattle.store.specs.AsOf.{as_of_at}
 use Rattle.store.specs.Changes.{Line, lines_below, changes_if}
-use Rattle.runs.specs.Event.{Call, begin, write, erase, current_read, commit, abort, as_of, changes, store_log, store_page, checkpoint}
+use Rattle.runs.specs.Event.{Call, begin, write, erase, current_read, commit, abort, as_of, changes, store_log}
+use Rattle.runs.specs.Event.{store_page, checkpoint}
 use Rattle.runs.specs.Machine.{called}
 use Rattle.runs.specs.Earlier.{newest_before}
 
@@ -73,8 +75,8 @@ unfoldable pub old_current_if : Option Refusal → State → List ℕ → List �
 old_current_if (some r) s m c n key = refuses r s m c
 old_current_if none s m c n key = current_at (visible_of (newest_before c key s.slots) c (time_under s.places) n) s m c
 
--- 01: "state and buffers fit .. ? 16", "t (t2) not above the last commit time? 10"; 02, #102: "compare their time with the last
--- stored commit time"
+-- 01: "state and buffers fit .. ? 16", "t (t2) not above the last commit time? 10"; 02, #102: "compare their time with
+-- the last stored commit time"
 abbrev pub old_as_of_asks : State → List ℕ → List ℕ → ℕ → List (Bool × Refusal)
 old_as_of_asks s m c t = (fits s (length m) (length c), Unfit) ∷ (leb t s.saved.0, NotYet) ∷ []
 
@@ -87,15 +89,16 @@ old_as_of_if none s m c key t = as_of_at (best_of (newest_before c key s.slots) 
 unfoldable pub old_lines : State → List ℕ → ℕ → ℕ → ℕ → List Line
 old_lines s c key t1 t2 = lines_below c (time_under s.places) (newest_before c key s.slots) t1 (suc (suc t2)) (suc t2)
 
--- 01: "state and buffers fit .. ? 16", "t (t2) not above the last commit time? 10", "answer buffer at least 32 bytes per line
--- listed? 14"; 02, #102: "compare their time with the last stored commit time"
+-- 01: "state and buffers fit .. ? 16", "t (t2) not above the last commit time? 10", "answer buffer at least 32 bytes
+-- per line listed? 14"; 02, #102: "compare their time with the last stored commit time"
 abbrev pub old_changes_asks : State → List ℕ → List ℕ → ℕ → List Line → ℕ → List (Bool × Refusal)
 old_changes_asks s m c t2 ls room =
     (fits s (length m) (length c), Unfit) ∷ (leb t2 s.saved.0, NotYet) ∷ (leb (32 * length ls) room, ShortBuffer) ∷ []
 
 -- ---- each call
 
--- 01: "Each call gets the state, medium and cache": the outcome of a call on an open store; those that name no record are as they were
+-- 01: "Each call gets the state, medium and cache": the outcome of a call on an open store; those that name no record
+-- are as they were
 unfoldable pub old_called : List ℕ → List ℕ → State → Call → Outcome
 old_called m c s (begin k) = called m c s (begin k)
 old_called m c s (write n key v) = old_if (ask (old_asks s m c n key)) s m c n key 0 v
@@ -112,19 +115,22 @@ old_called m c s checkpoint = called m c s checkpoint
 
 -- ---- the bytes that were written
 
--- 01: "Slot bytes: 0 state, 1 record number, 2 kind (0 present, 1 erased), 3 zero, 4-5 earlier slot of that record (65535: none), 6-7
--- zero, 8-15 number or time, 16-31 value"
+-- 01: "Slot bytes: 0 state, 1 record number, 2 kind (0 present, 1 erased), 3 zero, 4-5 earlier slot of that record
+-- (65535: none), 6-7 zero, 8-15 number or time, 16-31 value"
 unfoldable pub slot_before : Cell → List ℕ
 slot_before c =
     code_of c.state ∷ c.key ∷ c.kind ∷ 0 ∷
     (enc 2 c.earlier ++ (0 ∷ 0 ∷ (enc 8 (shared_field c.state) ++ c.value)))
 
--- 01: "Tag 1, version, body 30 bytes: slot (2), record number (1), kind (1), earlier slot (2), transaction number (8), value (16)"
+-- 01: "Tag 1, version, body 30 bytes: slot (2), record number (1), kind (1), earlier slot (2), transaction number (8),
+-- value (16)"
 unfoldable pub version_before : VersionHead → List ℕ → List ℕ
 version_before h v =
     item_bytes 1 (enc 2 h.slot ++ (h.key ∷ h.kind ∷ (enc 2 h.earlier ++ (enc 8 h.number.0 ++ v))))
 
--- 02, #104: "Old media": on a record number of one byte the store writes a slot, and under tag 1 a version record, as it did
+-- 02, #104: "Old media": on a record number of one byte the store writes a slot, and under tag 1 a version record, as
+-- it did
 pub record WritesAsBefore : Type 0 where
   pub slot : (c : Cell) → c.key < 256 → slot_bytes c ≡ slot_before c
-  pub logged : (h : VersionHead) (v : List ℕ) → h.width ≡ One → h.key < 256 → record_bytes (version h v) ≡ version_before h v
+  pub logged : (h : VersionHead) (v : List ℕ) → h.width ≡ One → h.key < 256
+      → record_bytes (version h v) ≡ version_before h v

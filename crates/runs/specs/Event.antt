@@ -58,7 +58,8 @@ is_word n = ltb n (2 ^ 64)
 abbrev pub is_record : ℕ → Bool
 is_record key = ltb key 65536
 
--- 01: "transaction number (8), value (16)"; 02, #104: a record number of two bytes: are a call's arguments of these sizes?
+-- 01: "transaction number (8), value (16)"; 02, #104: a record number of two bytes: are a call's arguments of these
+-- sizes?
 unfoldable pub call_typed : Call → Bool
 call_typed (begin k) = is_word k
 call_typed (write n key v) = is_word n && (is_record key && (eqb (length v) 16 && are_bytes v))

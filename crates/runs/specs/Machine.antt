@@ -1,11 +1,12 @@
--- The room as a machine: the medium, and while it is open the cache and the state. Each step is by the definitions of the
--- calls.
+-- The room as a machine: the medium, and while it is open the cache and the state. Each step is by the definitions of
+-- the calls.
 use Rattle.std.specs.Prelude.{ℕ, zero, suc, ◌+◌, ◌*◌, Bool, true, false, not, ◌&&◌, List, [], ◌∷◌}
 use Rattle.std.proofs.Math.Option.{Option, none, some}
 use Rattle.fields.specs.Part.{part}
 use Rattle.fields.specs.Equal.{eq_list}
 use Rattle.store.specs.declared.Answer.{Answer}
-use Rattle.store.specs.declared.Answer.TheVariants.{Refused, Done, Begun, Written, Committed, Opened, Missing, Erased, Present, Listed}
+use Rattle.store.specs.declared.Answer.TheVariants.{Refused, Done, Begun, Written, Committed, Opened, Missing, Erased}
+use Rattle.store.specs.declared.Answer.TheVariants.{Present, Listed}
 use Rattle.store.specs.declared.Place.{Place}
 use Rattle.store.specs.declared.State.{State}
 use Rattle.store.specs.declared.Timing.{Timing}
@@ -26,7 +27,9 @@ use Rattle.store.specs.Changes.{changes_of}
 use Rattle.store.specs.StoreLog.{store_log_of}
 use Rattle.store.specs.StorePage.{store_page_of}
 use Rattle.store.specs.Checkpoint.{checkpoint_of}
-use Rattle.runs.specs.Event.{Call, Event, opening, cut, call, begin, write, erase, current_read, commit, abort, as_of, changes, store_log, store_page, checkpoint, Strip, missing, erased, present, Sight, Observation, typed}
+use Rattle.runs.specs.Event.{Call, Event, opening, cut, call, begin, write, erase, current_read, commit, abort, as_of}
+use Rattle.runs.specs.Event.{changes, store_log, store_page, checkpoint, Strip, missing, erased, present, Sight}
+use Rattle.runs.specs.Event.{Observation, typed}
 
 -- 01: "leaves the medium only": after formatting or a cut the medium; from an accepted opening on, cache and state too
 pub data World : Type 0 where

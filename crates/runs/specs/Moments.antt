@@ -3,7 +3,8 @@
 use Rattle.std.specs.Prelude.{ℕ, zero, suc, ◌&&◌, Bool, true, false, ◌||◌, List, [], ◌∷◌, ◌++◌, ◌⊎◌, ◌≡◌, eqb}
 use Rattle.std.proofs.Math.Option.{Option, none, some}
 use Rattle.store.specs.State.{in_range}
-use Rattle.runs.specs.Event.{Call, Event, opening, cut, call, begin, write, erase, current_read, commit, abort, as_of, changes, store_log, store_page, checkpoint, Observation}
+use Rattle.runs.specs.Event.{Call, Event, opening, cut, call, begin, write, erase, current_read, commit, abort, as_of}
+use Rattle.runs.specs.Event.{changes, store_log, store_page, checkpoint, Observation}
 use Rattle.runs.specs.Book.{Row, version, committed, Book, blank, zeros, feed}
 use Rattle.runs.specs.Machine.{World, step, is_run, trace, formatted}
 
@@ -63,8 +64,8 @@ abbrev pub commit_seen : ℕ → ℕ → List Row
 commit_seen n zero = []
 commit_seen n (suc t) = committed n (suc t) ∷ []
 
--- 01: "Write, erase: a row of number, record, kind, value. Commit of a number with rows: a row of number and time": the row
--- that a call brings if it is not refused and gives this answer
+-- 01: "Write, erase: a row of number, record, kind, value. Commit of a number with rows: a row of number and time": the
+-- row that a call brings if it is not refused and gives this answer
 abbrev pub row_seen : Call → ℕ → List Row
 row_seen (begin k) x = []
 row_seen (write n key v) x = version (record { number = n; key = key; kind = 0; value = v }) ∷ []
@@ -84,7 +85,8 @@ event_row (opening c) o = []
 event_row cut o = []
 event_row (call k) o = if_accepted o.refusal (row_seen k o.result)
 
--- 01, 'Runs and their book': the rows of all writes, erases and commits with versions that were not refused, in their order
+-- 01, 'Runs and their book': the rows of all writes, erases and commits with versions that were not refused, in their
+-- order
 unfoldable pub rows_seen : List Event → List Observation → List Row
 rows_seen [] os = []
 rows_seen (e ∷ es) [] = []
@@ -142,7 +144,8 @@ is_close n store_log = false
 is_close n (store_page p) = false
 is_close n checkpoint = false
 
--- 01: "Commit, abort: the number closes", "Cut, accepted opening: .. all numbers close": an event that closes the number n
+-- 01: "Commit, abort: the number closes", "Cut, accepted opening: .. all numbers close": an event that closes the
+-- number n
 abbrev pub closes : ℕ → Event → Observation → Bool
 closes n (opening c) o = eqb o.refusal 0
 closes n cut o = true

@@ -1,14 +1,16 @@
--- Old media: those that runs of the store as it was before #104 leave at a cut. Its openings are those of `Earlier`, its calls those of
--- `EarlierCalls`, and what an opening finds is read as it was; its record numbers have one byte.
+-- Old media: those that runs of the store as it was before #104 leave at a cut. Its openings are those of `Earlier`,
+-- its calls those of `EarlierCalls`, and what an opening finds is read as it was; its record numbers have one byte.
 use Rattle.std.specs.Prelude.{ℕ, zero, suc, ◌+◌, ◌≡◌, Bool, true, ◌&&◌, List, [], ◌∷◌, ltb}
 use Rattle.store.specs.declared.Place.{Place}
 use Rattle.store.specs.Answer.{Outcome}
 use Rattle.store.specs.Places.{time_under}
 use Rattle.store.specs.State.{in_range}
 use Rattle.store.specs.Chain.{version_time}
-use Rattle.runs.specs.Event.{Call, Event, opening, cut, call, begin, write, erase, current_read, commit, abort, as_of, changes, store_log, store_page, checkpoint, Sight, typed}
+use Rattle.runs.specs.Event.{Call, Event, opening, cut, call, begin, write, erase, current_read, commit, abort, as_of}
+use Rattle.runs.specs.Event.{changes, store_log, store_page, checkpoint, Sight, typed}
 use Rattle.runs.specs.Book.{Book, blank, fall, feed, Fits}
-use Rattle.runs.specs.Machine.{World, down, up, medium_of, time_in, Step, after, opened_to, seen_of, step, allowed, is_run, formatted}
+use Rattle.runs.specs.Machine.{World, down, up, medium_of, time_in, Step, after, opened_to, seen_of, step, allowed}
+use Rattle.runs.specs.Machine.{is_run, formatted}
 use Rattle.runs.specs.Demand.{Agrees}
 use Rattle.runs.specs.Earlier.{cell_at_before, open_before, Old}
 use Rattle.runs.specs.EarlierCalls.{old_called}
@@ -35,7 +37,8 @@ old_typed (opening c) = typed (opening c)
 old_typed cut = typed cut
 old_typed (call k) = typed (call k) && of_byte k
 
--- 01: "each with its row's record, kind and value, and its time or none": what stands in slot n, by the earlier reader of a slot
+-- 01: "each with its row's record, kind and value, and its time or none": what stands in slot n, by the earlier reader
+-- of a slot
 unfoldable pub old_sight : List ℕ → List Place → ℕ → Sight
 old_sight c ps n = record {
   key = (cell_at_before c n).key;
@@ -62,7 +65,8 @@ module _ (l d : ℕ) where
   old_step w (opening c) = old_opens w (open_before (medium_of w) c l d)
   old_step w cut = step l d w cut
   old_step (down m) (call k) = step l d (down m) (call k)
-  old_step (up m c s) (call k) = record { world = after (old_called m c s k); seen = seen_of l m (old_called m c s k) [] }
+  old_step (up m c s) (call k) =
+      record { world = after (old_called m c s k); seen = seen_of l m (old_called m c s k) [] }
 
   -- 01: "A run starts", "only openings and cuts come": is the list of events a run of the store as it was?
   unfoldable pub is_old_run : World → List Event → Bool
@@ -82,7 +86,8 @@ module _ (l d : ℕ) where
   -- 01: "Demand 3 speaks of the run as a whole": what was seen of each event agreed with the book
   abbrev pub OldAgrees : World → Book → List Event → Type 0
   OldAgrees w b [] = Unit {0}
-  OldAgrees w b (e ∷ es) = Fits d b e (old_step w e).seen × OldAgrees (old_step w e).world (feed b e (old_step w e).seen) es
+  OldAgrees w b (e ∷ es) =
+      Fits d b e (old_step w e).seen × OldAgrees (old_step w e).world (feed b e (old_step w e).seen) es
 
   -- 02, #104: "Old media": what a run of the store as it was leaves at a cut
   abbrev pub old_medium : List Event → List ℕ
@@ -92,9 +97,9 @@ module _ (l d : ℕ) where
   abbrev pub book_over : List Event → Book
   book_over es = fall (old_book (formatted l d) blank es)
 
--- 02, #104: "Old media open unchanged, for their byte 3 is zero; new versions use tag 3 only": a run of the store as it was agrees with
--- its book; what it has left at any moment is old, so that it opens as it did; and every run of today's store from there agrees with
--- the book that has come so far
+-- 02, #104: "Old media open unchanged, for their byte 3 is zero; new versions use tag 3 only": a run of the store as it
+-- was agrees with its book; what it has left at any moment is old, so that it opens as it did; and every run of today's
+-- store from there agrees with the book that has come so far
 pub record OldMedia : Type 0 where
   pub before : (l d : ℕ) → in_range l d ≡ true
       → (es : List Event) → is_old_run l d (formatted l d) es ≡ true

@@ -1,5 +1,5 @@
--- No run is stuck: in an open store all transactions can be ended and the log freed, so that a new one can begin, write any
--- record and commit, unless numbers, slots, times or sequences are used up. Where something is, no calls help.
+-- No run is stuck: in an open store all transactions can be ended and the log freed, so that a new one can begin, write
+-- any record and commit, unless numbers, slots, times or sequences are used up. Where something is, no calls help.
 use Rattle.std.specs.Prelude.{ℕ, ◌+◌, ◌-◌, ◌*◌, ◌^◌, ◌≤◌, ◌<◌, ◌≡◌, true, List, [], ◌∷◌, ◌++◌}
 use Rattle.layout.specs.Slot.{key_form}
 use Rattle.store.specs.declared.Life.{Life}
@@ -40,23 +40,24 @@ transaction n clock key value end = call (begin clock) ∷ call (write n key val
 
 -- ---- what they need
 
--- 01: "next number below 2^64 - 1", "next slot below 15 × D", "last time below 2^64 - 1", "its sequence 1 to below 2^48": there
--- is a number, a slot, a time, and log for a version record of 34 bytes and a commit record of 19
+-- 01: "next number below 2^64 - 1", "next slot below 15 × D", "last time below 2^64 - 1", "its sequence 1 to below
+-- 2^48": there is a number, a slot, a time, and log for a version record of 34 bytes and a commit record of 19
 pub record Left (d : ℕ) (s : State) : Type 0 where
   pub numbers : s.next.0 < 2 ^ 64 - 1
   pub slots : s.slots < 15 * d
   pub times : s.last.0 < 2 ^ 64 - 1
   pub log : (tail_end s.tail).0 + 53 ≤ 512 * 2 ^ 48
 
--- 02, #114: "8 is not the end of an exercise": after the calls a transaction is begun under the number n, writes and commits;
--- none of all these calls is refused
+-- 02, #114: "8 is not the end of an exercise": after the calls a transaction is begun under the number n, writes and
+-- commits; none of all these calls is refused
 pub record Restarts (l d : ℕ) (w : World) (n clock key : ℕ) (value : List ℕ) (end : ℕ) : Type 0 where
   pub goes_on : is_run l d w (fresh_start l d w ++ transaction n clock key value end) ≡ true  -- the run may go on so
   pub accepted : AllAccepted (trace l d w (fresh_start l d w ++ transaction n clock key value end))
-  pub number : (step l d (world_after l d w (fresh_start l d w)) (call (begin clock))).seen.result ≡ n  -- begin answers n
+  -- begin answers n
+  pub number : (step l d (world_after l d w (fresh_start l d w)) (call (begin clock))).seen.result ≡ n
 
--- 02, #114: "8 is not the end of an exercise": so from every running store of a run, unless something is used up; 02, #104: the
--- record number is "below 1,024"
+-- 02, #114: "8 is not the end of an exercise": so from every running store of a run, unless something is used up; 02,
+-- #104: the record number is "below 1,024"
 unfoldable pub Unstuck : Type 0
 Unstuck =
     (l d : ℕ) (es : List Event) (m c : List ℕ) (s : State)
@@ -65,7 +66,8 @@ Unstuck =
     → Left d s
     → (clock key : ℕ) (value : List ℕ) (end : ℕ)
     → key_form key ≡ true
-    → call_typed (begin clock) ≡ true → call_typed (write s.next.0 key value) ≡ true → call_typed (commit s.next.0 end) ≡ true
+    → call_typed (begin clock) ≡ true → call_typed (write s.next.0 key value) ≡ true
+    → call_typed (commit s.next.0 end) ≡ true
     → Restarts l d (up m c s) s.next.0 clock key value end
 
 -- 01: "Each call gets the state, medium and cache that the call before it left": the events of some calls
@@ -73,8 +75,8 @@ unfoldable pub events_of : List Call → List Event
 events_of [] = []
 events_of (k ∷ ks) = call k ∷ events_of ks
 
--- 02, #114: "8 is not the end of an exercise": the exceptions are exact. If after some calls a transaction is begun, writes and
--- commits, nothing was used up before them.
+-- 02, #114: "8 is not the end of an exercise": the exceptions are exact. If after some calls a transaction is begun,
+-- writes and commits, nothing was used up before them.
 unfoldable pub OnlyThen : Type 0
 OnlyThen =
     (l d : ℕ) (es : List Event) (m c : List ℕ) (s : State)

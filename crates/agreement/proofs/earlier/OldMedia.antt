@@ -1,6 +1,7 @@
--- Every run from an old medium agrees with the book: the invariant says nothing of a record's width, so a write under tag 1 keeps it as
--- one under tag 3 does, and what the store as it was leaves at a cut is a start like any other. Its medium is an old one at every
--- moment, and byte 3 of every slot is zero in its cache too: so its openings, and its calls but for writes, are those of today.
+-- Every run from an old medium agrees with the book: the invariant says nothing of a record's width, so a write under
+-- tag 1 keeps it as one under tag 3 does, and what the store as it was leaves at a cut is a start like any other. Its
+-- medium is an old one at every moment, and byte 3 of every slot is zero in its cache too: so its openings, and its
+-- calls but for writes, are those of today.
 use Prim.Native.Nat.{ℕ, ◌*◌, ◌<◌}
 use native.Mathlib.Omega.{arith}
 use mathlib.Core.Bool.{true, false, not, false≢true}
@@ -27,9 +28,12 @@ use Rattle.store.specs.Places.{find_active}
 use Rattle.store.specs.State.{in_range}
 use Rattle.store.specs.Chain.{held}
 use Rattle.store.specs.Write.{write_step, write_at, written}
-use Rattle.runs.specs.Event.{Call, Event, opening, cut, call, begin, write, erase, current_read, commit, abort, as_of, changes, store_log, store_page, checkpoint, are_bytes, is_word, is_record, call_typed, typed}
+use Rattle.runs.specs.Event.{Call, Event, opening, cut, call, begin, write, erase, current_read, commit, abort, as_of}
+use Rattle.runs.specs.Event.{changes, store_log, store_page, checkpoint, are_bytes, is_word, is_record, call_typed}
+use Rattle.runs.specs.Event.{typed}
 use Rattle.runs.specs.Book.{Book, Row, blank, version, versions, add, fall, entered, unless_refused, feed, Fits}
-use Rattle.runs.specs.Machine.{World, up, down, medium_of, after, seen_of, step, allowed, is_run, formatted, log_changed}
+use Rattle.runs.specs.Machine.{World, up, down, medium_of, after, seen_of, step, allowed, is_run, formatted}
+use Rattle.runs.specs.Machine.{log_changed}
 use Rattle.runs.specs.Demand.{Agrees}
 use Rattle.runs.specs.EarlierCalls.{old_asks, old_head, old_if, old_called}
 use Rattle.runs.specs.OldMedia.{of_byte, old_typed, old_step, is_old_run, old_world, old_book, OldAgrees, OldMedia}
@@ -58,11 +62,13 @@ pub record Holds (l d : ℕ) (w : World) (b : Book) : Type 0 where
 -- what an event shows, and what holds of the world that it leaves
 abbrev OldKeeps : ℕ → ℕ → World → Book → Event → Type 0
 OldKeeps l d w b e =
-    Fits d b e (old_step l d w e).seen × Inv l d (old_step l d w e).world (feed b e (old_step l d w e).seen) × KeptWorld l (old_step l d w e).world
+    Fits d b e (old_step l d w e).seen × Inv l d (old_step l d w e).world (feed b e (old_step l d w e).seen)
+    × KeptWorld l (old_step l d w e).world
 
 -- ---- a version under tag 1
 
-module _ {l d : ℕ} {m c : List ℕ} {s : State} {b : Book} {disk : Disk} {closed : List (List Record)} {tail : List Record} (u : Up l d m c s b disk closed tail)
+module _ {l d : ℕ} {m c : List ℕ} {s : State} {b : Book} {disk : Disk} {closed : List (List Record)}
+    {tail : List Record} (u : Up l d m c s b disk closed tail)
     (kept : Kept l m) (short : ShortBlock s.tail) (low : Low c) where
   -- the slot answered is the version's row, and the book has one row more where the call is not refused
   abbrev Adds : ℕ → ℕ → ℕ → List ℕ → Outcome → Type 0
@@ -82,22 +88,32 @@ module _ {l d : ℕ} {m c : List ℕ} {s : State} {b : Book} {disk : Disk} {clos
   unfolding old_if answer_number answer_value write_step written bytes_of
   added n key kind v byte hd size bytes form =
       asked (λ (a : Option Refusal). Adds n key kind v (old_if a s m c n key kind v)) (old_asks s m c n key)
-      (λ r e. (λ z. absurd (omega (arith, positive r)), rw (old_book_law (refusal_number r) b _ (positive r)) (running u), (kept, short)))
-      (λ p. rw (head_same n key kind) (found (λ (f : Found). Adds n key kind v (write_at f s m c (head_as One s c n key kind) v)) (find_active s.places n) p.1.0
+      (λ r e. (
+        λ z. absurd (omega (arith, positive r)),
+        rw (old_book_law (refusal_number r) b _ (positive r)) (running u),
+        (kept, short),
+      ))
+      (λ p. rw (head_same n key kind) (found
+      (λ (f : Found). Adds n key kind v (write_at f s m c (head_as One s c n key kind) v))
+      (find_active s.places n) p.1.0
       (λ i f.
       let free : not (held c s.places s.slots key n) ≡ true = rw (held_same m c s low key n) at p.1.1.0 in
       let room : s.slots < 15 * d = omega (arith, ltb-true s.slots (15 * s.pages) p.1.1.1.0, u.state.pages) in (
         λ z. slot_row u,
         wrote_as u One n key kind i v byte (byte_form key byte) hd size bytes form f free p.1.1.1.0 p.1.1.1.1.0,
-        kept_logged u (version_record (head_as One s c n key kind) v) (taken u One n key kind i v byte (byte_form key byte) hd size bytes form f room).sized refl short kept,
+        kept_logged u (version_record (head_as One s c n key kind) v)
+            (taken u One n key kind i v byte (byte_form key byte) hd size bytes form f room).sized refl short kept,
       ))))
 
 -- ---- an event
 
-module _ {l d : ℕ} {m c : List ℕ} {s : State} {b : Book} {disk : Disk} {closed : List (List Record)} {tail : List Record} (u : Up l d m c s b disk closed tail)
+module _ {l d : ℕ} {m c : List ℕ} {s : State} {b : Book} {disk : Disk} {closed : List (List Record)}
+    {tail : List Record} (u : Up l d m c s b disk closed tail)
     (kept : Kept l m) (short : ShortBlock s.tail) (rows : Each LowRow b.rows) where
   low : Low c
-  low = low_cache u.medium (low_versions (records (closed ++ (tail ∷ []))) (subst (λ (rs : List Row). Each LowRow rs) u.rows rows)) u.cache
+  low =
+      low_cache u.medium (low_versions (records (closed ++ (tail ∷ [])))
+      (subst (λ (rs : List Row). Each LowRow rs) u.rows rows)) u.cache
 
   -- the calls that are as they were
   same : (x : Call) → is_adding x ≡ false → call_typed x ≡ true → of_byte x ≡ true → OldKeeps l d (up m c s) b (call x)
@@ -112,8 +128,11 @@ module _ {l d : ℕ} {m c : List ℕ} {s : State} {b : Book} {disk : Disk} {clos
   call_keeps (write n key v) t h =
       let t1 = and_1 (is_word n) _ t in
       let t2 = and_1 (is_record key) _ t1 in
-      added u kept short low n key 0 v (ltb-true key 256 h) (omega arith) (eqb-true (length v) 16 (and_0 (eqb (length v) 16) (are_bytes v) t2)) (bytes_of_law v (and_1 (eqb (length v) 16) (are_bytes v) t2)) refl
-  call_keeps (erase n key) t h = added u kept short low n key 1 (zeros 16) (ltb-true key 256 h) (omega arith) refl (bytes_zeros 16) (zero_zeros 16)
+      added u kept short low n key 0 v (ltb-true key 256 h) (omega arith)
+      (eqb-true (length v) 16 (and_0 (eqb (length v) 16) (are_bytes v) t2))
+      (bytes_of_law v (and_1 (eqb (length v) 16) (are_bytes v) t2)) refl
+  call_keeps (erase n key) t h =
+      added u kept short low n key 1 (zeros 16) (ltb-true key 256 h) (omega arith) refl (bytes_zeros 16) (zero_zeros 16)
   call_keeps (current_read n key) t h = same (current_read n key) refl t h
   call_keeps (commit n k) t h = same (commit n k) refl t h
   call_keeps (abort n) t h = same (abort n) refl t h
@@ -127,21 +146,25 @@ sizes_on : {l d : ℕ} {w : World} {b : Book} → Inv l d w b → SizesOn l d (m
 sizes_on (running u) = u.medium.sizes
 sizes_on (fallen x) = x.medium.sizes
 
-open_keeps : {l d : ℕ} {w : World} {b : Book} (y : List ℕ) → Holds l d w b → allowed l d w (opening y) ≡ true → typed (opening y) ≡ true → OldKeeps l d w b (opening y)
+open_keeps : {l d : ℕ} {w : World} {b : Book} (y : List ℕ) → Holds l d w b → allowed l d w (opening y) ≡ true
+    → typed (opening y) ≡ true → OldKeeps l d w b (opening y)
 unfolding old_step step
 open_keeps {l} {d} {w} {b} y i a t =
     let k = keeps l d w b (opening y) i.inv a t in
     let z = sizes_on i.inv in
-    rw (opening_same l d w y (old_medium i.inv i.kept.0 i.low) z.size) (k.0, k.1, kept_opening l d w y (omega (arith, z.range.blocks_low)) i.kept)
+    rw (opening_same l d w y (old_medium i.inv i.kept.0 i.low) z.size)
+    (k.0, k.1, kept_opening l d w y (omega (arith, z.range.blocks_low)) i.kept)
 
-old_keeps : (l d : ℕ) (w : World) (b : Book) (e : Event) → Holds l d w b → allowed l d w e ≡ true → old_typed e ≡ true → OldKeeps l d w b e
+old_keeps : (l d : ℕ) (w : World) (b : Book) (e : Event) → Holds l d w b → allowed l d w e ≡ true → old_typed e ≡ true
+    → OldKeeps l d w b e
 unfolding old_typed typed
 old_keeps l d w b (opening y) i a t = open_keeps y i a t
 old_keeps l d w b cut i a t = let k = keeps l d w b cut i.inv a t in unfold old_step step in (k.0, k.1, (i.kept.0, tt))
 old_keeps l d (up m c s) b (call x) i a t = go i.inv
   where
     go : Inv l d (up m c s) b → OldKeeps l d (up m c s) b (call x)
-    go (running u) = call_keeps u i.kept.0 i.kept.1 i.low x (and_0 (call_typed x) (of_byte x) t) (and_1 (call_typed x) (of_byte x) t)
+    go (running u) =
+        call_keeps u i.kept.0 i.kept.1 i.low x (and_0 (call_typed x) (of_byte x) t) (and_1 (call_typed x) (of_byte x) t)
 old_keeps l d (down m) b (call x) i a t = absurd (false≢true a)
 
 -- ---- a run
@@ -155,12 +178,14 @@ old_runs l d (e ∷ es) w b i r =
     let t = and_0 (old_typed e) _ r in
     let r1 = and_1 (old_typed e) _ r in
     let k : OldKeeps l d w b e = old_keeps l d w b e i (and_0 (allowed l d w e) _ r1) t in
-    let n : Holds l d (old_step l d w e).world (feed b e (old_step l d w e).seen) = record { inv = k.1; kept = k.2; low = low_feed b e (old_step l d w e).seen t i.low } in
+    let n : Holds l d (old_step l d w e).world (feed b e (old_step l d w e).seen) =
+    record { inv = k.1; kept = k.2; low = low_feed b e (old_step l d w e).seen t i.low } in
     let q = old_runs l d es _ _ n (and_1 (allowed l d w e) _ r1) in
     ((k.0, q.0), q.1)
 
 -- from a medium at rest that the invariant holds of with a book, whatever the tags of its records
-pub taken_over : {l d : ℕ} {m : List ℕ} {b : Book} {disk : Disk} → Down l d m b disk → (es : List Event) → is_run l d (down m) es ≡ true → Agrees l d (down m) b es
+pub taken_over : {l d : ℕ} {m : List ℕ} {b : Book} {disk : Disk} → Down l d m b disk → (es : List Event)
+    → is_run l d (down m) es ≡ true → Agrees l d (down m) b es
 taken_over {l} {d} {m} {b} x es r = runs l d es (down m) b (fallen x) r
 
 -- a cut leaves the medium
@@ -170,9 +195,15 @@ cut_inv (fallen x) = rw (fall_down x) (fallen x)
 
 -- from the formatted medium
 old_run : (l d : ℕ) → in_range l d ≡ true → (es : List Event) → is_old_run l d (formatted l d) es ≡ true
-    → OldAgrees l d (formatted l d) blank es × Holds l d (old_world l d (formatted l d) es) (old_book l d (formatted l d) blank es)
+    → OldAgrees l d (formatted l d) blank es
+    × Holds l d (old_world l d (formatted l d) es) (old_book l d (formatted l d) blank es)
 unfolding formatted blank
-old_run l d h es r = old_runs l d es (formatted l d) blank (record { inv = fallen (start l d h); kept = (kept_start l d h, tt); low = tt }) r
+old_run l d h es r =
+    old_runs l d es (formatted l d) blank (record {
+      inv = fallen (start l d h);
+      kept = (kept_start l d h, tt);
+      low = tt;
+    }) r
 
 pub old_media : OldMedia
 old_media = record {

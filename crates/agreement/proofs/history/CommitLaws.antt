@@ -21,16 +21,19 @@ module _ (n : ℕ) where
   find_num [] h = absurd (not-suc-le-zero h)
   find_num (c ∷ cs) h = go (find_num cs) (eqb c.num n) refl h
     where
-      go : (0 < (find cs n).time → (find cs n).num ≡ n) → (t : Bool) → eqb c.num n ≡ t → 0 < (cond t c (find cs n)).time → (cond t c (find cs n)).num ≡ n
+      go : (0 < (find cs n).time → (find cs n).num ≡ n) → (t : Bool) → eqb c.num n ≡ t → 0 < (cond t c (find cs n)).time
+          → (cond t c (find cs n)).num ≡ n
       go ih true e h = eqb-true _ _ e
       go ih false e h = ih h
 
-  pub find_each : (P : LoggedCommit → Type 0) (cs : List LoggedCommit) → Each P cs → 0 < (find cs n).time → P (find cs n)
+  pub find_each : (P : LoggedCommit → Type 0) (cs : List LoggedCommit) → Each P cs → 0 < (find cs n).time
+      → P (find cs n)
   unfolding find
   find_each P [] e h = absurd (not-suc-le-zero h)
   find_each P (c ∷ cs) e h = go (find_each P cs e.1) (eqb c.num n) h
     where
-      go : (0 < (find cs n).time → P (find cs n)) → (t : Bool) → 0 < (cond t c (find cs n)).time → P (cond t c (find cs n))
+      go : (0 < (find cs n).time → P (find cs n)) → (t : Bool) → 0 < (cond t c (find cs n)).time
+          → P (cond t c (find cs n))
       go ih true h = e.0
       go ih false h = ih h
 
@@ -39,16 +42,19 @@ module _ (n : ℕ) where
   find_left [] ys h = absurd (not-suc-le-zero h)
   find_left (c ∷ xs) ys h = go (find_left xs ys) (eqb c.num n) h
     where
-      go : (0 < (find xs n).time → find (xs ++ ys) n ≡ find xs n) → (t : Bool) → 0 < (cond t c (find xs n)).time → cond t c (find (xs ++ ys) n) ≡ cond t c (find xs n)
+      go : (0 < (find xs n).time → find (xs ++ ys) n ≡ find xs n) → (t : Bool) → 0 < (cond t c (find xs n)).time
+          → cond t c (find (xs ++ ys) n) ≡ cond t c (find xs n)
       go ih true h = refl
       go ih false h = ih h
 
-  pub find_right : (xs ys : List LoggedCommit) → Each (λ (c : LoggedCommit). 0 < c.time) xs → (find xs n).time ≡ 0 → find (xs ++ ys) n ≡ find ys n
+  pub find_right : (xs ys : List LoggedCommit) → Each (λ (c : LoggedCommit). 0 < c.time) xs → (find xs n).time ≡ 0
+      → find (xs ++ ys) n ≡ find ys n
   unfolding find
   find_right [] ys p h = refl
   find_right (c ∷ xs) ys p h = go (find_right xs ys p.1) (eqb c.num n) h
     where
-      go : ((find xs n).time ≡ 0 → find (xs ++ ys) n ≡ find ys n) → (t : Bool) → (cond t c (find xs n)).time ≡ 0 → cond t c (find (xs ++ ys) n) ≡ find ys n
+      go : ((find xs n).time ≡ 0 → find (xs ++ ys) n ≡ find ys n) → (t : Bool) → (cond t c (find xs n)).time ≡ 0
+          → cond t c (find (xs ++ ys) n) ≡ find ys n
       go ih true h = absurd (omega (arith, p.0))
       go ih false h = ih h
 
@@ -65,7 +71,8 @@ pub find_next : (n : ℕ) (c : LoggedCommit) (cs : List LoggedCommit) → c.num 
 unfolding find
 find_next n c cs h = rw (ne_eqb c.num n h)
 
-pub once_snoc : (cs : List LoggedCommit) (c : LoggedCommit) → Once cs → (find cs c.num).time ≡ 0 → Each (λ (d : LoggedCommit). 0 < d.time) cs → Once (cs ++ (c ∷ []))
+pub once_snoc : (cs : List LoggedCommit) (c : LoggedCommit) → Once cs → (find cs c.num).time ≡ 0
+    → Each (λ (d : LoggedCommit). 0 < d.time) cs → Once (cs ++ (c ∷ []))
 unfolding find
 once_snoc [] c o h p = (refl, tt)
 once_snoc (d ∷ cs) c o h p = go (once_snoc cs c o.1) (eqb d.num c.num) refl h
@@ -87,7 +94,8 @@ once_left (c ∷ xs) ys o = (go (same? (find xs c.num).time 0), once_left xs ys 
     go (inl e) = e
     go (inr e) = absurd (omega (arith, o.0, ap (λ (d : LoggedCommit). d.time) (find_left c.num xs ys (omega arith))))
 
-pub once_split : (n : ℕ) (xs ys : List LoggedCommit) → Once (xs ++ ys) → Each (λ (d : LoggedCommit). 0 < d.time) xs → 0 < (find xs n).time → (find ys n).time ≡ 0
+pub once_split : (n : ℕ) (xs ys : List LoggedCommit) → Once (xs ++ ys) → Each (λ (d : LoggedCommit). 0 < d.time) xs
+    → 0 < (find xs n).time → (find ys n).time ≡ 0
 unfolding find
 once_split n [] ys o p h = absurd (not-suc-le-zero h)
 once_split n (c ∷ xs) ys o p h = go (once_split n xs ys o.1 p.1) (eqb c.num n) refl h
@@ -96,9 +104,11 @@ once_split n (c ∷ xs) ys o p h = go (once_split n xs ys o.1 p.1) (eqb c.num n)
     late e (inl z) = ap (λ (x : LoggedCommit). x.time) (sym (find_right n xs ys p.1 z)) ∙ e
     late e (inr z) = absurd (omega (arith, ap (λ (x : LoggedCommit). x.time) (find_left n xs ys (omega arith))))
 
-    go : (0 < (find xs n).time → (find ys n).time ≡ 0) → (t : Bool) → eqb c.num n ≡ t → 0 < (cond t c (find xs n)).time → (find ys n).time ≡ 0
+    go : (0 < (find xs n).time → (find ys n).time ≡ 0) → (t : Bool) → eqb c.num n ≡ t → 0 < (cond t c (find xs n)).time
+        → (find ys n).time ≡ 0
     go ih false e h = ih h
-    go ih true e h = late (subst (λ (k : ℕ). (find (xs ++ ys) k).time ≡ 0) (eqb-true _ _ e) o.0) (same? (find xs n).time 0)
+    go ih true e h =
+        late (subst (λ (k : ℕ). (find (xs ++ ys) k).time ≡ 0) (eqb-true _ _ e) o.0) (same? (find xs n).time 0)
 
 -- ---- times
 
@@ -110,7 +120,11 @@ last_append (x ∷ xs) ys = rw (last_append xs ys) (omega arith)
 pub last_each : (cs : List LoggedCommit) → Each (λ (c : LoggedCommit). c.time ≤ last_of cs) cs
 unfolding last_of
 last_each [] = tt
-last_each (c ∷ cs) = (omega arith, each_map (λ (d : LoggedCommit). d.time ≤ last_of cs) (λ (d : LoggedCommit). d.time ≤ max c.time (last_of cs)) cs (λ d h. omega arith) (last_each cs))
+last_each (c ∷ cs) = (
+  omega arith,
+  each_map (λ (d : LoggedCommit). d.time ≤ last_of cs)
+      (λ (d : LoggedCommit). d.time ≤ max c.time (last_of cs)) cs (λ d h. omega arith) (last_each cs),
+)
 
 pub find_last : (cs : List LoggedCommit) (n : ℕ) → (find cs n).time ≤ last_of cs
 find_last cs n = go (same? (find cs n).time 0)
@@ -135,7 +149,8 @@ pub rising_right : (lo : ℕ) (xs ys : List LoggedCommit) → Rising lo (xs ++ y
 rising_right lo [] ys r = r
 rising_right lo (c ∷ xs) ys r = rising_weak c.time lo ys (omega (arith, r.0)) (rising_right c.time xs ys r.1)
 
-pub rising_snoc : (lo : ℕ) (cs : List LoggedCommit) (c : LoggedCommit) → Rising lo cs → lo < c.time → last_of cs < c.time → Rising lo (cs ++ (c ∷ []))
+pub rising_snoc : (lo : ℕ) (cs : List LoggedCommit) (c : LoggedCommit) → Rising lo cs → lo < c.time
+    → last_of cs < c.time → Rising lo (cs ++ (c ∷ []))
 unfolding last_of
 rising_snoc lo [] c r h k = (h, tt)
 rising_snoc lo (d ∷ cs) c r h k = (r.0, rising_snoc d.time cs c r.1 (omega arith) (omega arith))

@@ -1,6 +1,6 @@
--- The ghost of the proof of Demand 3: the log blocks since formatting, by sequence, with an empty block 0 in front, so that
--- block s is `get_or bs s []`. All else is a function of it: placed records, versions, commits, the book's rows, and what a
--- page holds. Definitions only.
+-- The ghost of the proof of Demand 3: the log blocks since formatting, by sequence, with an empty block 0 in front, so
+-- that block s is `get_or bs s []`. All else is a function of it: placed records, versions, commits, the book's rows,
+-- and what a page holds. Definitions only.
 use Prim.Native.Nat.{ℕ, zero, suc, ◌+◌, ◌-◌, ◌*◌, ◌^◌, ◌≤◌, ◌<◌, min, max}
 use mathlib.Core.Bool.{true, cond}
 use mathlib.Core.List.{List, [], ◌∷◌, ◌++◌}
@@ -71,7 +71,16 @@ pub record LoggedVersion : Type 0 where
 
 abbrev pub as_version : Record → ℕ → ℕ → List LoggedVersion
 as_version (version h v) q e =
-    record { seq = q; end = e; slot = h.slot; key = h.key; kind = h.kind; earlier = h.earlier; num = h.number.0; value = v } ∷ []
+    record {
+      seq = q;
+      end = e;
+      slot = h.slot;
+      key = h.key;
+      kind = h.kind;
+      earlier = h.earlier;
+      num = h.number.0;
+      value = v;
+    } ∷ []
 as_version (commit p) q e = []
 
 unfoldable pub versions_in : List Placed → List LoggedVersion
@@ -148,10 +157,12 @@ cell cs n = get_or cs n no_cell
 
 -- the slot that a version's record gives, and the slot stamped
 abbrev pub waiting_cell : LoggedVersion → Cell
-waiting_cell v = record { state = Waiting (record { 0 = v.num }); key = v.key; kind = v.kind; earlier = v.earlier; value = v.value }
+waiting_cell v =
+    record { state = Waiting (record { 0 = v.num }); key = v.key; kind = v.kind; earlier = v.earlier; value = v.value }
 
 abbrev pub stamped_cell : LoggedVersion → ℕ → Cell
-stamped_cell v t = record { state = Stamped (record { 0 = t }); key = v.key; kind = v.kind; earlier = v.earlier; value = v.value }
+stamped_cell v t =
+    record { state = Stamped (record { 0 = t }); key = v.key; kind = v.kind; earlier = v.earlier; value = v.value }
 
 -- a version's slot: it waits under its number, or has the time of its number's commit among cs
 pub data Match (cs : List LoggedCommit) (v : LoggedVersion) : Cell → Type 0 where
@@ -194,11 +205,13 @@ pub record Disk : Type 0 where
   pub oldest : ℕ  -- the master's oldest sequence
   pub next : ℕ  -- its next number
   pub time : ℕ  -- its time
-  pub stored : List (List Record)  -- the blocks, by sequence, that the medium holds or held: closed ones, and of the tail what is stored
+  -- the blocks, by sequence, that the medium holds or held: closed ones, and of the tail what is stored
+  pub stored : List (List Record)
   pub cells : List Cell  -- all slots, stamped where they are on the medium
   pub on : ℕ → ℕ  -- how many slots of page p are on the medium
 
--- ---- the log as an opening takes it up: the last block of the medium is the tail, or the tail is empty if none matches
+-- ---- the log as an opening takes it up: the last block of the medium is the tail, or the tail is empty if none
+-- matches
 
 unfoldable pub closed_of : ℕ → List (List Record) → List (List Record)
 closed_of old stored = cond (eqb (length stored) old) stored (take (length stored - 1) stored)

@@ -40,7 +40,8 @@ pub each_both : {A : Type 0} (P Q : A → Type 0) (xs : List A) → Each P xs �
 each_both P Q [] h k = tt
 each_both P Q (x ∷ xs) h k = ((h.0, k.0), each_both P Q xs h.1 k.1)
 
-pub each_from : {A : Type 0} (P : A → Type 0) (xs : List A) (d : A) → ((i : ℕ) → i < length xs → P (get_or xs i d)) → Each P xs
+pub each_from : {A : Type 0} (P : A → Type 0) (xs : List A) (d : A) → ((i : ℕ) → i < length xs → P (get_or xs i d))
+    → Each P xs
 each_from P [] d f = tt
 each_from P (x ∷ xs) d f = (f 0 (omega arith), each_from P xs d (λ i h. f (suc i) (suc-le-suc h)))
 

@@ -1,6 +1,6 @@
 -- The invariant of a run: what holds of the medium at every moment, so after a cut too (`OnMedium`); of a running store
--- (`Up`); and of one that is down (`Down`). Definitions only. `history` is all blocks: the closed blocks and the tail of
--- a running store, the stored blocks of one that is down.
+-- (`Up`); and of one that is down (`Down`). Definitions only. `history` is all blocks: the closed blocks and the tail
+-- of a running store, the stored blocks of one that is down.
 use Prim.Native.Nat.{ℕ, ◌+◌, ◌-◌, ◌*◌, ◌/◌, ◌%◌, ◌^◌, ◌≤◌, ◌<◌}
 use mathlib.Core.Bool.{true}
 use mathlib.Core.List.{List, [], ◌∷◌, ◌++◌}
@@ -26,7 +26,9 @@ use Rattle.store.specs.OpenLog.{Placed, number_in}
 use Rattle.store.proofs.FitLaws.{InRange}
 use Rattle.runs.specs.Book.{Book, Opened, is_open, clock_of as clock_in}
 use Rattle.runs.specs.Machine.{World, up, down}
-use Rattle.agreement.proofs.history.Ghost.{commits_in, versions_in, versions_of, commits_of, size_of, BlockSound, records, LoggedVersion, at, newest_of, LoggedCommit, find, last_of, Rising, Once, cell, waiting_cell, Match, count, page_with, full, rows_in, Disk}
+use Rattle.agreement.proofs.history.Ghost.{commits_in, versions_in, versions_of, commits_of, size_of, BlockSound}
+use Rattle.agreement.proofs.history.Ghost.{records, LoggedVersion, at, newest_of, LoggedCommit, find, last_of, Rising}
+use Rattle.agreement.proofs.history.Ghost.{Once, cell, waiting_cell, Match, count, page_with, full, rows_in, Disk}
 
 -- ==== the medium
 
@@ -47,7 +49,8 @@ pub record MasterFits (oldest next time : ℕ) : Type 0 where
   pub time_high : time < 2 ^ 64
 
 pub record MasterOn (l d : ℕ) (m : List ℕ) (oldest next time : ℕ) : Type 0 where
-  pub block : blk m 0 ≡ master_bytes (master_fields l d oldest next time)  -- so oldest_on, next_on and time_on are these: MediumFacts
+  -- so oldest_on, next_on and time_on are these: MediumFacts
+  pub block : blk m 0 ≡ master_bytes (master_fields l d oldest next time)
   pub fits : MasterFits oldest next time
 
 -- which blocks of the history are stored
@@ -75,12 +78,14 @@ pub record SlotsAre (d : ℕ) (cs : List LoggedCommit) (vs : List LoggedVersion)
   pub chain : (n : ℕ) → n < length vs
       → (at vs n).earlier ≡ or_none (newest_of vs (at vs n).key n)  -- earlier slots are true
 
-pub record PagesOn (l d : ℕ) (m : List ℕ) (oldest : ℕ) (stored : List (List Record)) (vs : List LoggedVersion) (cells : List Cell) (on : ℕ → ℕ) : Type 0 where
+pub record PagesOn (l d : ℕ) (m : List ℕ) (oldest : ℕ) (stored : List (List Record)) (vs : List LoggedVersion)
+    (cells : List Cell) (on : ℕ → ℕ) : Type 0 where
   pub slots : SlotsAre d (commits_of stored) vs cells
   pub few : (p : ℕ) → (on p ≤ 15) × (on p ≤ length (versions_of stored) - 15 * p)  -- pages hold stored versions only
   pub page : (p : ℕ) → p < d → blk m (page_block_at l p) ≡ page_with vs cells p (on p)
   pub kept : (n : ℕ) → n < length vs → on (n / 15) ≤ n % 15 → oldest ≤ (at vs n).seq  -- what no page has is in the log
-  pub plain : (n : ℕ) → n < length vs → on (n / 15) ≤ n % 15 → cell cells n ≡ waiting_cell (at vs n)  -- what redo will write
+  -- what redo will write
+  pub plain : (n : ℕ) → n < length vs → on (n / 15) ≤ n % 15 → cell cells n ≡ waiting_cell (at vs n)
 
 abbrev pub table_num : List ℕ → ℕ → ℕ
 table_num m i = (table_pair m i).number.0
@@ -89,21 +94,27 @@ abbrev pub table_time : List ℕ → ℕ → ℕ
 table_time m i = (table_pair m i).time.0
 
 pub record TableOn (m : List ℕ) (stored : List (List Record)) : Type 0 where
-  pub pair : (i : ℕ) → i < 64 → 0 < table_num m i → (0 < table_time m i) × ((find (commits_of stored) (table_num m i)).time ≡ table_time m i)  -- a true pair of a stored commit
+  -- a true pair of a stored commit
+  pub pair : (i : ℕ) → i < 64 → 0 < table_num m i → (0 < table_time m i)
+      × ((find (commits_of stored) (table_num m i)).time ≡ table_time m i)
   pub vacant : (i : ℕ) → i < 64 → table_num m i ≡ 0 → table_time m i ≡ 0
   pub apart : (i j : ℕ) → i < 64 → j < 64 → 0 < table_num m i → table_num m i ≡ table_num m j → i ≡ j  -- dead pairs too
 
 -- of all records ps; cs are the stored commits
 pub record NumbersOn (oldest next time : ℕ) (cs : List LoggedCommit) (ps : List Placed) : Type 0 where
-  pub below : Each (λ (x : Placed). x.seq < oldest → number_in x.rec < next) ps  -- what the log has lost, the master knows
+  -- what the log has lost, the master knows
+  pub below : Each (λ (x : Placed). x.seq < oldest → number_in x.rec < next) ps
   pub early : Each (λ (c : LoggedCommit). c.seq < oldest → c.time ≤ time) (commits_in ps)
   pub late : time ≤ last_of cs
   pub rising : Rising 0 (commits_in ps)
   pub once : Once (commits_in ps)
   -- a record's times never fall
-  pub steady : (i j : ℕ) → i < j → j < length (versions_in ps) → (at (versions_in ps) i).key ≡ (at (versions_in ps) j).key
-      → 0 < (find (commits_in ps) (at (versions_in ps) i).num).time → 0 < (find (commits_in ps) (at (versions_in ps) j).num).time
-      → (find (commits_in ps) (at (versions_in ps) i).num).time ≤ (find (commits_in ps) (at (versions_in ps) j).num).time
+  pub steady : (i j : ℕ) → i < j → j < length (versions_in ps)
+      → (at (versions_in ps) i).key ≡ (at (versions_in ps) j).key
+      → 0 < (find (commits_in ps) (at (versions_in ps) i).num).time
+      → 0 < (find (commits_in ps) (at (versions_in ps) j).num).time
+      → (find (commits_in ps) (at (versions_in ps) i).num).time
+      ≤ (find (commits_in ps) (at (versions_in ps) j).num).time
 
 pub record OnMedium (l d : ℕ) (m : List ℕ) (disk : Disk) (history : List (List Record)) : Type 0 where
   pub sizes : SizesOn l d m
@@ -118,10 +129,13 @@ pub record OnMedium (l d : ℕ) (m : List ℕ) (disk : Disk) (history : List (Li
 -- how much of the tail is on the medium, and the stored end place e
 pub data Stored (closed : List (List Record)) (tail : List Record) : List (List Record) → ℕ → Type 0 where
   nothing : (e : ℕ) → e ≤ end_place (length closed) 10 → Stored closed tail closed e
-  up_to : (n : ℕ) → n ≤ length tail → Stored closed tail (closed ++ (take n tail ∷ [])) (end_place (length closed) (10 + size_of (take n tail)))
+  up_to : (n : ℕ) → n ≤ length tail → Stored closed tail (closed ++ (take n tail ∷ []))
+      (end_place (length closed) (10 + size_of (take n tail)))
 
--- what the state has of sizes, next slot, tail block, stored end place, last time given, last time stored and next number
-pub record StateIs (l d blocks_in pages_in slotsIn : ℕ) (tail_in : List ℕ) (end_in lastIn savedIn next_in oldest : ℕ) (stored closed : List (List Record)) (tail : List Record) : Type 0 where
+-- what the state has of sizes, next slot, tail block, stored end place, last time given, last time stored and next
+-- number
+pub record StateIs (l d blocks_in pages_in slotsIn : ℕ) (tail_in : List ℕ) (end_in lastIn savedIn next_in oldest : ℕ)
+    (stored closed : List (List Record)) (tail : List Record) : Type 0 where
   pub blocks : blocks_in ≡ l
   pub pages : pages_in ≡ d
   pub slots : slotsIn ≡ length (versions_of (closed ++ (tail ∷ [])))
@@ -142,10 +156,12 @@ pub record CacheIs (d : ℕ) (c : List ℕ) (vs : List LoggedVersion) (cs : List
 -- the pages' first changes: of the versions below slot a; each is a block from o to q
 pub record Firsts (d : ℕ) (vs : List LoggedVersion) (on : ℕ → ℕ) (a o q : ℕ) (first : List ℕ) : Type 0 where
   pub size : length first ≡ 64
-  pub noted : (n : ℕ) → n < a → on (n / 15) ≤ n % 15 → (0 < get_or first (n / 15) 0) × (get_or first (n / 15) 0 ≤ (at vs n).seq)
+  pub noted : (n : ℕ) → n < a → on (n / 15) ≤ n % 15 → (0 < get_or first (n / 15) 0)
+      × (get_or first (n / 15) 0 ≤ (at vs n).seq)
   pub low : (p : ℕ) → p < d → 0 < get_or first p 0 → o ≤ get_or first p 0
   pub high : (p : ℕ) → p < d → get_or first p 0 ≤ q
-  pub lacks : (p : ℕ) → p < d → 0 < get_or first p 0 → on p < full a p  -- the medium lacks a version of a page with a first change
+  -- the medium lacks a version of a page with a first change
+  pub lacks : (p : ℕ) → p < d → 0 < get_or first p 0 → on p < full a p
 
 -- ---- places: a number of 0 says that the place is free, a time of 0 that it is not committed
 
@@ -188,7 +204,8 @@ pub record Lively (cs : List LoggedCommit) (cells : List Cell) (o next : ℕ) (p
   pub over : 0 < life_time p.life → (find cs (life_num p.life)).time ≡ life_time p.life
   -- the end place is the commit's; one that came from the table alone has 0, and its commit lies below the oldest block
   pub place : 0 < life_time p.life
-      → (life_end p.life ≡ (find cs (life_num p.life)).end) ⊎ ((life_end p.life ≡ 0) × ((find cs (life_num p.life)).seq < o))
+      → (life_end p.life ≡ (find cs (life_num p.life)).end)
+      ⊎ ((life_end p.life ≡ 0) × ((find cs (life_num p.life)).seq < o))
   pub unended : 0 < life_num p.life → life_time p.life ≡ 0 → (find cs (life_num p.life)).time ≡ 0
   pub waits : 0 < life_num p.life → p.waiting ≡ count (life_num p.life) cells
   pub busy : 0 < life_time p.life → 0 < p.waiting  -- a committed one is live while it has waiting versions
@@ -196,19 +213,24 @@ pub record Lively (cs : List LoggedCommit) (cells : List Cell) (o next : ℕ) (p
 -- each pair of a commit below block o, in a place below n, is at that place of the medium's table
 abbrev pub Covered : List ℕ → List LoggedCommit → List Place → ℕ → ℕ → Type 0
 Covered m cs ps o n =
-    (i : ℕ) → i < n → 0 < time_at ps i → (find cs (num_at ps i)).seq < o → (table_num m i ≡ num_at ps i) × (table_time m i ≡ time_at ps i)
+    (i : ℕ) → i < n → 0 < time_at ps i → (find cs (num_at ps i)).seq < o
+    → (table_num m i ≡ num_at ps i) × (table_time m i ≡ time_at ps i)
 
-pub record Living (m : List ℕ) (cs : List LoggedCommit) (cells : List Cell) (o next : ℕ) (ps : List Place) : Type 0 where
+pub record Living (m : List ℕ) (cs : List LoggedCommit) (cells : List Cell) (o next : ℕ)
+    (ps : List Place) : Type 0 where
   pub size : length ps ≡ 64
   pub each : (i : ℕ) → i < 64 → Lively cs cells o next (place_at ps i)
   pub distinct : (i j : ℕ) → i < 64 → j < 64 → 0 < num_at ps i → num_at ps i ≡ num_at ps j → i ≡ j
-  pub all : (n : ℕ) → 0 < count n cells → 0 < (find cs n).time → (i : ℕ) × (i < 64) × (num_at ps i ≡ n)  -- each committed number with waiting versions has a place
+  -- each committed number with waiting versions has a place
+  pub all : (n : ℕ) → 0 < count n cells → 0 < (find cs n).time → (i : ℕ) × (i < 64) × (num_at ps i ≡ n)
   pub covered : Covered m cs ps o 64
-  pub home : (i : ℕ) → i < 64 → 0 < table_num m i → 0 < count (table_num m i) cells → num_at ps i ≡ table_num m i  -- a live pair of the table is at its number's place
+  -- a live pair of the table is at its number's place
+  pub home : (i : ℕ) → i < 64 → 0 < table_num m i → 0 < count (table_num m i) cells → num_at ps i ≡ table_num m i
 
 -- active places and the book's open numbers
 pub record Opens (vs : List LoggedVersion) (next : ℕ) (os : List Opened) (ps : List Place) : Type 0 where
-  pub clocks : (i : ℕ) → i < 64 → 0 < num_at ps i → time_at ps i ≡ 0 → clock_in os (num_at ps i) ≡ life_clock (place_at ps i).life
+  pub clocks : (i : ℕ) → i < 64 → 0 < num_at ps i → time_at ps i ≡ 0
+      → clock_in os (num_at ps i) ≡ life_clock (place_at ps i).life
   pub short : (i : ℕ) → i < 64 → life_clock (place_at ps i).life < 2 ^ 64
   pub below : Each (λ (o : Opened). o.number < next) os
   -- once an active number has written a record, it alone does
@@ -219,7 +241,8 @@ pub record Opens (vs : List LoggedVersion) (next : ℕ) (os : List Opened) (ps :
 
 -- a checkpoint under way: its new oldest block o and its time t, with the first n places of the table stored; q is the
 -- tail's sequence
-pub record Pending (d : ℕ) (m : List ℕ) (disk : Disk) (cs : List LoggedCommit) (ps : List Place) (first : List ℕ) (q o t n : ℕ) : Type 0 where
+pub record Pending (d : ℕ) (m : List ℕ) (disk : Disk) (cs : List LoggedCommit) (ps : List Place) (first : List ℕ)
+    (q o t n : ℕ) : Type 0 where
   pub above : disk.oldest ≤ o
   pub below : o ≤ q
   pub pages : (p : ℕ) → p < d → 0 < get_or first p 0 → o ≤ get_or first p 0
@@ -234,11 +257,14 @@ PhaseIs (SecondStored o t) d m disk cs ps first q = Pending d m disk cs ps first
 
 -- ==== a running store: its closed blocks, and the records of its tail
 
-pub record Up (l d : ℕ) (m c : List ℕ) (s : State) (b : Book) (disk : Disk) (closed : List (List Record)) (tail : List Record) : Type 0 where
+pub record Up (l d : ℕ) (m c : List ℕ) (s : State) (b : Book) (disk : Disk) (closed : List (List Record))
+    (tail : List Record) : Type 0 where
   pub medium : OnMedium l d m disk (closed ++ (tail ∷ []))
-  pub state : StateIs l d s.blocks s.pages s.slots s.tail s.end.0 s.last.0 s.saved.0 s.next.0 disk.oldest disk.stored closed tail
+  pub state : StateIs l d s.blocks s.pages s.slots s.tail s.end.0 s.last.0 s.saved.0 s.next.0 disk.oldest disk.stored
+      closed tail
   pub cache : CacheIs d c (versions_of (closed ++ (tail ∷ []))) disk.cells
-  pub firsts : Firsts d (versions_of (closed ++ (tail ∷ []))) disk.on (length (versions_of (closed ++ (tail ∷ [])))) disk.oldest (length closed) s.first
+  pub firsts : Firsts d (versions_of (closed ++ (tail ∷ []))) disk.on (length (versions_of (closed ++ (tail ∷ []))))
+      disk.oldest (length closed) s.first
   pub living : Living m (commits_of (closed ++ (tail ∷ []))) disk.cells disk.oldest s.next.0 s.places
   pub opens : Opens (versions_of (closed ++ (tail ∷ []))) s.next.0 b.opened s.places
   pub phase : PhaseIs s.phase d m disk (commits_of (closed ++ (tail ∷ []))) s.places s.first (length closed)
@@ -250,12 +276,14 @@ pub record Up (l d : ℕ) (m c : List ℕ) (s : State) (b : Book) (disk : Disk) 
 pub record Down (l d : ℕ) (m : List ℕ) (b : Book) (disk : Disk) : Type 0 where
   pub medium : OnMedium l d m disk disk.stored
   -- a commit below the log that is still waited for is in the table
-  pub covered : (n : ℕ) → 0 < count n disk.cells → 0 < (find (commits_of disk.stored) n).time → (find (commits_of disk.stored) n).seq < disk.oldest
+  pub covered : (n : ℕ) → 0 < count n disk.cells → 0 < (find (commits_of disk.stored) n).time
+      → (find (commits_of disk.stored) n).seq < disk.oldest
       → (i : ℕ) × (i < 64) × (table_num m i ≡ n)
   -- 64 numbers, those that were live at the cut, among which is each that is waiting committed
   pub owners : List ℕ
   pub size : length owners ≡ 64
-  pub owned : (n : ℕ) → 0 < count n disk.cells → 0 < (find (commits_of disk.stored) n).time → (i : ℕ) × (i < 64) × (get_or owners i 0 ≡ n)
+  pub owned : (n : ℕ) → 0 < count n disk.cells → 0 < (find (commits_of disk.stored) n).time
+      → (i : ℕ) × (i < 64) × (get_or owners i 0 ≡ n)
   pub rows : b.rows ≡ rows_in (records disk.stored)
   pub stored : b.stored ≡ length (records disk.stored)
   pub closed : b.opened ≡ []
@@ -263,5 +291,6 @@ pub record Down (l d : ℕ) (m : List ℕ) (b : Book) (disk : Disk) : Type 0 whe
 -- ==== the invariant
 
 pub data Inv (l d : ℕ) : World → Book → Type 0 where
-  running : {m c : List ℕ} {s : State} {b : Book} {disk : Disk} {closed : List (List Record)} {tail : List Record} → Up l d m c s b disk closed tail → Inv l d (up m c s) b
+  running : {m c : List ℕ} {s : State} {b : Book} {disk : Disk} {closed : List (List Record)} {tail : List Record}
+      → Up l d m c s b disk closed tail → Inv l d (up m c s) b
   fallen : {m : List ℕ} {b : Book} {disk : Disk} → Down l d m b disk → Inv l d (down m) b

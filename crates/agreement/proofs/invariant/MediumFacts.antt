@@ -29,9 +29,13 @@ use Rattle.layout.proofs.SlotLaws.{SlotSized, SlotHolds, cell_slot_bytes}
 use Rattle.store.specs.Chain.{cell_at, newest, version_of, is_version}
 use Rattle.store.specs.OpenLog.{Placed, next_on, time_on}
 use Rattle.store.specs.OpenPairs.{count_waiting, waits_under}
-use Rattle.agreement.proofs.history.Ghost.{versions_of, commits_of, end_of_page, page_with, full, Sound, BlockSound, as_version, as_commit, Match, still, marked, no_version, records, LoggedVersion, versions_in, at, newest_of, LoggedCommit, commits_in, find, last_of, cell, waiting_cell, count, Disk}
+use Rattle.agreement.proofs.history.Ghost.{versions_of, commits_of, end_of_page, page_with, full, Sound, BlockSound}
+use Rattle.agreement.proofs.history.Ghost.{as_version, as_commit, Match, still, marked, no_version, records}
+use Rattle.agreement.proofs.history.Ghost.{LoggedVersion, versions_in, at, newest_of, LoggedCommit, commits_in, find}
+use Rattle.agreement.proofs.history.Ghost.{last_of, cell, waiting_cell, count, Disk}
 use Rattle.agreement.proofs.history.ListLaws.{split, each_from, each_take, each_drop}
-use Rattle.agreement.proofs.history.VersionLaws.{each_versions, each_commits, sound_all, versions_append, commits_append}
+use Rattle.agreement.proofs.history.VersionLaws.{each_versions, each_commits, sound_all, versions_append}
+use Rattle.agreement.proofs.history.VersionLaws.{commits_append}
 use Rattle.agreement.proofs.history.CommitLaws.{find_left, find_each}
 use Rattle.agreement.proofs.history.SlotLaws.{count_some, count_at, count_append, slot_page}
 use Rattle.agreement.proofs.invariant.Invariant.{master_fields, OnMedium, CacheIs}
@@ -62,7 +66,9 @@ key_below key e = ltb-true key 1024 e
 
 pub versions_sound : (d : ℕ) (bs : List (List Record)) → Each (BlockSound d) bs → Each (VersionSound d) (versions_of bs)
 unfolding record_form
-versions_sound d bs f = each_versions (λ (x : Placed). Sound d x.rec) (VersionSound d) (λ x h. go x.rec x.seq x.end h) (records bs) (sound_all d 0 bs f)
+versions_sound d bs f =
+    each_versions (λ (x : Placed). Sound d x.rec) (VersionSound d) (λ x h. go x.rec x.seq x.end h) (records bs)
+    (sound_all d 0 bs f)
   where
     go : (r : Record) (q e : ℕ) → Sound d r → Each (VersionSound d) (as_version r q e)
     go (version h v) q e s = (
@@ -82,7 +88,9 @@ versions_sound d bs f = each_versions (λ (x : Placed). Sound d x.rec) (VersionS
     go (commit p) q e s = tt
 
 pub commits_sound : (d : ℕ) (bs : List (List Record)) → Each (BlockSound d) bs → Each CommitSound (commits_of bs)
-commits_sound d bs f = each_commits (λ (x : Placed). Sound d x.rec) CommitSound (λ x h. go x.rec x.seq x.end h) (records bs) (sound_all d 0 bs f)
+commits_sound d bs f =
+    each_commits (λ (x : Placed). Sound d x.rec) CommitSound (λ x h. go x.rec x.seq x.end h) (records bs)
+    (sound_all d 0 bs f)
   where
     go : (r : Record) (q e : ℕ) → Sound d r → Each CommitSound (as_commit r q e)
     go (version h v) q e s = tt
@@ -95,7 +103,8 @@ last_below (c ∷ cs) h = omega (arith, h.0.time_high, last_below cs h.1)
 
 -- ---- of the medium
 
-module _ {l d : ℕ} {m : List ℕ} {disk : Disk} {history : List (List Record)} (medium : OnMedium l d m disk history) where
+module _ {l d : ℕ} {m : List ℕ} {disk : Disk} {history : List (List Record)}
+    (medium : OnMedium l d m disk history) where
   pub fields_sized : FieldsSized (master_fields l d disk.oldest disk.next disk.time)
   fields_sized = record {
     blocks = omega (arith, medium.sizes.range.blocks_high);
@@ -105,8 +114,12 @@ module _ {l d : ℕ} {m : List ℕ} {disk : Disk} {history : List (List Record)}
     last = medium.master.fits.time_high;
   }
 
-  parts : MasterParts (master_bytes (master_fields l d disk.oldest disk.next disk.time)) (master_fields l d disk.oldest disk.next disk.time)
-  parts = master_parts (master_bytes (master_fields l d disk.oldest disk.next disk.time)) (master_fields l d disk.oldest disk.next disk.time) (master_back (master_fields l d disk.oldest disk.next disk.time) fields_sized)
+  parts : MasterParts (master_bytes (master_fields l d disk.oldest disk.next disk.time))
+      (master_fields l d disk.oldest disk.next disk.time)
+  parts =
+      master_parts (master_bytes (master_fields l d disk.oldest disk.next disk.time))
+      (master_fields l d disk.oldest disk.next disk.time)
+      (master_back (master_fields l d disk.oldest disk.next disk.time) fields_sized)
 
   part_is : (at : ℕ) → at + 8 ≤ 512 → dec (part (blk m 0) at 8) ≡ dec (part m at 8)
   part_is at h = ap dec (rw zero-add at (part_blk m 0 at 8 h))
@@ -124,7 +137,8 @@ module _ {l d : ℕ} {m : List ℕ} {disk : Disk} {history : List (List Record)}
   time_is = sym (part_is 35 (omega arith)) ∙ ap (λ (x : List ℕ). dec (part x 35 8)) medium.master.block ∙ sym parts.last
 
   pub sound_at : (n : ℕ) → n < length (versions_of history) → VersionSound d (at (versions_of history) n)
-  sound_at n h = each_at (VersionSound d) (versions_of history) n no_version (versions_sound d history medium.log.shape.sound) h
+  sound_at n h =
+      each_at (VersionSound d) (versions_of history) n no_version (versions_sound d history medium.log.shape.sound) h
 
   pub versions_split : versions_of history ≡ versions_of disk.stored ++ versions_in medium.log.shape.rest
   versions_split = ap versions_in medium.log.shape.split ∙ versions_append (records disk.stored) medium.log.shape.rest
@@ -134,15 +148,31 @@ module _ {l d : ℕ} {m : List ℕ} {disk : Disk} {history : List (List Record)}
 
   -- slots that match their versions have fields that fit their widths, by the records' soundness and the commits' times
   pub match_sized : (cells : List Cell) → length cells ≡ length (versions_of history)
-      → ((n : ℕ) → n < length (versions_of history) → Match (commits_of disk.stored) (at (versions_of history) n) (cell cells n)) → Each SlotSized cells
+      → ((n : ℕ) → n < length (versions_of history)
+      → Match (commits_of disk.stored) (at (versions_of history) n) (cell cells n)) → Each SlotSized cells
   unfolding shared_field
   match_sized cells size match =
-      each_from SlotSized cells no_cell (λ i h. go (at (versions_of history) i) (cell cells i) (sound_at i (omega arith)) (match i (omega arith)))
+      each_from SlotSized cells no_cell (λ i h. go (at (versions_of history) i) (cell cells i)
+      (sound_at i (omega arith)) (match i (omega arith)))
     where
       go : (v : LoggedVersion) (x : Cell) → VersionSound d v → Match (commits_of disk.stored) v x → SlotSized x
-      go v x f still = record { shared = omega (arith, f.high); key = omega (arith, f.key); kind = f.kind; earlier = f.earlier; size = f.size; bytes = f.bytes }
+      go v x f still =
+          record {
+            shared = omega (arith, f.high);
+            key = omega (arith, f.key);
+            kind = f.kind;
+            earlier = f.earlier;
+            size = f.size;
+            bytes = f.bytes;
+          }
       go v x f (marked t z e) = record {
-        shared = omega (arith, e, (find_each v.num CommitSound (commits_of disk.stored) (commits_sound d disk.stored medium.log.shape.stored_sound) (omega arith)).time_high);
+        shared =
+            omega (
+              arith,
+              e,
+              (find_each v.num CommitSound (commits_of disk.stored)
+                  (commits_sound d disk.stored medium.log.shape.stored_sound) (omega arith)).time_high,
+            );
         key = omega (arith, f.key);
         kind = f.kind;
         earlier = f.earlier;
@@ -155,19 +185,25 @@ module _ {l d : ℕ} {m : List ℕ} {disk : Disk} {history : List (List Record)}
 
   pub cells_hold : Each SlotHolds disk.cells
   unfolding code_of
-  cells_hold = each_from SlotHolds disk.cells no_cell (λ i h. go (at (versions_of history) i) (cell disk.cells i) (sound_at i (rw medium.pages.slots.count at h)) (medium.pages.slots.match i (rw medium.pages.slots.count at h)))
+  cells_hold =
+      each_from SlotHolds disk.cells no_cell
+      (λ i h. go (at (versions_of history) i) (cell disk.cells i) (sound_at i (rw medium.pages.slots.count at h))
+      (medium.pages.slots.match i (rw medium.pages.slots.count at h)))
     where
       go : (v : LoggedVersion) (x : Cell) → VersionSound d v → Match (commits_of disk.stored) v x → SlotHolds x
       go v x f still = record { held = omega arith; key = f.key; form = f.form }
       go v x f (marked t z e) = record { held = omega arith; key = f.key; form = f.form }
 
   -- a stored commit is the same in the whole history
-  pub find_stored : (n : ℕ) → 0 < (find (commits_of disk.stored) n).time → find (commits_of history) n ≡ find (commits_of disk.stored) n
+  pub find_stored : (n : ℕ) → 0 < (find (commits_of disk.stored) n).time
+      → find (commits_of history) n ≡ find (commits_of disk.stored) n
   find_stored n h = rw commits_split (find_left n (commits_of disk.stored) (commits_in medium.log.shape.rest) h)
 
   -- a stored version is the same in the whole history
-  pub version_stored : (n : ℕ) → n < length (versions_of disk.stored) → at (versions_of history) n ≡ at (versions_of disk.stored) n
-  version_stored n h = rw versions_split (get_or-append (versions_of disk.stored) (versions_in medium.log.shape.rest) no_version n h)
+  pub version_stored : (n : ℕ) → n < length (versions_of disk.stored)
+      → at (versions_of history) n ≡ at (versions_of disk.stored) n
+  version_stored n h =
+      rw versions_split (get_or-append (versions_of disk.stored) (versions_in medium.log.shape.rest) no_version n h)
 
   pub fewer_stored : length (versions_of disk.stored) ≤ length (versions_of history)
   fewer_stored = rw (versions_split, length-append) (omega arith)
@@ -178,36 +214,46 @@ module _ {l d : ℕ} {m : List ℕ} {disk : Disk} {history : List (List Record)}
 
   -- every stored commit has a time
   pub times_low : Each (λ (c : LoggedCommit). 0 < c.time) (commits_of disk.stored)
-  times_low = each_map CommitSound (λ (c : LoggedCommit). 0 < c.time) (commits_of disk.stored) (λ c f. f.time_low) (commits_sound d disk.stored medium.log.shape.stored_sound)
+  times_low =
+      each_map CommitSound (λ (c : LoggedCommit). 0 < c.time) (commits_of disk.stored) (λ c f. f.time_low)
+      (commits_sound d disk.stored medium.log.shape.stored_sound)
 
   -- a slot waits under a number just if its version is that number's and is not stamped
-  pub waiting_slot : (n : ℕ) → 0 < count n disk.cells → (j : ℕ) × (j < length (versions_of history)) × ((at (versions_of history) j).num ≡ n) × (cell disk.cells j ≡ waiting_cell (at (versions_of history) j))
+  pub waiting_slot : (n : ℕ) → 0 < count n disk.cells → (j : ℕ) × (j < length (versions_of history))
+      × ((at (versions_of history) j).num ≡ n) × (cell disk.cells j ≡ waiting_cell (at (versions_of history) j))
   waiting_slot n h =
       let (j, g, w) = count_some n disk.cells h in
       let lt : j < length (versions_of history) = rw medium.pages.slots.count at g in
-      let (e, f) = go (at (versions_of history) j) (cell disk.cells j) w (medium.pages.slots.match j lt) in (j, lt, e, f)
+      let (e, f) = go (at (versions_of history) j) (cell disk.cells j) w (medium.pages.slots.match j lt) in
+      (j, lt, e, f)
     where
-      go : (v : LoggedVersion) (x : Cell) → waits_under x.state n ≡ true → Match (commits_of disk.stored) v x → (v.num ≡ n) × (x ≡ waiting_cell v)
+      go : (v : LoggedVersion) (x : Cell) → waits_under x.state n ≡ true → Match (commits_of disk.stored) v x
+          → (v.num ≡ n) × (x ≡ waiting_cell v)
       go v x w still = (eqb-true v.num n w, refl)
       go v x w (marked t z e) = absurd (false≢true w)
 
-  pub counted : (n j : ℕ) → j < length (versions_of history) → (at (versions_of history) j).num ≡ n → cell disk.cells j ≡ waiting_cell (at (versions_of history) j) → 0 < count n disk.cells
+  pub counted : (n j : ℕ) → j < length (versions_of history) → (at (versions_of history) j).num ≡ n
+      → cell disk.cells j ≡ waiting_cell (at (versions_of history) j) → 0 < count n disk.cells
   counted n j h e w =
       count_at n j disk.cells (rw medium.pages.slots.count h)
       (ap (λ (x : Cell). waits_under x.state n) w ∙ eq-eqb (at (versions_of history) j).num n e)
 
   -- a slot holds a version, with its version's fields
   pub cell_fields : (n : ℕ) → n < length (versions_of history)
-      → (is_version (cell disk.cells n).state ≡ true) × ((cell disk.cells n).key ≡ (at (versions_of history) n).key) × ((cell disk.cells n).kind ≡ (at (versions_of history) n).kind)
-      × ((cell disk.cells n).earlier ≡ (at (versions_of history) n).earlier) × ((cell disk.cells n).value ≡ (at (versions_of history) n).value)
+      → (is_version (cell disk.cells n).state ≡ true) × ((cell disk.cells n).key ≡ (at (versions_of history) n).key)
+      × ((cell disk.cells n).kind ≡ (at (versions_of history) n).kind)
+      × ((cell disk.cells n).earlier ≡ (at (versions_of history) n).earlier)
+      × ((cell disk.cells n).value ≡ (at (versions_of history) n).value)
   cell_fields n h = go (at (versions_of history) n) (cell disk.cells n) (medium.pages.slots.match n h)
     where
       go : (v : LoggedVersion) (x : Cell) → Match (commits_of disk.stored) v x
-          → (is_version x.state ≡ true) × (x.key ≡ v.key) × (x.kind ≡ v.kind) × (x.earlier ≡ v.earlier) × (x.value ≡ v.value)
+          → (is_version x.state ≡ true) × (x.key ≡ v.key) × (x.kind ≡ v.kind) × (x.earlier ≡ v.earlier)
+          × (x.value ≡ v.value)
       go v x still = (refl, refl, refl, refl, refl)
       go v x (marked t z e) = (refl, refl, refl, refl, refl)
 
-  cell_version : (n : ℕ) → n < length (versions_of history) → (is_version (cell disk.cells n).state ≡ true) × ((cell disk.cells n).key ≡ (at (versions_of history) n).key)
+  cell_version : (n : ℕ) → n < length (versions_of history) → (is_version (cell disk.cells n).state ≡ true)
+      × ((cell disk.cells n).key ≡ (at (versions_of history) n).key)
   cell_version n h = let q = cell_fields n h in (q.0, q.1)
 
   -- ---- of a cache that holds the slots
@@ -217,8 +263,11 @@ module _ {l d : ℕ} {m : List ℕ} {disk : Disk} {history : List (List Record)}
     cell_cached n h =
         ap cell_of (cache_slot_law c n
         ∙ ap (λ (x : List ℕ). page_slot x (n % 15)) (cache.pages (n / 15) (omega (arith, medium.pages.slots.room)))
-        ∙ slot_page (versions_of history) disk.cells (n / 15) (full (length (versions_of history)) (n / 15)) (n % 15) cells_sized (omega (arith, medium.pages.slots.count)) (omega arith))
-        ∙ cell_slot_bytes (cell disk.cells (15 * (n / 15) + n % 15)) (each_at SlotSized disk.cells (15 * (n / 15) + n % 15) no_cell cells_sized (omega (arith, medium.pages.slots.count)))
+        ∙ slot_page (versions_of history) disk.cells (n / 15) (full (length (versions_of history)) (n / 15)) (n % 15)
+        cells_sized (omega (arith, medium.pages.slots.count)) (omega arith))
+        ∙ cell_slot_bytes (cell disk.cells (15 * (n / 15) + n % 15))
+        (each_at SlotSized disk.cells (15 * (n / 15) + n % 15) no_cell cells_sized
+        (omega (arith, medium.pages.slots.count)))
         ∙ ap (λ (i : ℕ). cell disk.cells i) whole
       where
         whole : 15 * (n / 15) + n % 15 ≡ n
@@ -230,25 +279,33 @@ module _ {l d : ℕ} {m : List ℕ} {disk : Disk} {history : List (List Record)}
         ap (λ (x : List ℕ). state_of (get_or x 0 0) (dec (part x 8 8)))
         (cache_slot_law c n
         ∙ ap (λ (x : List ℕ). page_slot x (n % 15)) (cache.pages (n / 15) (omega arith))
-        ∙ free_page_bytes (end_of_page (versions_of history) (n / 15) (full (length (versions_of history)) (n / 15))) (take (full (length (versions_of history)) (n / 15)) (drop (15 * (n / 15)) disk.cells)) (n % 15)
-        (each_take SlotSized (full (length (versions_of history)) (n / 15)) (drop (15 * (n / 15)) disk.cells) (each_drop SlotSized (15 * (n / 15)) disk.cells cells_sized))
+        ∙ free_page_bytes (end_of_page (versions_of history) (n / 15) (full (length (versions_of history)) (n / 15)))
+        (take (full (length (versions_of history)) (n / 15)) (drop (15 * (n / 15)) disk.cells)) (n % 15)
+        (each_take SlotSized (full (length (versions_of history)) (n / 15)) (drop (15 * (n / 15)) disk.cells)
+        (each_drop SlotSized (15 * (n / 15)) disk.cells cells_sized))
         (simp (length-take, length-drop) (omega (arith, medium.pages.slots.count))) (omega arith))
 
-    pub newest_cached : (key n : ℕ) → n ≤ length (versions_of history) → newest c key n ≡ newest_of (versions_of history) key n
+    pub newest_cached : (key n : ℕ) → n ≤ length (versions_of history)
+        → newest c key n ≡ newest_of (versions_of history) key n
     unfolding newest newest_of version_of
     newest_cached key zero h = refl
     newest_cached key (suc n) h =
         rw (cell_cached n h, (cell_version n h).0, (cell_version n h).1, newest_cached key n (omega arith))
 
-    count_step : (n j : ℕ) → j < 15 * d → count_waiting c n j ≡ count n (take j disk.cells) → (j < length (versions_of history)) ⊎ (length (versions_of history) ≤ j)
+    count_step : (n j : ℕ) → j < 15 * d → count_waiting c n j ≡ count n (take j disk.cells)
+        → (j < length (versions_of history)) ⊎ (length (versions_of history) ≤ j)
         → count_waiting c n j + cond (waits_under (cell_at c j).state n) 1 0 ≡ count n (take (suc j) disk.cells)
     unfolding count
     count_step n j h e (inl a) =
-        let t : take (suc j) disk.cells ≡ take j disk.cells ++ (cell disk.cells j ∷ []) = take-suc disk.cells j no_cell (omega (arith, medium.pages.slots.count)) in
-        let x : count n (take (suc j) disk.cells) ≡ count n (take j disk.cells) + count n (cell disk.cells j ∷ []) = ap (count n) t ∙ count_append n (take j disk.cells) (cell disk.cells j ∷ []) in
+        let t : take (suc j) disk.cells ≡ take j disk.cells ++ (cell disk.cells j ∷ []) =
+        take-suc disk.cells j no_cell (omega (arith, medium.pages.slots.count)) in
+        let x : count n (take (suc j) disk.cells) ≡ count n (take j disk.cells) + count n (cell disk.cells j ∷ []) =
+        ap (count n) t ∙ count_append n (take j disk.cells) (cell disk.cells j ∷ []) in
         rw (cell_cached j a) (omega (arith, e, x))
     count_step n j h e (inr a) =
-        let x : take (suc j) disk.cells ≡ take j disk.cells = take_all (suc j) disk.cells (omega (arith, medium.pages.slots.count)) ∙ sym (take_all j disk.cells (omega (arith, medium.pages.slots.count))) in
+        let x : take (suc j) disk.cells ≡ take j disk.cells =
+        take_all (suc j) disk.cells (omega (arith, medium.pages.slots.count))
+        ∙ sym (take_all j disk.cells (omega (arith, medium.pages.slots.count))) in
         rw (cell_free j a h, x) (omega (arith, e))
 
     count_upto : (n j : ℕ) → j ≤ 15 * d → count_waiting c n j ≡ count n (take j disk.cells)
@@ -257,4 +314,6 @@ module _ {l d : ℕ} {m : List ℕ} {disk : Disk} {history : List (List Record)}
     count_upto n (suc j) h = count_step n j h (count_upto n j (omega arith)) (split j (length (versions_of history)))
 
     pub count_cached : (n : ℕ) → count_waiting c n (15 * d) ≡ count n disk.cells
-    count_cached n = count_upto n (15 * d) (omega arith) ∙ ap (count n) (take_all (15 * d) disk.cells (omega (arith, medium.pages.slots.count, medium.pages.slots.room)))
+    count_cached n =
+        count_upto n (15 * d) (omega arith)
+        ∙ ap (count n) (take_all (15 * d) disk.cells (omega (arith, medium.pages.slots.count, medium.pages.slots.room)))

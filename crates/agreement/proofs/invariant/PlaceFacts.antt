@@ -8,7 +8,8 @@ use mathlib.Core.Path.{◌≡◌, refl, sym, ap, ◌∙◌}
 use borrow.Author.Tests.{eqb-true, eq-eqb}
 use Rattle.layout.specs.Slot.{Cell}
 use Rattle.store.proofs.SearchLaws.{first_found, first_only}
-use Rattle.store.specs.Places.{is_free, place_at, find_active, find_committed, time_under, active_as, committed_as, time_of, at_found}
+use Rattle.store.specs.Places.{is_free, place_at, find_active, find_committed, time_under, active_as, committed_as}
+use Rattle.store.specs.Places.{time_of, at_found}
 use Rattle.store.specs.declared.Place.{Place}
 use Rattle.store.specs.declared.Found.{Found}
 use Rattle.store.specs.declared.Found.TheVariants.{At, Nothing}
@@ -16,7 +17,7 @@ use Rattle.store.specs.declared.Timing.TheVariants.{Untimed}
 use Rattle.store.specs.declared.Life.{Life}
 use Rattle.store.specs.declared.Life.TheVariants.{Free, Active, Committed}
 use Rattle.agreement.proofs.history.CommitLaws.{timed}
-use Rattle.agreement.proofs.history.Ghost.{at, LoggedCommit, find, timing, count}
+use Rattle.agreement.proofs.history.Ghost.{LoggedCommit, find, timing, count}
 use Rattle.agreement.proofs.history.ListLaws.{same?}
 use Rattle.agreement.proofs.invariant.Invariant.{life_num, life_time, Formed, Living, num_at, time_at}
 
@@ -59,7 +60,8 @@ life_time_law Free h = absurd (omega arith)
 life_time_law (Active a k) h = absurd (omega arith)
 life_time_law (Committed a t k) h = timed t.0 h
 
-module _ {m : List ℕ} {cs : List LoggedCommit} {cells : List Cell} {o next : ℕ} {ps : List Place} (v : Living m cs cells o next ps) where
+module _ {m : List ℕ} {cs : List LoggedCommit} {cells : List Cell} {o next : ℕ} {ps : List Place}
+    (v : Living m cs cells o next ps) where
   -- the active place that was found
   pub active_found : (n i : ℕ) → find_active ps n ≡ At i → (i < 64) × (0 < n) × (num_at ps i ≡ n) × (time_at ps i ≡ 0)
   unfolding find_active
@@ -71,8 +73,10 @@ module _ {m : List ℕ} {cs : List LoggedCommit} {cells : List Cell} {o next : �
   pub active_finds : (n i : ℕ) → i < 64 → 0 < n → num_at ps i ≡ n → time_at ps i ≡ 0 → find_active ps n ≡ At i
   unfolding find_active
   active_finds n i h z e t =
-      first_only (λ j. active_as (place_at ps j).life n) 64 i h (life_active (place_at ps i).life n (v.each i h).formed z e t)
-      (λ j g a. let b = active_life (place_at ps j).life n (v.each j g).formed a in v.distinct j i g h (omega (arith, b.1)) (b.1 ∙ sym e))
+      first_only (λ j. active_as (place_at ps j).life n) 64 i h
+      (life_active (place_at ps i).life n (v.each i h).formed z e t)
+      (λ j g a. let b = active_life (place_at ps j).life n (v.each j g).formed a in
+      v.distinct j i g h (omega (arith, b.1)) (b.1 ∙ sym e))
 
   pub committed_found : (n i : ℕ) → find_committed ps n ≡ At i → (i < 64) × (num_at ps i ≡ n) × (0 < time_at ps i)
   unfolding find_committed
@@ -84,22 +88,31 @@ module _ {m : List ℕ} {cs : List LoggedCommit} {cells : List Cell} {o next : �
   pub committed_finds : (n i : ℕ) → i < 64 → 0 < n → num_at ps i ≡ n → 0 < time_at ps i → find_committed ps n ≡ At i
   unfolding find_committed
   committed_finds n i h z e t =
-      first_only (λ j. committed_as (place_at ps j).life n) 64 i h (life_committed (place_at ps i).life n (v.each i h).formed e t)
-      (λ j g a. let b = committed_life (place_at ps j).life n (v.each j g).formed a in v.distinct j i g h (omega (arith, b.0)) (b.0 ∙ sym e))
+      first_only (λ j. committed_as (place_at ps j).life n) 64 i h
+      (life_committed (place_at ps i).life n (v.each i h).formed e t)
+      (λ j g a. let b = committed_life (place_at ps j).life n (v.each j g).formed a in
+      v.distinct j i g h (omega (arith, b.0)) (b.0 ∙ sym e))
 
   -- the time of a number that is waited for is its commit's
   pub time_under_law : (n : ℕ) → 0 < n → 0 < count n cells → time_under ps n ≡ timing (find cs n).time
   unfolding time_under
   time_under_law n z h = go (same? (find cs n).time 0) (find_committed ps n) refl
     where
-      time_of_law : (i : ℕ) → i < 64 → num_at ps i ≡ n → 0 < time_at ps i → time_of (place_at ps i).life ≡ timing (find cs n).time
-      time_of_law i g e t = life_time_law (place_at ps i).life t ∙ ap timing (sym ((v.each i g).over t) ∙ ap (λ (j : ℕ). (find cs j).time) e)
+      time_of_law : (i : ℕ) → i < 64 → num_at ps i ≡ n → 0 < time_at ps i
+          → time_of (place_at ps i).life ≡ timing (find cs n).time
+      time_of_law i g e t =
+          life_time_law (place_at ps i).life t
+          ∙ ap timing (sym ((v.each i g).over t) ∙ ap (λ (j : ℕ). (find cs j).time) e)
 
-      go : ((find cs n).time ≡ 0) ⊎ ((find cs n).time ≢ 0) → (f : Found) → find_committed ps n ≡ f → at_found f (λ i. time_of (place_at ps i).life) ≡ timing (find cs n).time
+      go : ((find cs n).time ≡ 0) ⊎ ((find cs n).time ≢ 0) → (f : Found) → find_committed ps n ≡ f
+          → at_found f (λ i. time_of (place_at ps i).life) ≡ timing (find cs n).time
       go c (At i) e = let r = committed_found n i e in time_of_law i r.0 r.1 r.2
       go (inl c) Nothing e = rw c
       go (inr c) Nothing e = let (i, g, q) = v.all n h (omega arith) in by i g q (same? (time_at ps i) 0)
         where
-          by : (i : ℕ) → i < 64 → num_at ps i ≡ n → (time_at ps i ≡ 0) ⊎ (time_at ps i ≢ 0) → Untimed ≡ timing (find cs n).time
+          by : (i : ℕ) → i < 64 → num_at ps i ≡ n → (time_at ps i ≡ 0) ⊎ (time_at ps i ≢ 0)
+              → Untimed ≡ timing (find cs n).time
           by i g q (inl t) = absurd (c (rw q at ((v.each i g).unended (omega arith) t)))
-          by i g q (inr t) = let f : find_committed ps n ≡ At i = committed_finds n i g z q (omega arith) in let y : ◌≡◌ {A = ℕ} 0 1 = cc in absurd (omega arith)
+          by i g q (inr t) =
+              let f : find_committed ps n ≡ At i = committed_finds n i g z q (omega arith) in
+              let y : ◌≡◌ {A = ℕ} 0 1 = cc in absurd (omega arith)

@@ -1,5 +1,5 @@
--- The log takes a record: it fits the tail, or the tail is stored and the record begins the next block. What the medium,
--- the history and the book's count of stored rows then are.
+-- The log takes a record: it fits the tail, or the tail is stored and the record begins the next block. What the
+-- medium, the history and the book's count of stored rows then are.
 use Prim.Native.Nat.{ℕ, ◌+◌, ◌*◌, ◌/◌, ◌%◌, ◌^◌, ◌≤◌, ◌<◌}
 use native.Mathlib.Nat.{mod-lt}
 use native.Mathlib.Omega.{arith}
@@ -32,9 +32,13 @@ use Rattle.store.specs.Tail.{may_log, tail_fits, tail_end, stored_tail, Logged, 
 use Rattle.store.specs.OpenLog.{Placed}
 use Rattle.runs.specs.Book.{Book}
 use Rattle.runs.specs.Machine.{log_changed}
-use Rattle.agreement.proofs.logging.GrowthLaws.{tail_sequence, stored_length, stored_at, stored_more, take_size, match_more, block_used, block_end, sound_snoc, zero_size, one_size, record_high, empty_room, next_end, tail_sound, tail_length, tail_low, tail_seq, tail_used, tail_inside}
+use Rattle.agreement.proofs.logging.GrowthLaws.{tail_sequence, stored_length, stored_at, stored_more, take_size}
+use Rattle.agreement.proofs.logging.GrowthLaws.{match_more, block_used, block_end, sound_snoc, zero_size, one_size}
+use Rattle.agreement.proofs.logging.GrowthLaws.{record_high, empty_room, next_end, tail_sound, tail_length, tail_low}
+use Rattle.agreement.proofs.logging.GrowthLaws.{tail_seq, tail_used, tail_inside}
 use Rattle.agreement.proofs.history.PlacingLaws.{block_size, records_more, records_next}
-use Rattle.agreement.proofs.history.Ghost.{commits_of, size_of, Sound, BlockSound, records, at, LoggedCommit, commits_in, find, last_of, count, Disk}
+use Rattle.agreement.proofs.history.Ghost.{commits_of, size_of, Sound, BlockSound, records, LoggedCommit, commits_in}
+use Rattle.agreement.proofs.history.Ghost.{find, last_of, Disk}
 use Rattle.agreement.proofs.history.ListLaws.{same?, each_left, each_right}
 use Rattle.agreement.proofs.history.CommitLaws.{find_left, last_append}
 use Rattle.agreement.proofs.invariant.MediumFacts.{oldest_is, commits_split, fewer_stored}
@@ -42,7 +46,8 @@ use Rattle.agreement.proofs.invariant.Invariant.{OnMedium, table_num, table_time
 
 -- the disk with other stored blocks
 abbrev pub with_log : Disk → List (List Record) → Disk
-with_log k stored = record { oldest = k.oldest; next = k.next; time = k.time; stored = stored; cells = k.cells; on = k.on }
+with_log k stored =
+    record { oldest = k.oldest; next = k.next; time = k.time; stored = stored; cells = k.cells; on = k.on }
 
 -- a log block as a part of the log
 log_part : (m : List ℕ) (l j : ℕ) → j < l → blk m (3 + j) ≡ part (part m (512 * 3) (512 * l)) (512 * j) 512
@@ -55,19 +60,25 @@ log_part m l j h =
 
 -- the tail's block by blk_same, the others by blk_other; stamps and pairs by find_left over the longer stored history
 module _ {l d : ℕ} {m : List ℕ} {disk : Disk} {closed : List (List Record)} {tail : List Record} {e : ℕ}
-    (medium : OnMedium l d m disk (closed ++ (tail ∷ []))) (low : disk.oldest ≤ length closed) (high : length closed < disk.oldest + l) (mark : Stored closed tail disk.stored e) where
-  pub pairs_stay : (i : ℕ) → i < 64 → table_pair (put m (log_block_at l (length closed)) (log_bytes (length closed) tail)) i ≡ table_pair m i
+    (medium : OnMedium l d m disk (closed ++ (tail ∷ []))) (low : disk.oldest ≤ length closed)
+    (high : length closed < disk.oldest + l) (mark : Stored closed tail disk.stored e) where
+  pub pairs_stay : (i : ℕ) → i < 64 → table_pair
+      (put m (log_block_at l (length closed)) (log_bytes (length closed) tail)) i ≡ table_pair m i
   pairs_stay i h =
-      table_pair_other m i (log_block_at l (length closed)) (log_bytes (length closed) tail) (tail_length closed tail medium)
+      table_pair_other m i (log_block_at l (length closed)) (log_bytes (length closed) tail)
+      (tail_length closed tail medium)
       (λ e. log_not_first l (length closed) (1 + i / 32) (omega arith) (sym e))
 
-  pub storing : OnMedium l d (put m (log_block_at l (length closed)) (log_bytes (length closed) tail)) (with_log disk (closed ++ (tail ∷ []))) (closed ++ (tail ∷ []))
+  pub storing : OnMedium l d (put m (log_block_at l (length closed)) (log_bytes (length closed) tail))
+      (with_log disk (closed ++ (tail ∷ []))) (closed ++ (tail ∷ []))
   unfolding log_block_at
   storing = record {
     sizes = record { range = medium.sizes.range; size = length_put m place new ∙ medium.sizes.size };
     master = record {
       fits = medium.master.fits;
-      block = blk_other m place new 0 size (λ e. log_not_first l (length closed) 0 (omega arith) (sym e)) ∙ medium.master.block;
+      block =
+          blk_other m place new 0 size (λ e. log_not_first l (length closed) 0 (omega arith) (sym e))
+          ∙ medium.master.block;
     };
     log = record {
       shape = record {
@@ -88,11 +99,16 @@ module _ {l d : ℕ} {m : List ℕ} {disk : Disk} {closed : List (List Record)} 
         slot = medium.pages.slots.slot;
         room = medium.pages.slots.room;
         count = medium.pages.slots.count;
-        match = λ n h. rw (commits_split medium) (match_more (commits_of disk.stored) (commits_in medium.log.shape.rest) _ _ (medium.pages.slots.match n h));
+        match =
+            λ n h. rw (commits_split medium)
+            (match_more (commits_of disk.stored) (commits_in medium.log.shape.rest) _ _ (medium.pages.slots.match n h));
         chain = medium.pages.slots.chain;
       };
       few = λ p. ((medium.pages.few p).0, omega (arith, (medium.pages.few p).1, fewer_stored medium));
-      page = λ p a. blk_other m place new (page_block_at l p) size (λ e. log_page_apart l (length closed) p (omega (arith, medium.sizes.range.blocks_low)) (sym e)) ∙ medium.pages.page p a;
+      page =
+          λ p a. blk_other m place new (page_block_at l p) size
+          (λ e. log_page_apart l (length closed) p (omega (arith, medium.sizes.range.blocks_low)) (sym e))
+          ∙ medium.pages.page p a;
       kept = medium.pages.kept;
       plain = medium.pages.plain;
     };
@@ -120,20 +136,29 @@ module _ {l d : ℕ} {m : List ℕ} {disk : Disk} {closed : List (List Record)} 
       size : length (log_bytes (length closed) tail) ≡ 512
       size = tail_length closed tail medium
 
-      num : (i : ℕ) → i < 64 → table_num (put m (log_block_at l (length closed)) (log_bytes (length closed) tail)) i ≡ table_num m i
+      num : (i : ℕ) → i < 64 → table_num (put m (log_block_at l (length closed)) (log_bytes (length closed) tail)) i
+          ≡ table_num m i
       num i h = ap (λ (p : Pair). p.number.0) (pairs_stay i h)
 
-      time : (i : ℕ) → i < 64 → table_time (put m (log_block_at l (length closed)) (log_bytes (length closed) tail)) i ≡ table_time m i
+      time : (i : ℕ) → i < 64 → table_time (put m (log_block_at l (length closed)) (log_bytes (length closed) tail)) i
+          ≡ table_time m i
       time i h = ap (λ (p : Pair). p.time.0) (pairs_stay i h)
 
-      pair' : (i : ℕ) → i < 64 → 0 < table_num m i → (0 < table_time m i) × ((find (commits_of (closed ++ (tail ∷ []))) (table_num m i)).time ≡ table_time m i)
+      pair' : (i : ℕ) → i < 64 → 0 < table_num m i → (0 < table_time m i)
+          × ((find (commits_of (closed ++ (tail ∷ []))) (table_num m i)).time ≡ table_time m i)
       pair' i h z =
-          let t = medium.table.pair i h z in
-          (t.0, rw (commits_split medium) (ap (λ (c : LoggedCommit). c.time) (find_left (table_num m i) (commits_of disk.stored) (commits_in medium.log.shape.rest) (omega (arith, t))) ∙ t.1))
+          let t = medium.table.pair i h z in (
+            t.0,
+            rw (commits_split medium) (ap (λ (c : LoggedCommit). c.time)
+                (find_left (table_num m i) (commits_of disk.stored) (commits_in medium.log.shape.rest)
+                (omega (arith, t))) ∙ t.1),
+          )
 
       blocks' : (q : ℕ) → (q ≡ length closed) ⊎ (q ≢ length closed) → disk.oldest ≤ q → q < length closed + 1
-          → blk (put m (log_block_at l (length closed)) (log_bytes (length closed) tail)) (log_block_at l q) ≡ log_bytes q (get_or (closed ++ (tail ∷ [])) q [])
-      blocks' q (inl e) a b = rw (e, get_or-append_seam closed tail [] []) (blk_same m place new size (tail_inside closed tail medium))
+          → blk (put m (log_block_at l (length closed)) (log_bytes (length closed) tail)) (log_block_at l q)
+          ≡ log_bytes q (get_or (closed ++ (tail ∷ [])) q [])
+      blocks' q (inl e) a b =
+          rw (e, get_or-append_seam closed tail [] []) (blk_same m place new size (tail_inside closed tail medium))
       blocks' q (inr e) a b =
           let lt : q < length closed = omega arith in
           blk_other m place new (log_block_at l q) size (log_blocks_apart l q (length closed) lt (omega arith))
@@ -141,39 +166,68 @@ module _ {l d : ℕ} {m : List ℕ} {disk : Disk} {closed : List (List Record)} 
           ∙ ap (log_bytes q) (stored_at mark q lt ∙ sym (get_or-append closed (tail ∷ []) [] q lt))
 
       fresh' : (j : ℕ) → (j ≡ length closed % l) ⊎ (j ≢ length closed % l) → j < l
-          → sequence_of (blk (put m (log_block_at l (length closed)) (log_bytes (length closed) tail)) (3 + j)) < length (closed ++ (tail ∷ []))
-      fresh' j (inl e) a = rw (e, blk_same m place new size (tail_inside closed tail medium), tail_seq closed tail medium, length-append) (omega arith)
+          → sequence_of (blk (put m (log_block_at l (length closed)) (log_bytes (length closed) tail)) (3 + j))
+          < length (closed ++ (tail ∷ []))
+      fresh' j (inl e) a =
+          rw (e, blk_same m place new size (tail_inside closed tail medium), tail_seq closed tail medium, length-append)
+          (omega arith)
       fresh' j (inr e) a =
           rw (blk_other m place new (3 + j) size (λ f. e (omega arith)), length-append)
           (omega (arith, medium.log.fresh j a, stored_length mark))
 
   -- a log block changed just if the tail was not all stored: so the rows before the new one are the stored ones. The
   -- log's part is unchanged just if the tail's block is, and then it holds the whole tail.
-  pub moved : cond (log_changed l m (put m (log_block_at l (length closed)) (log_bytes (length closed) tail))) (length (records (closed ++ (tail ∷ [])))) (length (records disk.stored))
+  pub moved : cond (log_changed l m (put m (log_block_at l (length closed)) (log_bytes (length closed) tail)))
+      (length (records (closed ++ (tail ∷ [])))) (length (records disk.stored))
       ≡ length (records (closed ++ (tail ∷ [])))
   unfolding log_changed log_block_at
-  moved = go (eq_list (part m (512 * 3) (512 * l)) (part (put m (log_block_at l (length closed)) (log_bytes (length closed) tail)) (512 * 3) (512 * l))) refl
+  moved =
+      go (eq_list (part m (512 * 3) (512 * l))
+      (part (put m (log_block_at l (length closed)) (log_bytes (length closed) tail)) (512 * 3) (512 * l))) refl
     where
       -- a tail that is in its block is all stored
-      there : blk m (log_block_at l (length closed)) ≡ log_bytes (length closed) tail → (stored : List (List Record)) (a : ℕ) → disk.stored ≡ stored → Stored closed tail stored a → stored ≡ closed ++ (tail ∷ [])
+      there : blk m (log_block_at l (length closed)) ≡ log_bytes (length closed) tail
+          → (stored : List (List Record)) (a : ℕ) → disk.stored ≡ stored → Stored closed tail stored a
+          → stored ≡ closed ++ (tail ∷ [])
       there q stored a w (nothing y h) =
-          absurd (omega (arith, medium.log.fresh (length closed % l) (mod-lt (length closed) (omega (arith, medium.sizes.range.blocks_low))), ap sequence_of q, tail_seq closed tail medium, ap length w))
+          absurd (omega (
+            arith,
+            medium.log.fresh (length closed % l)
+                (mod-lt (length closed) (omega (arith, medium.sizes.range.blocks_low))),
+            ap sequence_of q,
+            tail_seq closed tail medium,
+            ap length w,
+          ))
       there q stored a w (up_to n h) =
           let b = medium.log.blocks (length closed) low (rw (w, length-append) (omega arith)) in
-          let c : get_or disk.stored (length closed) [] ≡ take n tail = ap (λ (x : List (List Record)). get_or x (length closed) []) w ∙ get_or-append_seam closed (take n tail) [] [] in
-          let f : BlockSound d (take n tail) = (each_right (BlockSound d) closed (take n tail ∷ []) (subst (λ (x : List (List Record)). Each (BlockSound d) x) w medium.log.shape.stored_sound)).0 in
-          let g : used_of (log_bytes (length closed) (take n tail)) ≡ used_of (log_bytes (length closed) tail) = ap used_of (sym (b ∙ ap (log_bytes (length closed)) c) ∙ q) in
-          ap (λ (rs : List Record). closed ++ (rs ∷ [])) (take_size n tail (omega (arith, g, block_used d (length closed) (take n tail) f, tail_used closed tail medium)))
+          let c : get_or disk.stored (length closed) [] ≡ take n tail =
+          ap (λ (x : List (List Record)). get_or x (length closed) []) w
+          ∙ get_or-append_seam closed (take n tail) [] [] in
+          let f : BlockSound d (take n tail) =
+          (each_right (BlockSound d) closed (take n tail ∷ [])
+          (subst (λ (x : List (List Record)). Each (BlockSound d) x) w medium.log.shape.stored_sound)).0 in
+          let g : used_of (log_bytes (length closed) (take n tail)) ≡ used_of (log_bytes (length closed) tail) =
+          ap used_of (sym (b ∙ ap (log_bytes (length closed)) c) ∙ q) in
+          ap (λ (rs : List Record). closed ++ (rs ∷ []))
+          (take_size n tail (omega (
+            arith,
+            g,
+            block_used d (length closed) (take n tail) f,
+            tail_used closed tail medium,
+          )))
 
-      go : (t : Bool) → eq_list (part m (512 * 3) (512 * l)) (part (put m (log_block_at l (length closed)) (log_bytes (length closed) tail)) (512 * 3) (512 * l)) ≡ t
-          → cond (not t) (length (records (closed ++ (tail ∷ [])))) (length (records disk.stored)) ≡ length (records (closed ++ (tail ∷ [])))
+      go : (t : Bool) → eq_list (part m (512 * 3) (512 * l))
+          (part (put m (log_block_at l (length closed)) (log_bytes (length closed) tail)) (512 * 3) (512 * l)) ≡ t
+          → cond (not t) (length (records (closed ++ (tail ∷ [])))) (length (records disk.stored))
+          ≡ length (records (closed ++ (tail ∷ [])))
       go false q = refl
       go true q =
           let j = length closed % l in
           let r : j < l = mod-lt (length closed) (omega (arith, medium.sizes.range.blocks_low)) in
           ap (λ (x : List (List Record)). length (records x))
           (there (log_part m l j r ∙ ap (λ (x : List ℕ). part x (512 * j) 512) (eq_true _ _ q) ∙ sym (log_part _ l j r)
-          ∙ blk_same m (3 + j) (log_bytes (length closed) tail) (tail_length closed tail medium) (tail_inside closed tail medium)) disk.stored e refl mark)
+          ∙ blk_same m (3 + j) (log_bytes (length closed) tail) (tail_length closed tail medium)
+          (tail_inside closed tail medium)) disk.stored e refl mark)
 
 pub unchanged : (l : ℕ) (m : List ℕ) → log_changed l m m ≡ false
 unfolding log_changed
@@ -181,12 +235,15 @@ unchanged l m = ap not (eq_refl (part m (512 * 3) (512 * l)))
 
 -- ---- the record is taken
 
-pub record Grows (l d : ℕ) (m : List ℕ) (disk : Disk) (closed : List (List Record)) (tail : List Record) (r : Record) (g : Logged) : Type 0 where
+pub record Grows (l d : ℕ) (m : List ℕ) (disk : Disk) (closed : List (List Record)) (tail : List Record) (r : Record)
+    (g : Logged) : Type 0 where
   pub closed' : List (List Record)
   pub tail' : List Record
   pub stored' : List (List Record)
-  pub medium : OnMedium l d g.medium (with_log disk stored') (closed ++ (tail ∷ []))  -- the medium's facts, still for the history before
-  pub grown : records (closed' ++ (tail' ∷ [])) ≡ records (closed ++ (tail ∷ [])) ++ (record { seq = length closed'; end = (tail_end g.tail).0; rec = r } ∷ [])
+  -- the medium's facts, still for the history before
+  pub medium : OnMedium l d g.medium (with_log disk stored') (closed ++ (tail ∷ []))
+  pub grown : records (closed' ++ (tail' ∷ [])) ≡ records (closed ++ (tail ∷ []))
+      ++ (record { seq = length closed'; end = (tail_end g.tail).0; rec = r } ∷ [])
   pub sound : Each (BlockSound d) (closed' ++ (tail' ∷ []))
   pub top : length (closed' ++ (tail' ∷ [])) ≤ 2 ^ 48
   pub front : length stored' ≤ length (closed' ++ (tail' ∷ []))
@@ -195,26 +252,36 @@ pub record Grows (l d : ℕ) (m : List ℕ) (disk : Disk) (closed : List (List R
   pub ring_high : length closed' < disk.oldest + l
   pub mark : Stored closed' tail' stored' g.end.0
   pub saved : g.saved.0 ≡ last_of (commits_of stored')
-  pub rows : cond (log_changed l m g.medium) (length (records (closed ++ (tail ∷ [])))) (length (records disk.stored)) ≡ length (records stored')
+  pub rows : cond (log_changed l m g.medium) (length (records (closed ++ (tail ∷ [])))) (length (records disk.stored))
+      ≡ length (records stored')
   pub more : List Placed
   pub longer : records stored' ≡ records disk.stored ++ more
   pub pairs : (i : ℕ) → i < 64 → table_pair g.medium i ≡ table_pair m i
 
 -- the table's pairs stay, and the new tail is no older than the oldest block
-module _ {l d : ℕ} {m : List ℕ} {disk : Disk} {closed : List (List Record)} {tail : List Record} {r : Record} {lg : Logged} where
+module _ {l d : ℕ} {m : List ℕ} {disk : Disk} {closed : List (List Record)} {tail : List Record} {r : Record}
+    {lg : Logged} where
   pub num_stays : Grows l d m disk closed tail r lg → (j : ℕ) → j < 64 → table_num lg.medium j ≡ table_num m j
   num_stays g j h = ap (λ (p : Pair). p.number.0) (g.pairs j h)
 
   pub time_stays : Grows l d m disk closed tail r lg → (j : ℕ) → j < 64 → table_time lg.medium j ≡ table_time m j
   time_stays g j h = ap (λ (p : Pair). p.time.0) (g.pairs j h)
 
-  pub recent : {c : List ℕ} {s : State} {b : Book} → Up l d m c s b disk closed tail → (g : Grows l d m disk closed tail r lg) → disk.oldest ≤ length g.closed'
+  pub recent : {c : List ℕ} {s : State} {b : Book} → Up l d m c s b disk closed tail
+      → (g : Grows l d m disk closed tail r lg) → disk.oldest ≤ length g.closed'
   recent u g = omega (arith, u.state.ring_low, g.below)
 
-module _ {l d : ℕ} {m c : List ℕ} {s : State} {b : Book} {disk : Disk} {closed : List (List Record)} {tail : List Record} (u : Up l d m c s b disk closed tail) (r : Record) (z : Sound d r) where
+module _ {l d : ℕ} {m c : List ℕ} {s : State} {b : Book} {disk : Disk} {closed : List (List Record)}
+    {tail : List Record} (u : Up l d m c s b disk closed tail) (r : Record) (z : Sound d r) where
   fits_size : tail_fits s.tail (record_size r) ≡ true → 10 + size_of tail + record_size r ≤ 512
   unfolding tail_fits
-  fits_size e = omega (arith, leb-true (used_of s.tail + record_size r) 512 e, ap used_of u.state.tail_block, tail_used closed tail u.medium)
+  fits_size e =
+      omega (
+        arith,
+        leb-true (used_of s.tail + record_size r) 512 e,
+        ap used_of u.state.tail_block,
+        tail_used closed tail u.medium,
+      )
 
   -- it fits the tail
   in_tail : tail_fits s.tail (record_size r) ≡ true → Grows l d m disk closed tail r (logged_if true s m r)
@@ -224,8 +291,12 @@ module _ {l d : ℕ} {m c : List ℕ} {s : State} {b : Book} {disk : Disk} {clos
     tail' = tail ++ (r ∷ []);
     stored' = disk.stored;
     medium = u.medium;
-    grown = records_more closed tail r ∙ ap (λ (a : ℕ). records (closed ++ (tail ∷ [])) ++ (record { seq = length closed; end = a; rec = r } ∷ [])) end_is;
-    sound = each_append (BlockSound d) closed ((tail ++ (r ∷ [])) ∷ []) (each_left (BlockSound d) closed (tail ∷ []) u.medium.log.shape.sound) (new, tt);
+    grown =
+        records_more closed tail r ∙ ap (λ (a : ℕ). records (closed ++ (tail ∷ []))
+        ++ (record { seq = length closed; end = a; rec = r } ∷ [])) end_is;
+    sound =
+        each_append (BlockSound d) closed ((tail ++ (r ∷ [])) ∷ [])
+        (each_left (BlockSound d) closed (tail ∷ []) u.medium.log.shape.sound) (new, tt);
     top = rw length-append (omega (arith, tail_low closed tail u.medium));
     front = rw length-append (omega (arith, stored_length u.state.mark));
     tail_block = tail';
@@ -247,20 +318,29 @@ module _ {l d : ℕ} {m c : List ℕ} {s : State} {b : Book} {disk : Disk} {clos
 
       tail' : add_record s.tail r ≡ log_bytes (length closed) (tail ++ (r ∷ []))
       tail' = ap (λ (t : List ℕ). add_record t r) u.state.tail_block
-          ∙ add_record_is (length closed) tail r (value_fits r z.sized) (omega (arith, small, block_size d tail (tail_sound closed tail u.medium)))
+          ∙ add_record_is (length closed) tail r (value_fits r z.sized)
+          (omega (arith, small, block_size d tail (tail_sound closed tail u.medium)))
 
       end_is : end_place (length closed) (10 + size_of (tail ++ (r ∷ []))) ≡ (tail_end (add_record s.tail r)).0
-      end_is = sym (ap (λ (t : List ℕ). (tail_end t).0) tail' ∙ block_end d (length closed) (tail ++ (r ∷ [])) new (omega (arith, tail_low closed tail u.medium)))
+      end_is =
+          sym (ap (λ (t : List ℕ). (tail_end t).0) tail'
+          ∙ block_end d (length closed) (tail ++ (r ∷ [])) new (omega (arith, tail_low closed tail u.medium)))
 
   -- it begins the next block
-  in_next : length closed + 1 < disk.oldest + l → length closed + 1 < 2 ^ 48 → Grows l d m disk closed tail r (logged_if false s m r)
+  in_next : length closed + 1 < disk.oldest + l → length closed + 1 < 2 ^ 48
+      → Grows l d m disk closed tail r (logged_if false s m r)
   unfolding logged_if empty_block stored_tail
   in_next low high = record {
     closed' = closed ++ (tail ∷ []);
     tail' = r ∷ [];
     stored' = closed ++ (tail ∷ []);
-    medium = subst (λ (x : List ℕ). OnMedium l d x (with_log disk (closed ++ (tail ∷ []))) (closed ++ (tail ∷ []))) (sym medium') (storing u.medium u.state.ring_low u.state.ring_high u.state.mark);
-    grown = records_next (closed ++ (tail ∷ [])) r ∙ ap (λ (a : ℕ). records (closed ++ (tail ∷ [])) ++ (record { seq = length (closed ++ (tail ∷ [])); end = a; rec = r } ∷ [])) end_is;
+    medium =
+        subst (λ (x : List ℕ). OnMedium l d x (with_log disk (closed ++ (tail ∷ []))) (closed ++ (tail ∷ [])))
+        (sym medium') (storing u.medium u.state.ring_low u.state.ring_high u.state.mark);
+    grown =
+        records_next (closed ++ (tail ∷ [])) r
+        ∙ ap (λ (a : ℕ). records (closed ++ (tail ∷ []))
+        ++ (record { seq = length (closed ++ (tail ∷ [])); end = a; rec = r } ∷ [])) end_is;
     sound = each_append (BlockSound d) (closed ++ (tail ∷ [])) ((r ∷ []) ∷ []) u.medium.log.shape.sound (new, tt);
     top = rw (length-append (closed ++ (tail ∷ [])) ((r ∷ []) ∷ []), length-append closed (tail ∷ [])) (omega arith);
     front = rw (length-append (closed ++ (tail ∷ [])) ((r ∷ []) ∷ [])) (omega arith);
@@ -269,10 +349,14 @@ module _ {l d : ℕ} {m c : List ℕ} {s : State} {b : Book} {disk : Disk} {clos
     ring_high = rw (length-append closed (tail ∷ [])) (omega arith);
     mark = nothing (tail_end s.tail).0 place';
     saved = u.state.last;
-    rows = ap (λ (x : List ℕ). cond (log_changed l m x) (length (records (closed ++ (tail ∷ [])))) (length (records disk.stored))) medium' ∙ moved u.medium u.state.ring_low u.state.ring_high u.state.mark;
+    rows =
+        ap (λ (x : List ℕ). cond (log_changed l m x) (length (records (closed ++ (tail ∷ []))))
+        (length (records disk.stored))) medium' ∙ moved u.medium u.state.ring_low u.state.ring_high u.state.mark;
     more = u.medium.log.shape.rest;
     longer = u.medium.log.shape.split;
-    pairs = λ i h. ap (λ (x : List ℕ). table_pair x i) medium' ∙ pairs_stay u.medium u.state.ring_low u.state.ring_high u.state.mark i h;
+    pairs =
+        λ i h. ap (λ (x : List ℕ). table_pair x i) medium'
+        ∙ pairs_stay u.medium u.state.ring_low u.state.ring_high u.state.mark i h;
   }
     where
       new : BlockSound d (r ∷ [])
@@ -281,7 +365,8 @@ module _ {l d : ℕ} {m c : List ℕ} {s : State} {b : Book} {disk : Disk} {clos
       seq_is : sequence_of s.tail ≡ length closed
       seq_is = tail_sequence u
 
-      medium' : put m (log_block_at s.blocks (sequence_of s.tail)) s.tail ≡ put m (log_block_at l (length closed)) (log_bytes (length closed) tail)
+      medium' : put m (log_block_at s.blocks (sequence_of s.tail)) s.tail
+          ≡ put m (log_block_at l (length closed)) (log_bytes (length closed) tail)
       medium' = ap (λ (a : ℕ). put m (log_block_at a (sequence_of s.tail)) s.tail) u.state.blocks
           ∙ ap (λ (a : ℕ). put m (log_block_at l a) s.tail) seq_is
           ∙ ap (put m (log_block_at l (length closed))) u.state.tail_block
@@ -293,23 +378,35 @@ module _ {l d : ℕ} {m c : List ℕ} {s : State} {b : Book} {disk : Disk} {clos
       tail' = ap (λ (a : ℕ). add_record (log_bytes a []) r) (ap (λ (a : ℕ). a + 1) seq_is ∙ sym long)
           ∙ add_record_is (length (closed ++ (tail ∷ []))) [] r (value_fits r z.sized) (empty_room r)
 
-      end_is : end_place (length (closed ++ (tail ∷ []))) (10 + record_size r) ≡ (tail_end (add_record (log_bytes (sequence_of s.tail + 1) []) r)).0
-      end_is = sym (ap (λ (t : List ℕ). (tail_end t).0) tail' ∙ block_end d (length (closed ++ (tail ∷ []))) (r ∷ []) new (omega (arith, long)) ∙ ap (λ (a : ℕ). end_place (length (closed ++ (tail ∷ []))) (10 + a)) (one_size r))
+      end_is : end_place (length (closed ++ (tail ∷ []))) (10 + record_size r)
+          ≡ (tail_end (add_record (log_bytes (sequence_of s.tail + 1) []) r)).0
+      end_is =
+          sym (ap (λ (t : List ℕ). (tail_end t).0) tail'
+          ∙ block_end d (length (closed ++ (tail ∷ []))) (r ∷ []) new (omega (arith, long))
+          ∙ ap (λ (a : ℕ). end_place (length (closed ++ (tail ∷ []))) (10 + a)) (one_size r))
 
       place' : (tail_end s.tail).0 ≤ end_place (length (closed ++ (tail ∷ []))) 10
-      place' = rw (ap (λ (t : List ℕ). (tail_end t).0) u.state.tail_block ∙ block_end d (length closed) tail (tail_sound closed tail u.medium) (omega (arith, tail_low closed tail u.medium)))
-          (next_end (length closed) (length (closed ++ (tail ∷ []))) (size_of tail) long (tail_sound closed tail u.medium).fits)
+      place' =
+          rw (ap (λ (t : List ℕ). (tail_end t).0) u.state.tail_block
+          ∙ block_end d (length closed) tail (tail_sound closed tail u.medium)
+          (omega (arith, tail_low closed tail u.medium)))
+          (next_end (length closed) (length (closed ++ (tail ∷ []))) (size_of tail) long
+          (tail_sound closed tail u.medium).fits)
 
-pub grows : {l d : ℕ} {m c : List ℕ} {s : State} {b : Book} {disk : Disk} {closed : List (List Record)} {tail : List Record} → Up l d m c s b disk closed tail
+pub grows : {l d : ℕ} {m c : List ℕ} {s : State} {b : Book} {disk : Disk} {closed : List (List Record)}
+    {tail : List Record} → Up l d m c s b disk closed tail
     → (r : Record) → Sound d r → may_log s m (record_size r) ≡ true → Grows l d m disk closed tail r (logged s m r)
 unfolding logged may_log
 grows {l} {d} {m} {c} {s} {b} {disk} {closed} {tail} u r z may = go (tail_fits s.tail (record_size r)) refl may
   where
     go : (t : Bool) → tail_fits s.tail (record_size r) ≡ t
-        → (t || (ltb (sequence_of s.tail + 1) (oldest_on m + s.blocks) && ltb (sequence_of s.tail + 1) (2 ^ 48))) ≡ true → Grows l d m disk closed tail r (logged_if t s m r)
+        → (t || (ltb (sequence_of s.tail + 1) (oldest_on m + s.blocks) && ltb (sequence_of s.tail + 1) (2 ^ 48))) ≡ true
+        → Grows l d m disk closed tail r (logged_if t s m r)
     go true e may = in_tail u r z e
     go false e may =
         let q : sequence_of s.tail ≡ length closed = tail_sequence u in
-        let a : sequence_of s.tail + 1 < oldest_on m + s.blocks = ltb-true _ _ (and_0 (ltb (sequence_of s.tail + 1) (oldest_on m + s.blocks)) _ may) in
-        let w : sequence_of s.tail + 1 < 2 ^ 48 = ltb-true _ _ (and_1 (ltb (sequence_of s.tail + 1) (oldest_on m + s.blocks)) _ may) in
+        let a : sequence_of s.tail + 1 < oldest_on m + s.blocks =
+        ltb-true _ _ (and_0 (ltb (sequence_of s.tail + 1) (oldest_on m + s.blocks)) _ may) in
+        let w : sequence_of s.tail + 1 < 2 ^ 48 =
+        ltb-true _ _ (and_1 (ltb (sequence_of s.tail + 1) (oldest_on m + s.blocks)) _ may) in
         in_next u r z (omega (arith, a, q, oldest_is u.medium, u.state.blocks)) (omega (arith, w, q))

@@ -25,7 +25,9 @@ use Rattle.store.specs.State.{fits}
 use Rattle.store.specs.Tail.{tail_end}
 use Rattle.store.proofs.FitLaws.{fit_is}
 use Rattle.runs.specs.Book.{Book}
-use Rattle.agreement.proofs.history.Ghost.{Disk, versions_of, commits_of, size_of, Sound, BlockSound, records, LoggedVersion, versions_in, LoggedCommit, commits_in, find, Match, still, marked}
+use Rattle.agreement.proofs.history.Ghost.{Disk, versions_of, commits_of, size_of, Sound, BlockSound, records}
+use Rattle.agreement.proofs.history.Ghost.{LoggedVersion, versions_in, LoggedCommit, commits_in, find, Match, still}
+use Rattle.agreement.proofs.history.Ghost.{marked}
 use Rattle.agreement.proofs.invariant.Invariant.{Up, OnMedium, Stored, nothing, up_to}
 use Rattle.agreement.proofs.history.PlacingLaws.{block_size, record_low, size_append}
 use Rattle.agreement.proofs.history.ListLaws.{same?, each_right}
@@ -36,19 +38,23 @@ use Rattle.agreement.proofs.history.VersionLaws.{versions_append, commits_append
 
 module _ {closed : List (List Record)} {tail : List Record} where
   -- the closed blocks are on the medium, and at most one more
-  pub stored_length : {stored : List (List Record)} {e : ℕ} → Stored closed tail stored e → (length closed ≤ length stored) × (length stored ≤ suc (length closed))
+  pub stored_length : {stored : List (List Record)} {e : ℕ} → Stored closed tail stored e
+      → (length closed ≤ length stored) × (length stored ≤ suc (length closed))
   stored_length (nothing e h) = (omega arith, omega arith)
   stored_length (up_to n h) = rw length-append (omega arith, omega arith)
 
-  pub stored_at : {stored : List (List Record)} {e : ℕ} → Stored closed tail stored e → (q : ℕ) → q < length closed → get_or stored q [] ≡ get_or closed q []
+  pub stored_at : {stored : List (List Record)} {e : ℕ} → Stored closed tail stored e → (q : ℕ) → q < length closed
+      → get_or stored q [] ≡ get_or closed q []
   stored_at (nothing e h) q a = refl
   stored_at (up_to n h) q a = get_or-append closed _ [] q a
 
   -- a longer tail has stored what it had
-  pub stored_more : {stored : List (List Record)} {e : ℕ} (xs : List Record) → Stored closed tail stored e → Stored closed (tail ++ xs) stored e
+  pub stored_more : {stored : List (List Record)} {e : ℕ} (xs : List Record) → Stored closed tail stored e
+      → Stored closed (tail ++ xs) stored e
   stored_more xs (nothing e h) = nothing e h
   stored_more xs (up_to n h) =
-      subst (λ (rs : List Record). Stored closed (tail ++ xs) (closed ++ (rs ∷ [])) (end_place (length closed) (10 + size_of rs))) (take-append-le n tail xs h)
+      subst (λ (rs : List Record). Stored closed (tail ++ xs) (closed ++ (rs ∷ []))
+      (end_place (length closed) (10 + size_of rs))) (take-append-le n tail xs h)
       (up_to n (rw length-append (omega arith)))
 
 -- fewer records take fewer bytes
@@ -63,7 +69,8 @@ take_size (suc n) (r ∷ rs) e = ap (λ (l : List Record). r ∷ l) (take_size n
 
 pub match_more : (cs ds : List LoggedCommit) (v : LoggedVersion) (x : Cell) → Match cs v x → Match (cs ++ ds) v x
 match_more cs ds v x still = still
-match_more cs ds v x (marked t h e) = marked t h (ap (λ (c : LoggedCommit). c.time) (find_left v.num cs ds (omega arith)) ∙ e)
+match_more cs ds v x (marked t h e) =
+    marked t h (ap (λ (c : LoggedCommit). c.time) (find_left v.num cs ds (omega arith)) ∙ e)
 
 -- ---- the tail's bytes
 
@@ -71,9 +78,11 @@ pub block_length : (d q : ℕ) (rs : List Record) → BlockSound d rs → length
 block_length d q rs z = length_log_bytes q rs (omega (arith, block_size d rs z, z.fits))
 
 pub block_used : (d q : ℕ) (rs : List Record) → BlockSound d rs → used_of (log_bytes q rs) ≡ 10 + size_of rs
-block_used d q rs z = used_log_bytes q rs (omega (arith, block_size d rs z, z.fits)) ∙ ap (λ (n : ℕ). 10 + n) (block_size d rs z)
+block_used d q rs z =
+    used_log_bytes q rs (omega (arith, block_size d rs z, z.fits)) ∙ ap (λ (n : ℕ). 10 + n) (block_size d rs z)
 
-pub block_end : (d q : ℕ) (rs : List Record) → BlockSound d rs → q < 2 ^ 64 → (tail_end (log_bytes q rs)).0 ≡ end_place q (10 + size_of rs)
+pub block_end : (d q : ℕ) (rs : List Record) → BlockSound d rs → q < 2 ^ 64
+    → (tail_end (log_bytes q rs)).0 ≡ end_place q (10 + size_of rs)
 unfolding tail_end
 block_end d q rs z h = rw (sequence_log_bytes q rs h, block_used d q rs z)
 
@@ -100,13 +109,15 @@ pub next_end : (q q' n : ℕ) → q' ≡ q + 1 → n ≤ 502 → end_place q (10
 unfolding end_place
 next_end q q' n e h = omega arith
 
-pub sound_snoc : (d : ℕ) (rs : List Record) (r : Record) → BlockSound d rs → Sound d r → 10 + size_of rs + record_size r ≤ 512 → BlockSound d (rs ++ (r ∷ []))
+pub sound_snoc : (d : ℕ) (rs : List Record) (r : Record) → BlockSound d rs → Sound d r
+    → 10 + size_of rs + record_size r ≤ 512 → BlockSound d (rs ++ (r ∷ []))
 sound_snoc d rs r z s h = record {
   each = each_append (Sound d) rs (r ∷ []) z.each (s, tt);
   fits = rw (size_append rs (r ∷ []), one_size r) (omega arith);
 }
 
-module _ {l d : ℕ} {m : List ℕ} {disk : Disk} (closed : List (List Record)) (tail : List Record) (medium : OnMedium l d m disk (closed ++ (tail ∷ []))) where
+module _ {l d : ℕ} {m : List ℕ} {disk : Disk} (closed : List (List Record)) (tail : List Record)
+    (medium : OnMedium l d m disk (closed ++ (tail ∷ []))) where
   pub tail_sound : BlockSound d tail
   tail_sound = (each_right (BlockSound d) closed (tail ∷ []) medium.log.shape.sound).0
 
@@ -130,7 +141,17 @@ module _ {l d : ℕ} {m : List ℕ} {disk : Disk} (closed : List (List Record)) 
 module _ (bs : List (List Record)) (ps : List Placed) (x : Placed) (grown : records bs ≡ ps ++ (x ∷ [])) where
   module _ (h : VersionHead) (v : List ℕ) (e : x.rec ≡ version h v) where
     pub new_ver : versions_of bs ≡ versions_in ps
-        ++ (record { seq = x.seq; end = x.end; slot = h.slot; key = h.key; kind = h.kind; earlier = h.earlier; num = h.number.0; value = v } ∷ [])
+        ++ (record {
+          seq = x.seq;
+          end = x.end;
+          slot = h.slot;
+          key = h.key;
+          kind = h.kind;
+          earlier = h.earlier;
+          num =
+              h.number.0;
+          value = v;
+        } ∷ [])
     unfolding versions_in
     new_ver = ap versions_in grown ∙ versions_append ps (x ∷ []) ∙ rw e
 
@@ -143,12 +164,14 @@ module _ (bs : List (List Record)) (ps : List Placed) (x : Placed) (grown : reco
     unfolding versions_in
     old_versions = ap versions_in grown ∙ versions_append ps (x ∷ []) ∙ rw e (append-nil (versions_in ps))
 
-    pub new_com : commits_of bs ≡ commits_in ps ++ (record { seq = x.seq; end = x.end; num = p.number.0; time = p.time.0 } ∷ [])
+    pub new_com : commits_of bs ≡ commits_in ps
+        ++ (record { seq = x.seq; end = x.end; num = p.number.0; time = p.time.0 } ∷ [])
     unfolding commits_in
     new_com = ap commits_in grown ∙ commits_append ps (x ∷ []) ∙ rw e
 
 -- the commit of a number among the old ones and a new one
-pub find_new : (cs : List LoggedCommit) (c : LoggedCommit) → Each (λ (x : LoggedCommit). 0 < x.time) cs → (find cs c.num).time ≡ 0 → find (cs ++ (c ∷ [])) c.num ≡ c
+pub find_new : (cs : List LoggedCommit) (c : LoggedCommit) → Each (λ (x : LoggedCommit). 0 < x.time) cs
+    → (find cs c.num).time ≡ 0 → find (cs ++ (c ∷ [])) c.num ≡ c
 find_new cs c p e = find_right c.num cs (c ∷ []) p e ∙ find_head c []
 
 pub find_old : (cs : List LoggedCommit) (c : LoggedCommit) (n : ℕ) → n ≢ c.num → find (cs ++ (c ∷ [])) n ≡ find cs n
@@ -158,7 +181,8 @@ find_old (x ∷ cs) c n h = ap (λ (y : LoggedCommit). cond (eqb x.num n) x y) (
 
 -- what holds of each element and of the last, by index
 pub snoc_each : {A : Type 0} (d : A) (Q : ℕ → A → Type 0) (xs : List A) (y : A)
-    → ((n : ℕ) → n < length xs → Q n (get_or xs n d)) → Q (length xs) y → (n : ℕ) → n < length (xs ++ (y ∷ [])) → Q n (get_or (xs ++ (y ∷ [])) n d)
+    → ((n : ℕ) → n < length xs → Q n (get_or xs n d)) → Q (length xs) y → (n : ℕ) → n < length (xs ++ (y ∷ []))
+    → Q n (get_or (xs ++ (y ∷ [])) n d)
 snoc_each d Q xs y f q n h = go (same? n (length xs))
   where
     go : (n ≡ length xs) ⊎ (n ≢ length xs) → Q n (get_or (xs ++ (y ∷ [])) n d)
@@ -168,11 +192,13 @@ snoc_each d Q xs y f q n h = go (same? n (length xs))
         rw (get_or-append xs (y ∷ []) d n lt) (f n lt)
 
 -- the tail block's sequence
-pub tail_sequence : {l d : ℕ} {m c : List ℕ} {s : State} {b : Book} {disk : Disk} {closed : List (List Record)} {tail : List Record} → Up l d m c s b disk closed tail
+pub tail_sequence : {l d : ℕ} {m c : List ℕ} {s : State} {b : Book} {disk : Disk} {closed : List (List Record)}
+    {tail : List Record} → Up l d m c s b disk closed tail
     → sequence_of s.tail ≡ length closed
 tail_sequence {closed = closed} {tail} u = ap sequence_of u.state.tail_block ∙ tail_seq closed tail u.medium
 
-module _ {l d : ℕ} {m c : List ℕ} {s : State} {b : Book} {disk : Disk} {closed : List (List Record)} {tail : List Record} (u : Up l d m c s b disk closed tail) where
+module _ {l d : ℕ} {m c : List ℕ} {s : State} {b : Book} {disk : Disk} {closed : List (List Record)}
+    {tail : List Record} (u : Up l d m c s b disk closed tail) where
   -- question 16: a running store fits its buffers
   pub fits_up : fits s (length m) (length c) ≡ true
   fits_up = fit_is s (length m) (length c) (record {
@@ -182,9 +208,28 @@ module _ {l d : ℕ} {m c : List ℕ} {s : State} {b : Book} {disk : Disk} {clos
     slots = omega (arith, u.state.slots, u.state.pages, u.medium.pages.slots.room);
     tail = record {
       used_low = omega (arith, ap used_of u.state.tail_block, tail_used closed tail u.medium);
-      used_high = omega (arith, ap used_of u.state.tail_block, tail_used closed tail u.medium, (tail_sound closed tail u.medium).fits);
-      sequence_low = omega (arith, ap sequence_of u.state.tail_block, tail_seq closed tail u.medium, u.state.ring_low, u.medium.master.fits.oldest_low);
-      sequence_high = omega (arith, ap sequence_of u.state.tail_block, tail_seq closed tail u.medium, tail_low closed tail u.medium);
+      used_high =
+          omega (
+            arith,
+            ap used_of u.state.tail_block,
+            tail_used closed tail u.medium,
+            (tail_sound closed tail u.medium).fits,
+          );
+      sequence_low =
+          omega (
+            arith,
+            ap sequence_of u.state.tail_block,
+            tail_seq closed tail u.medium,
+            u.state.ring_low,
+            u.medium.master.fits.oldest_low,
+          );
+      sequence_high =
+          omega (
+            arith,
+            ap sequence_of u.state.tail_block,
+            tail_seq closed tail u.medium,
+            tail_low closed tail u.medium,
+          );
       size = ap length u.state.tail_block ∙ tail_length closed tail u.medium;
     };
     places = u.living.size;

@@ -8,12 +8,14 @@ use Rattle.store.specs.OpenConditions.{redone}
 use Rattle.runs.specs.Book.{Book}
 use Rattle.agreement.proofs.history.Ghost.{Disk, closed_of, tail_of}
 use Rattle.agreement.proofs.invariant.Invariant.{Up, Down}
-use Rattle.agreement.proofs.opening.Reading.{tail_is, records_taken, medium_taken, mark_is, taken_low, taken_high, numbers_below, next_low, next_high, last_is}
+use Rattle.agreement.proofs.opening.Reading.{tail_is, records_taken, medium_taken, mark_is, taken_low, taken_high}
+use Rattle.agreement.proofs.opening.Reading.{numbers_below, next_low, next_high, last_is}
 use Rattle.agreement.proofs.opening.Redo.{redone_cache, redone_firsts, redone_used}
 use Rattle.agreement.proofs.opening.Places.{places_living, places_opens}
 
 module _ {l d : ℕ} {m : List ℕ} {b : Book} {disk : Disk} (x : Down l d m b disk) where
-  pub opened_up : Up l d m (redone m l d).cache (opened_state m l d) b disk (closed_of disk.oldest disk.stored) (tail_of disk.oldest disk.stored)
+  pub opened_up : Up l d m (redone m l d).cache (opened_state m l d) b disk (closed_of disk.oldest disk.stored)
+      (tail_of disk.oldest disk.stored)
   unfolding opened_state
   opened_up = record {
     medium = medium_taken x.medium;

@@ -34,7 +34,8 @@ pigeon (suc N) R f inj = pigeon N R' f' inj'
         go (k, l, r) e = go' (same? k last) (same? k N) e
           where
             go' : (k ≡ last) ⊎ (k ≢ last) → (k ≡ N) ⊎ (k ≢ N) → (last ≡ N) ⊎ (last ≢ N) → (k : ℕ) × (k < N) × R' i k
-            go' (inl a) b c = absurd (omega (arith, inj i (suc N) last (omega arith) (omega arith) (subst (R i) a r) R-last))
+            go' (inl a) b c =
+                absurd (omega (arith, inj i (suc N) last (omega arith) (omega arith) (subst (R i) a r) R-last))
             go' (inr a) (inl b) (inl c) = absurd (a (b ∙ sym c))
             go' (inr a) (inl b) (inr c) = (last, omega (arith, last<), inr (refl, subst (R i) b r))
             go' (inr a) (inr b) c = (k, omega arith, inl (a, r))

@@ -1,4 +1,5 @@
--- Opening finds the places: table pairs that are live keep theirs, live log pairs take free ones, and none lacks a place.
+-- Opening finds the places: table pairs that are live keep theirs, live log pairs take free ones, and none lacks a
+-- place.
 use Prim.Native.Nat.{ℕ, ◌*◌, ◌≤◌, ◌<◌}
 use native.Mathlib.Omega.{arith}
 use mathlib.Core.Bool.{true}
@@ -46,20 +47,28 @@ module _ {l d : ℕ} {m : List ℕ} {b : Book} {disk : Disk} (x : Down l d m b d
 
       each_owned : Each P ns
       each_owned =
-          each_map (λ (n : ℕ). (is_paired m (read_log m l) n ≡ true) × (0 < count_waiting (redone m l d).cache n (15 * d))) P ns
-          (λ n f. let h : 0 < count n disk.cells = omega (arith, f.1, counts n) in x.owned n h (paired_commit x n h f.0))
+          each_map (λ (n : ℕ). (is_paired m (read_log m l) n ≡ true)
+          × (0 < count_waiting (redone m l d).cache n (15 * d))) P ns
+          (λ n f. let h : 0 < count n disk.cells = omega (arith, f.1, counts n) in
+          x.owned n h (paired_commit x n h f.0))
           (waiting_each (redone m l d).cache (is_paired m (read_log m l)) (15 * d))
 
       go : (64 < length ns) ⊎ (length ns ≤ 64) → length ns ≤ 64
       go (inr h) = h
-      go (inl h) = absurd (pigeon 64 (λ i j. get_or x.owners j 0 ≡ get_or ns i 0) (λ i a. each_at P ns i 0 each_owned (omega arith))
-          (λ i j r a q s t. ascending_same ns (waiting_ascends (redone m l d).cache (is_paired m (read_log m l)) (15 * d)) i j (omega arith) (omega arith) (sym s ∙ t)))
+      go (inl h) =
+          absurd (pigeon 64 (λ i j. get_or x.owners j 0 ≡ get_or ns i 0)
+          (λ i a. each_at P ns i 0 each_owned (omega arith))
+          (λ i j r a q s t. ascending_same ns
+          (waiting_ascends (redone m l d).cache (is_paired m (read_log m l)) (15 * d)) i j (omega arith)
+          (omega arith) (sym s ∙ t)))
 
-  opened : Taken m (commits_of disk.stored) disk.cells disk.oldest (next_number m l) (open_places m (read_log m l) (redone m l d).cache (15 * d)) []
+  opened : Taken m (commits_of disk.stored) disk.cells disk.oldest (next_number m l)
+      (open_places m (read_log m l) (redone m l d).cache (15 * d)) []
   unfolding open_places
   opened = places_taken x (redone m l d).cache (15 * d) counts
 
-  pub places_living : Living m (commits_of disk.stored) disk.cells disk.oldest (next_number m l) (open_places m (read_log m l) (redone m l d).cache (15 * d))
+  pub places_living : Living m (commits_of disk.stored) disk.cells disk.oldest (next_number m l)
+      (open_places m (read_log m l) (redone m l d).cache (15 * d))
   places_living = record {
     size = opened.size;
     each = opened.each;
@@ -69,16 +78,23 @@ module _ {l d : ℕ} {m : List ℕ} {b : Book} {disk : Disk} (x : Down l d m b d
     home = opened.home;
   }
     where
-      none_left : (n : ℕ) → ((i : ℕ) × (i < 64) × (num_at (open_places m (read_log m l) (redone m l d).cache (15 * d)) i ≡ n)) ⊎ Among n []
+      none_left : (n : ℕ) → ((i : ℕ) × (i < 64)
+          × (num_at (open_places m (read_log m l) (redone m l d).cache (15 * d)) i ≡ n)) ⊎ Among n []
           → (i : ℕ) × (i < 64) × (num_at (open_places m (read_log m l) (redone m l d).cache (15 * d)) i ≡ n)
       none_left n (inl q) = q
       none_left n (inr q) = absurd q
 
   -- none is active
-  pub places_opens : Opens (versions_of disk.stored) (next_number m l) [] (open_places m (read_log m l) (redone m l d).cache (15 * d))
+  pub places_opens : Opens (versions_of disk.stored) (next_number m l) []
+      (open_places m (read_log m l) (redone m l d).cache (15 * d))
   places_opens = record {
     clocks = λ i h z e. absurd (omega (arith, opened.over i h z));
-    short = λ i h. omega (arith, clock_none (place_at (open_places m (read_log m l) (redone m l d).cache (15 * d)) i).life (opened.each i h).formed (opened.over i h));
+    short =
+        λ i h. omega (
+          arith,
+          clock_none (place_at (open_places m (read_log m l) (redone m l d).cache (15 * d)) i).life
+              (opened.each i h).formed (opened.over i h),
+        );
     below = tt;
     held = λ i h z e. absurd (omega (arith, opened.over i h z));
     known = λ i h z e. absurd (omega (arith, opened.over i h z));

@@ -9,10 +9,11 @@ use mathlib.Core.List.{List, [], ◌∷◌, ◌++◌}
 use mathlib.Core.Logic.{◌⊎◌, inl, inr, ◌≢◌}
 use mathlib.Core.Path.{◌≡◌, refl, sym, ap, ◌∙◌, subst}
 use lib.Dec.{eqb, ltb}
-use lib.ListN.{length, take, drop, get_or, length-append, length-drop, get_or-append, length-replicate, get_or-replicate, get_or-eq_default, replicate}
+use lib.ListN.{length, take, drop, get_or, length-append, length-drop, get_or-append, length-replicate}
+use lib.ListN.{get_or-replicate, get_or-eq_default, replicate}
 use lib.Seq.{drop-cons, drop-append_seam, get_or-append-add}
 use borrow.Author.Tests.{lt-ltb, le-ltb, eq-eqb}
-use Rattle.fields.specs.Block.{blk, page_of, page_block_at, cache_length, medium_length}
+use Rattle.fields.specs.Block.{blk, page_of, cache_length, medium_length}
 use Rattle.layout.specs.Page.{page_end, page_used, put_version}
 use Rattle.layout.specs.Slot.{Cell}
 use Rattle.layout.specs.Journal.{Record, version, commit}
@@ -21,10 +22,12 @@ use Rattle.layout.proofs.CacheLaws.{length_put_version}
 use Rattle.fields.proofs.PartLaws.{length_part}
 use Rattle.store.specs.Write.{cell_for, touched}
 use Rattle.store.specs.OpenLog.{Placed, read_log}
-use Rattle.store.specs.OpenRedo.{Redone, pages_on, applies, redo_if, redo_record, redo, redo_one, next_in_page, redo_checks, used_in, untouched}
+use Rattle.store.specs.OpenRedo.{Redone, pages_on, applies, redo_if, redo_record, redo, redo_one, next_in_page}
+use Rattle.store.specs.OpenRedo.{redo_checks, used_in, untouched}
 use Rattle.store.specs.OpenConditions.{holds, redone, copied, applied_next}
 use Rattle.store.proofs.CopyLaws.{page_copied}
-use Rattle.agreement.proofs.history.Ghost.{versions_of, place_all, LoggedVersion, as_version, versions_in, no_version, at, waiting_cell, end_of_page, page_with, full, Disk, closed_of, tail_of}
+use Rattle.agreement.proofs.history.Ghost.{versions_of, place_all, LoggedVersion, as_version, versions_in, no_version}
+use Rattle.agreement.proofs.history.Ghost.{at, waiting_cell, end_of_page, page_with, full, Disk, closed_of, tail_of}
 use Rattle.agreement.proofs.history.ListLaws.{split, same?}
 use Rattle.agreement.proofs.history.VersionLaws.{rise, near, seqs, versions_append, place_versions}
 use Rattle.agreement.proofs.history.SlotLaws.{end_page, used_page}
@@ -83,11 +86,21 @@ module _ {l d : ℕ} {m : List ℕ} {disk : Disk} (medium : OnMedium l d m disk 
       where
         go : (15 * (a / 15) + c ≡ a) ⊎ (15 * (a / 15) + c ≢ a) → (at vs a).end ≤ (at vs (15 * (a / 15) + c)).end
         go (inl i) = rw i (omega arith)
-        go (inr i) = omega (arith, rise d disk.stored medium.log.shape.stored_sound a (15 * (a / 15) + c) (omega arith) (omega arith))
+        go (inr i) =
+            omega (
+              arith,
+              rise d disk.stored medium.log.shape.stored_sound a (15 * (a / 15) + c) (omega arith)
+                  (omega arith),
+            )
 
     pend_small : (c : ℕ) → c ≤ length vs - 15 * (a / 15) → end_of_page vs (a / 15) c < 2 ^ 64
     pend_small zero z = omega arith
-    pend_small (suc c) z = omega (arith, near d disk.stored medium.log.shape.stored_sound (15 * (a / 15) + c) (omega arith), medium.log.shape.top)
+    pend_small (suc c) z =
+        omega (
+          arith,
+          near d disk.stored medium.log.shape.stored_sound (15 * (a / 15) + c) (omega arith),
+          medium.log.shape.top,
+        )
 
     step : (q : ℕ) (r : Redone) → q ≤ (at vs a).seq → disk.oldest ≤ (at vs a).seq → Replayed a q r
         → Replayed (suc a) (at vs a).seq (redo_ver (is_applied r (at vs a)) r (at vs a)) × (is_next r (at vs a) ≡ true)
@@ -110,13 +123,18 @@ module _ {l d : ℕ} {m : List ℕ} {disk : Disk} (medium : OnMedium l d m disk 
         end_is = ap page_end (f.pages (a / 15) here) ∙ end_page vs disk.cells (a / 15) c (pend_small c fewer)
 
         used_is : page_used (blk r.cache (a / 15)) ≡ c
-        used_is = ap page_used (f.pages (a / 15) here) ∙ used_page vs disk.cells (a / 15) c (omega (arith, fewer, medium.pages.slots.count))
+        used_is =
+            ap page_used (f.pages (a / 15) here)
+            ∙ used_page vs disk.cells (a / 15) c (omega (arith, fewer, medium.pages.slots.count))
 
         go : (a % 15 < disk.on (a / 15)) ⊎ (disk.on (a / 15) ≤ a % 15)
-            → Replayed (suc a) (at vs a).seq (redo_ver (ltb (page_end (blk r.cache (a / 15))) (at vs a).end) r (at vs a))
-            × (cond (ltb (page_end (blk r.cache (a / 15))) (at vs a).end) (eqb (a % 15) (page_used (blk r.cache (a / 15)))) true ≡ true)
+            → Replayed (suc a) (at vs a).seq
+            (redo_ver (ltb (page_end (blk r.cache (a / 15))) (at vs a).end) r (at vs a))
+            × (cond (ltb (page_end (blk r.cache (a / 15))) (at vs a).end)
+            (eqb (a % 15) (page_used (blk r.cache (a / 15)))) true ≡ true)
         go (inl z) =
-            rw (le-ltb (page_end (blk r.cache (a / 15))) (at vs a).end (omega (arith, end_is, pend_ge c (omega arith) fewer))) (
+            rw (le-ltb (page_end (blk r.cache (a / 15))) (at vs a).end
+            (omega (arith, end_is, pend_ge c (omega arith) fewer))) (
               record {
                 size = f.size;
                 pages = λ p i. f.pages p i ∙ ap (page_with vs disk.cells p) (same p (same? p (a / 15)));
@@ -132,9 +150,13 @@ module _ {l d : ℕ} {m : List ℕ} {disk : Disk} (medium : OnMedium l d m disk 
             rw (lt-ltb (page_end (blk r.cache (a / 15))) (at vs a).end (omega (arith, end_is, pend_lt c now))) (
               rw (medium.pages.slots.slot a h, ← (medium.pages.plain a h z)) (record {
                 size = length_put_version r.cache a _ _ ∙ f.size;
-                pages = cached_put d r.cache vs disk.cells a f.size room medium.pages.slots.count (cells_sized medium) h _ f.pages now
+                pages =
+                    cached_put d r.cache vs disk.cells a f.size room medium.pages.slots.count (cells_sized medium) h _
+                    f.pages now
                     (λ p. max (disk.on p) (full (suc a) p)) (rw full_suc (omega arith)) (λ p e. rw (full_other a p e));
-                firsts = firsts_touched d vs disk.on a disk.oldest q r.first f.firsts (at vs a).seq refl hq ho (omega (arith, medium.master.fits.oldest_low)) room medium.sizes.range.pages_high z;
+                firsts =
+                    firsts_touched d vs disk.on a disk.oldest q r.first f.firsts (at vs a).seq refl hq ho
+                    (omega (arith, medium.master.fits.oldest_low)) room medium.sizes.range.pages_high z;
               }),
               eq-eqb (a % 15) _ (sym (used_is ∙ now)),
             )
@@ -157,7 +179,15 @@ module _ {l d : ℕ} {m : List ℕ} {disk : Disk} (medium : OnMedium l d m disk 
         rw all (record {
           size = g.size;
           pages = g.pages;
-          firsts = record { size = g.firsts.size; noted = g.firsts.noted; low = g.firsts.low; high = λ p i. omega (arith, g.firsts.high p i); lacks = g.firsts.lacks };
+          firsts =
+              record {
+                size = g.firsts.size;
+                noted = g.firsts.noted;
+                low = g.firsts.low;
+                high =
+                    λ p i. omega (arith, g.firsts.high p i);
+                lacks = g.firsts.lacks;
+              };
         }),
         refl,
       )
@@ -167,12 +197,28 @@ module _ {l d : ℕ} {m : List ℕ} {disk : Disk} (medium : OnMedium l d m disk 
   one_more x xs ih a q r Q e h f z g = go x.rec e
     where
       go : (rec : Record) → drop a vs ≡ as_version rec x.seq x.end ++ versions_in xs
-          → Replayed (length vs) Q (redo (redo_record rec r x) xs) × ((next_in_page rec r.cache x.end && holds (redo_checks l (redo_record rec r x) xs)) ≡ true)
+          → Replayed (length vs) Q (redo (redo_record rec r x) xs)
+          × ((next_in_page rec r.cache x.end && holds (redo_checks l (redo_record rec r x) xs)) ≡ true)
       go (commit p) e = ih a q r Q e h f z g
-      go (version y v) e = (after.0, ap (λ (t : Bool). t && holds (redo_checks l (redo_if (applies r.cache y x.end) r y v x) xs)) turned.1 ∙ after.1)
+      go (version y v) e = (
+        after.0,
+        ap (λ (t : Bool). t && holds (redo_checks l (redo_if (applies r.cache y x.end) r y v x) xs))
+            turned.1 ∙ after.1,
+      )
         where
           w : LoggedVersion
-          w = record { seq = x.seq; end = x.end; slot = y.slot; key = y.key; kind = y.kind; earlier = y.earlier; num = y.number.0; value = v }
+          w =
+              record {
+                seq = x.seq;
+                end = x.end;
+                slot = y.slot;
+                key = y.key;
+                kind = y.kind;
+                earlier = y.earlier;
+                num =
+                    y.number.0;
+                value = v;
+              }
 
           lt : a < length vs
           lt = omega (arith, length-drop a vs, ap length e)
@@ -192,13 +238,19 @@ module _ {l d : ℕ} {m : List ℕ} {disk : Disk} (medium : OnMedium l d m disk 
 
           turned : Replayed (suc a) (at vs a).seq (redo_ver (is_applied r w) r w) × (is_next r w ≡ true)
           turned =
-              subst (λ (u : LoggedVersion). Replayed (suc a) (at vs a).seq (redo_ver (is_applied r u) r u) × (is_next r u ≡ true)) head
+              subst (λ (u : LoggedVersion). Replayed (suc a) (at vs a).seq (redo_ver (is_applied r u) r u)
+              × (is_next r u ≡ true)) head
               (step a lt q r (f a (omega arith) lt).0 (f a (omega arith) lt).1 g)
 
-          after : Replayed (length vs) Q (redo (redo_if (applies r.cache y x.end) r y v x) xs) × (holds (redo_checks l (redo_if (applies r.cache y x.end) r y v x) xs) ≡ true)
+          after : Replayed (length vs) Q (redo (redo_if (applies r.cache y x.end) r y v x) xs)
+              × (holds (redo_checks l (redo_if (applies r.cache y x.end) r y v x) xs) ≡ true)
           after =
               ih (suc a) (at vs a).seq (redo_if (applies r.cache y x.end) r y v x) Q tail lt
-              (λ n i j. (seqs d disk.stored medium.log.shape.stored_sound a n i j, (f n (omega arith) j).1, (f n (omega arith) j).2))
+              (λ n i j. (
+                seqs d disk.stored medium.log.shape.stored_sound a n i j,
+                (f n (omega arith) j).1,
+                (f n (omega arith) j).2,
+              ))
               (f a (omega arith) lt).2
               (subst (Replayed (suc a) (at vs a).seq) (same (is_applied r w)) turned.0)
 
@@ -220,18 +272,21 @@ module _ {l d : ℕ} {m : List ℕ} {disk : Disk} (medium : OnMedium l d m disk 
   before : (n : ℕ) → n < length (versions_in front) → (at vs n).seq < disk.oldest
   before n h =
       rw (parts, get_or-append (versions_in front) (versions_in (read_log m l)) no_version n h)
-      (each_at (λ (v : LoggedVersion). v.seq < disk.oldest) (versions_in front) n no_version (place_versions (λ e q. q < disk.oldest) front (log_before medium)) h)
+      (each_at (λ (v : LoggedVersion). v.seq < disk.oldest) (versions_in front) n no_version
+      (place_versions (λ e q. q < disk.oldest) front (log_before medium)) h)
 
   behind : (n : ℕ) → length (versions_in front) ≤ n → n < length vs → disk.oldest ≤ (at vs n).seq
   behind n h z =
       let i = n - length (versions_in front) in
       let e : length (versions_in front) + i ≡ n = omega arith in
-      let y : i < length (versions_in (read_log m l)) = omega (arith, ap length parts, length-append (versions_in front) (versions_in (read_log m l))) in
+      let y : i < length (versions_in (read_log m l)) =
+      omega (arith, ap length parts, length-append (versions_in front) (versions_in (read_log m l))) in
       let g : at vs n ≡ at (versions_in (read_log m l)) i =
       ap (λ (xs : List LoggedVersion). at xs n) parts
       ∙ ap (λ (j : ℕ). at (versions_in front ++ versions_in (read_log m l)) j) (sym e)
       ∙ get_or-append-add (versions_in front) (versions_in (read_log m l)) i no_version in
-      rw g (each_at (λ (v : LoggedVersion). disk.oldest ≤ v.seq) (versions_in (read_log m l)) i no_version (place_versions (λ e q. disk.oldest ≤ q) (read_log m l) (log_recent medium)) y)
+      rw g (each_at (λ (v : LoggedVersion). disk.oldest ≤ v.seq) (versions_in (read_log m l)) i no_version
+      (place_versions (λ e q. disk.oldest ≤ q) (read_log m l) (log_recent medium)) y)
 
   last_block : (n : ℕ) → n < length vs → (at vs n).seq ≤ length (closed_of disk.oldest disk.stored)
   last_block n h =
@@ -258,7 +313,9 @@ module _ {l d : ℕ} {m : List ℕ} {disk : Disk} (medium : OnMedium l d m disk 
   unfolding copied
   start = record {
     size = copied_size;
-    pages = λ p h. page_copied m l d p h ∙ medium.pages.page p h ∙ ap (page_with vs disk.cells p) (on p (split (disk.on p) (full (length (versions_in front)) p)));
+    pages =
+        λ p h. page_copied m l d p h ∙ medium.pages.page p h
+        ∙ ap (page_with vs disk.cells p) (on p (split (disk.on p) (full (length (versions_in front)) p)));
     firsts = record {
       size = untouched_size;
       noted = λ n h z. absurd (omega (arith, before n h, medium.pages.kept n (omega (arith, front_length)) z));
@@ -268,9 +325,16 @@ module _ {l d : ℕ} {m : List ℕ} {disk : Disk} (medium : OnMedium l d m disk 
     };
   }
     where
-      on : (p : ℕ) → (disk.on p < full (length (versions_in front)) p) ⊎ (full (length (versions_in front)) p ≤ disk.on p) → disk.on p ≡ max (disk.on p) (full (length (versions_in front)) p)
+      on : (p : ℕ) → (disk.on p < full (length (versions_in front)) p)
+          ⊎ (full (length (versions_in front)) p ≤ disk.on p)
+          → disk.on p ≡ max (disk.on p) (full (length (versions_in front)) p)
       on p (inr h) = omega arith
-      on p (inl h) = absurd (omega (arith, before (15 * p + disk.on p) (omega arith), medium.pages.kept (15 * p + disk.on p) (omega (arith, front_length)) there))
+      on p (inl h) =
+          absurd (omega (
+            arith,
+            before (15 * p + disk.on p) (omega arith),
+            medium.pages.kept (15 * p + disk.on p) (omega (arith, front_length)) there,
+          ))
         where
           there : disk.on ((15 * p + disk.on p) / 15) ≤ (15 * p + disk.on p) % 15
           there = rw q (omega arith)
@@ -280,10 +344,12 @@ module _ {l d : ℕ} {m : List ℕ} {disk : Disk} (medium : OnMedium l d m disk 
 
   -- ---- what redo leaves
 
-  done : Replayed (length vs) (length (closed_of disk.oldest disk.stored)) (redone m l d) × (holds (redo_checks l (copied m l d) (read_log m l)) ≡ true)
+  done : Replayed (length vs) (length (closed_of disk.oldest disk.stored)) (redone m l d)
+      × (holds (redo_checks l (copied m l d) (read_log m l)) ≡ true)
   unfolding redone
   done =
-      loop (read_log m l) (length (versions_in front)) 0 (copied m l d) (length (closed_of disk.oldest disk.stored)) (rw parts (drop-append_seam (versions_in front) (versions_in (read_log m l)))) front_length
+      loop (read_log m l) (length (versions_in front)) 0 (copied m l d) (length (closed_of disk.oldest disk.stored))
+      (rw parts (drop-append_seam (versions_in front) (versions_in (read_log m l)))) front_length
       (λ n h z. (omega arith, behind n h z, last_block n z)) (omega arith) start
 
   pub redone_cache : CacheIs d (redone m l d).cache (versions_of disk.stored) disk.cells
@@ -292,7 +358,8 @@ module _ {l d : ℕ} {m : List ℕ} {disk : Disk} (medium : OnMedium l d m disk 
     pages = λ p h. done.0.pages p h ∙ ap (page_with vs disk.cells p) (omega (arith, medium.pages.few p));
   }
 
-  pub redone_firsts : Firsts d (versions_of disk.stored) disk.on (length (versions_of disk.stored)) disk.oldest (length (closed_of disk.oldest disk.stored)) (redone m l d).first
+  pub redone_firsts : Firsts d (versions_of disk.stored) disk.on (length (versions_of disk.stored)) disk.oldest
+      (length (closed_of disk.oldest disk.stored)) (redone m l d).first
   redone_firsts = done.0.firsts
 
   -- condition 5
@@ -301,4 +368,5 @@ module _ {l d : ℕ} {m : List ℕ} {disk : Disk} (medium : OnMedium l d m disk 
   applied_next_law = done.1
 
   pub redone_used : used_in (redone m l d).cache d ≡ length (versions_of disk.stored)
-  redone_used = used_all d (redone m l d).cache vs disk.cells medium.pages.slots.count medium.pages.slots.room redone_cache
+  redone_used =
+      used_all d (redone m l d).cache vs disk.cells medium.pages.slots.count medium.pages.slots.room redone_cache

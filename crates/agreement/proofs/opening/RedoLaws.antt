@@ -1,5 +1,5 @@
--- What redo does to one page, and to the pages' first changes: a version put in the next slot of its page, or one that is
--- in its page already. By the page's canonical bytes, and by cases on the page.
+-- What redo does to one page, and to the pages' first changes: a version put in the next slot of its page, or one that
+-- is in its page already. By the page's canonical bytes, and by cases on the page.
 use Prim.Native.Nat.{ℕ, zero, suc, ◌+◌, ◌*◌, ◌/◌, ◌%◌, ◌≤◌, ◌<◌, min}
 use native.Mathlib.Omega.{arith}
 use mathlib.Core.Bool.{Bool, true, false, cond}
@@ -31,7 +31,8 @@ pub data Touch (j p g t q : ℕ) : Type 0 where
   newly : j ≡ p → g ≡ 0 → t ≡ q → Touch j p g t q
   stays : j ≡ p → 0 < g → t ≡ g → Touch j p g t q
 
-pub touch_at : (first : List ℕ) (p q : ℕ) → p < length first → (j : ℕ) → Touch j p (get_or first j 0) (get_or (touched first p q) j 0) q
+pub touch_at : (first : List ℕ) (p q : ℕ) → p < length first → (j : ℕ)
+    → Touch j p (get_or first j 0) (get_or (touched first p q) j 0) q
 unfolding touched
 touch_at first p q h j = go (same? j p) (eqb (get_or first p 0) 0) refl
   where
@@ -39,15 +40,19 @@ touch_at first p q h j = go (same? j p) (eqb (get_or first p 0) 0) refl
         → Touch j p (get_or first j 0) (get_or (set first p (cond t q (get_or first p 0))) j 0) q
     go (inr n) t e = other n (get_or-set_other first p j _ 0 n)
     go (inl i) true e = newly i (rw i (eqb-true (get_or first p 0) 0 e)) (rw i (get_or-set_same first p q 0 h))
-    go (inl i) false e = stays i (rw i (omega (arith, eqb-false (get_or first p 0) 0 e))) (rw i (get_or-set_same first p (get_or first p 0) 0 h))
+    go (inl i) false e =
+        stays i (rw i (omega (arith, eqb-false (get_or first p 0) 0 e)))
+        (rw i (get_or-set_same first p (get_or first p 0) 0 h))
 
 pub length_touched : (first : List ℕ) (p q : ℕ) → length (touched first p q) ≡ length first
 unfolding touched
 length_touched first p q = length-set first p _
 
-module _ (d : ℕ) (vs : List LoggedVersion) (on : ℕ → ℕ) (a o q : ℕ) (first : List ℕ) (f : Firsts d vs on a o q first) where
+module _ (d : ℕ) (vs : List LoggedVersion) (on : ℕ → ℕ) (a o q : ℕ) (first : List ℕ)
+    (f : Firsts d vs on a o q first) where
   -- version a, of block q', is put in its page
-  pub firsts_touched : (q' : ℕ) → (at vs a).seq ≡ q' → q ≤ q' → o ≤ q' → 0 < q' → a < 15 * d → d ≤ 64 → on (a / 15) ≤ a % 15
+  pub firsts_touched : (q' : ℕ) → (at vs a).seq ≡ q' → q ≤ q' → o ≤ q' → 0 < q' → a < 15 * d → d ≤ 64
+      → on (a / 15) ≤ a % 15
       → Firsts d vs on (suc a) o q' (touched first (a / 15) q')
   firsts_touched q' e h k z room few new = record {
     size = length_touched first (a / 15) q' ∙ f.size;
@@ -78,7 +83,8 @@ module _ (d : ℕ) (vs : List LoggedVersion) (on : ℕ → ℕ) (a o q : ℕ) (f
       lacks' p y (newly i g j) w = omega (arith, ap on i)
       lacks' p y (stays i g j) w = omega (arith, f.lacks p y g)
 
-      noted' : (n : ℕ) → (n ≡ a) ⊎ (n ≢ a) → n < suc a → on (n / 15) ≤ n % 15 → Touch (n / 15) (a / 15) (get_or first (n / 15) 0) (t (n / 15)) q'
+      noted' : (n : ℕ) → (n ≡ a) ⊎ (n ≢ a) → n < suc a → on (n / 15) ≤ n % 15
+          → Touch (n / 15) (a / 15) (get_or first (n / 15) 0) (t (n / 15)) q'
           → (0 < t (n / 15)) × (t (n / 15) ≤ (at vs n).seq)
       noted' n (inr i) b c (other j g) = omega (arith, f.noted n (omega arith) c)
       noted' n (inr i) b c (newly j y g) = omega (arith, f.noted n (omega arith) c)
@@ -97,7 +103,8 @@ module _ (d : ℕ) (vs : List LoggedVersion) (on : ℕ → ℕ) (a o q : ℕ) (f
     lacks = λ p i w. omega (arith, f.lacks p i w);
   }
     where
-      go : (n : ℕ) → (n ≡ a) ⊎ (n ≢ a) → n < suc a → on (n / 15) ≤ n % 15 → (0 < get_or first (n / 15) 0) × (get_or first (n / 15) 0 ≤ (at vs n).seq)
+      go : (n : ℕ) → (n ≡ a) ⊎ (n ≢ a) → n < suc a → on (n / 15) ≤ n % 15
+          → (0 < get_or first (n / 15) 0) × (get_or first (n / 15) 0 ≤ (at vs n).seq)
       go n (inl e) b c = absurd (omega (arith, ap (λ (x : ℕ). x % 15) e, ap (λ (x : ℕ). on (x / 15)) e))
       go n (inr e) b c = f.noted n (omega arith) c
 
@@ -107,8 +114,10 @@ module _ (d : ℕ) (vs : List LoggedVersion) (on : ℕ → ℕ) (a o q : ℕ) (f
 abbrev pub Cached : ℕ → List ℕ → List LoggedVersion → List Cell → (ℕ → ℕ) → Type 0
 Cached d c vs cs f = (p : ℕ) → p < d → blk c p ≡ page_with vs cs p (f p)
 
-module _ (d : ℕ) (c : List ℕ) (vs : List LoggedVersion) (cs : List Cell) (n : ℕ) (size : length c ≡ cache_length d) (room : n < 15 * d) (same : length cs ≡ length vs)
-    (sized : Each SlotSized cs) (h : n < length vs) (f : ℕ → ℕ) (pages : Cached d c vs cs f) (next : f (n / 15) ≡ n % 15) where
+module _ (d : ℕ) (c : List ℕ) (vs : List LoggedVersion) (cs : List Cell) (n : ℕ) (size : length c ≡ cache_length d)
+    (room : n < 15 * d) (same : length cs ≡ length vs)
+    (sized : Each SlotSized cs) (h : n < length vs) (f : ℕ → ℕ) (pages : Cached d c vs cs f)
+    (next : f (n / 15) ≡ n % 15) where
   -- version n put in the next slot of its page
   pub cached_put : (g : ℕ → ℕ) → g (n / 15) ≡ suc (n % 15) → ((p : ℕ) → p ≢ n / 15 → g p ≡ f p)
       → Cached d (put_version c n (at vs n).end (cell cs n)) vs cs g
@@ -128,7 +137,8 @@ module _ (d : ℕ) (c : List ℕ) (vs : List LoggedVersion) (cs : List Cell) (n 
       go (inr q) = rw (put_version_beside c n within (at vs n).end (cell cs n) p q, beside p q) (pages p k)
 
 -- all used slots of a cache
-pub used_all : (d : ℕ) (c : List ℕ) (vs : List LoggedVersion) (cs : List Cell) → length cs ≡ length vs → length vs ≤ 15 * d → CacheIs d c vs cs → used_in c d ≡ length vs
+pub used_all : (d : ℕ) (c : List ℕ) (vs : List LoggedVersion) (cs : List Cell) → length cs ≡ length vs
+    → length vs ≤ 15 * d → CacheIs d c vs cs → used_in c d ≡ length vs
 unfolding used_in
 used_all d c vs cs same room cache = up_to d (omega arith) ∙ omega arith
   where

@@ -1,6 +1,6 @@
--- The places that an opening makes: those of the table's live pairs, then one for each live pair of the log alone. While
--- numbers are still to come, each waiting committed number has a place or is among them; a free place there is for each, as
--- the numbers in places and the next one have 64 owners.
+-- The places that an opening makes: those of the table's live pairs, then one for each live pair of the log alone.
+-- While numbers are still to come, each waiting committed number has a place or is among them; a free place there is
+-- for each, as the numbers in places and the next one have 64 owners.
 use Prim.Native.Nat.{ℕ, zero, suc, ◌+◌, ◌≤◌, ◌<◌}
 use native.Mathlib.Nat.{not-suc-le-zero, le_of_suc-le-suc, add-zero}
 use native.Mathlib.Omega.{arith}
@@ -20,21 +20,25 @@ use Rattle.store.specs.declared.Life.TheVariants.{Free, Active, Committed}
 use Rattle.store.specs.declared.Place.{Place}
 use Rattle.store.specs.Places.{first, place_at, free_place, is_free}
 use Rattle.store.specs.OpenLog.{read_log, commit_under, next_number}
-use Rattle.store.specs.OpenPairs.{table_find, time_or_zero, end_of_commitment, count_waiting, live_place, table_places, take_at, take_free, waiting_numbers, in_log_alone}
+use Rattle.store.specs.OpenPairs.{table_find, time_or_zero, end_of_commitment, count_waiting, live_place, table_places}
+use Rattle.store.specs.OpenPairs.{take_at, take_free, waiting_numbers, in_log_alone}
 use Rattle.store.proofs.SearchLaws.{first_found, first_nothing}
 use Rattle.runs.specs.Book.{Book}
 use Rattle.agreement.proofs.invariant.PlaceFacts.{free_num, life_low}
 use Rattle.agreement.proofs.history.Ghost.{commits_of, LoggedCommit, commits_in, no_commit, find, count, Disk}
 use Rattle.agreement.proofs.history.ListLaws.{split, same?}
-use Rattle.agreement.proofs.invariant.Invariant.{table_num, table_time, life_num, life_time, Formed, num_at, time_at, Lively, Covered, Down}
+use Rattle.agreement.proofs.invariant.Invariant.{table_num, table_time, life_num, life_time, Formed, num_at, time_at}
+use Rattle.agreement.proofs.invariant.Invariant.{Lively, Covered, Down}
 use Rattle.agreement.proofs.invariant.PlaceSet.{place_at_same, place_at_other, covered_set}
 use Rattle.agreement.proofs.opening.Reading.{commit_zero, commit_end, next_low}
 use Rattle.agreement.proofs.opening.Pigeons.{pigeon}
 use Rattle.agreement.proofs.opening.WaitingLaws.{Ascending, Among, waiting_ascends, waiting_each, waiting_all}
-use Rattle.agreement.proofs.opening.PairLaws.{table_found, table_lacks, logged_times, commit_where, commit_logged, waited_low, committed_below, unlisted, alone_commit, commit_alone}
+use Rattle.agreement.proofs.opening.PairLaws.{table_found, table_lacks, logged_times, commit_where, commit_logged}
+use Rattle.agreement.proofs.opening.PairLaws.{waited_low, committed_below, unlisted, alone_commit, commit_alone}
 
 -- the places while the numbers ns are still to come
-pub record Taken (m : List ℕ) (cs : List LoggedCommit) (cells : List Cell) (o next : ℕ) (ps : List Place) (ns : List ℕ) : Type 0 where
+pub record Taken (m : List ℕ) (cs : List LoggedCommit) (cells : List Cell) (o next : ℕ) (ps : List Place)
+    (ns : List ℕ) : Type 0 where
   pub size : length ps ≡ 64
   pub each : (i : ℕ) → i < 64 → Lively cs cells o next (place_at ps i)
   pub over : (i : ℕ) → i < 64 → 0 < num_at ps i → 0 < time_at ps i  -- none is active
@@ -68,7 +72,8 @@ module _ {l d : ℕ} {m : List ℕ} {b : Book} {disk : Disk} (x : Down l d m b d
   }
 
   live_lively : (n t : ℕ) → 0 < count n disk.cells → 0 < t → (find (commits_of disk.stored) n).time ≡ t
-      → Lively (commits_of disk.stored) disk.cells disk.oldest (next_number m l) (live_place m (read_log m l) c slots n t)
+      → Lively (commits_of disk.stored) disk.cells disk.oldest (next_number m l)
+      (live_place m (read_log m l) c slots n t)
   unfolding live_place
   live_lively n t h z e = record {
     formed = (waited_low x n h, z);
@@ -83,15 +88,18 @@ module _ {l d : ℕ} {m : List ℕ} {b : Book} {disk : Disk} (x : Down l d m b d
       end_is : end_of_commitment (commit_under (read_log m l) n) ≡ (find (commits_in (read_log m l)) n).end
       end_is = commit_end (read_log m l) n (logged_times x)
 
-      go : (find (commits_in (read_log m l)) n ≡ find (commits_of disk.stored) n) ⊎ ((find (commits_in (read_log m l)) n ≡ no_commit) × ((find (commits_of disk.stored) n).seq < disk.oldest))
+      go : (find (commits_in (read_log m l)) n ≡ find (commits_of disk.stored) n)
+          ⊎ ((find (commits_in (read_log m l)) n ≡ no_commit) × ((find (commits_of disk.stored) n).seq < disk.oldest))
           → (end_of_commitment (commit_under (read_log m l) n) ≡ (find (commits_of disk.stored) n).end)
-          ⊎ ((end_of_commitment (commit_under (read_log m l) n) ≡ 0) × ((find (commits_of disk.stored) n).seq < disk.oldest))
+          ⊎ ((end_of_commitment (commit_under (read_log m l) n) ≡ 0)
+          × ((find (commits_of disk.stored) n).seq < disk.oldest))
       go (inl q) = inl (end_is ∙ ap (λ (y : LoggedCommit). y.end) q)
       go (inr q) = inr (end_is ∙ ap (λ (y : LoggedCommit). y.end) q.0, q.1)
 
   -- ---- a free place for one that has none
 
-  module _ (ps : List Place) (ns : List ℕ) (p : Took ps ns) (n : ℕ) (h : 0 < count n disk.cells) (f : 0 < (find (commits_of disk.stored) n).time)
+  module _ (ps : List Place) (ns : List ℕ) (p : Took ps ns) (n : ℕ) (h : 0 < count n disk.cells)
+      (f : 0 < (find (commits_of disk.stored) n).time)
       (away : (j : ℕ) → j < 64 → num_at ps j ≢ n) where
     name : ℕ → ℕ
     name i = cond (ltb i 64) (num_at ps i) n
@@ -118,7 +126,8 @@ module _ {l d : ℕ} {m : List ℕ} {b : Book} {disk : Disk} (x : Down l d m b d
         owner i a (inl q) =
             let u = used i q in
             let t = p.over i q u in
-            rw (name_in i q) (x.owned (num_at ps i) (omega (arith, (p.each i q).waits u, (p.each i q).busy t)) (omega (arith, (p.each i q).over t)))
+            rw (name_in i q) (x.owned (num_at ps i) (omega (arith, (p.each i q).waits u, (p.each i q).busy t))
+            (omega (arith, (p.each i q).over t)))
         owner i a (inr q) = rw (name_out i q) (x.owned n h f)
 
         same : (i j : ℕ) → i < 65 → j < 65 → (i < 64) ⊎ (64 ≤ i) → (j < 64) ⊎ (64 ≤ j) → name i ≡ name j → i ≡ j
@@ -129,7 +138,8 @@ module _ {l d : ℕ} {m : List ℕ} {b : Book} {disk : Disk} (x : Down l d m b d
 
   -- ---- a number of the log takes place i, which is free
 
-  module _ (ps : List Place) (n : ℕ) (ns : List ℕ) (p : Took ps (n ∷ ns)) (h : 0 < count n disk.cells) (f : 0 < (find (commits_in (read_log m l)) n).time)
+  module _ (ps : List Place) (n : ℕ) (ns : List ℕ) (p : Took ps (n ∷ ns)) (h : 0 < count n disk.cells)
+      (f : 0 < (find (commits_in (read_log m l)) n).time)
       (above : Each (λ (y : ℕ). n < y) ns) (i : ℕ) (lt : i < 64) (free : num_at ps i ≡ 0) where
     whole : find (commits_of disk.stored) n ≡ find (commits_in (read_log m l)) n
     whole = (commit_logged x n f).0
@@ -185,7 +195,8 @@ module _ {l d : ℕ} {m : List ℕ} {b : Book} {disk : Disk} (x : Down l d m b d
       apart = apart' ns above p.apart.1;
     }
       where
-        each' : (j : ℕ) → j < 64 → (j ≡ i) ⊎ (j ≢ i) → Lively (commits_of disk.stored) disk.cells disk.oldest (next_number m l) (place_at (set ps i new) j)
+        each' : (j : ℕ) → j < 64 → (j ≡ i) ⊎ (j ≢ i)
+            → Lively (commits_of disk.stored) disk.cells disk.oldest (next_number m l) (place_at (set ps i new) j)
         each' j a (inl e) = rw (e, here) new_lively
         each' j a (inr e) = rw (there j e) (p.each j a)
 
@@ -193,24 +204,29 @@ module _ {l d : ℕ} {m : List ℕ} {b : Book} {disk : Disk} (x : Down l d m b d
         over' j a (inl e) = λ z. rw (e, time_here) low
         over' j a (inr e) = rw (there j e) (p.over j a)
 
-        distinct' : (u v : ℕ) → u < 64 → v < 64 → (u ≡ i) ⊎ (u ≢ i) → (v ≡ i) ⊎ (v ≢ i) → 0 < num_at (set ps i new) u → num_at (set ps i new) u ≡ num_at (set ps i new) v → u ≡ v
+        distinct' : (u v : ℕ) → u < 64 → v < 64 → (u ≡ i) ⊎ (u ≢ i) → (v ≡ i) ⊎ (v ≢ i) → 0 < num_at (set ps i new) u
+            → num_at (set ps i new) u ≡ num_at (set ps i new) v → u ≡ v
         distinct' u v a b (inl e) (inl g) z q = e ∙ sym g
         distinct' u v a b (inl e) (inr g) z q =
             absurd (p.apart.0 v b (sym (num_there v g) ∙ sym q ∙ ap (num_at (set ps i new)) e ∙ num_here))
         distinct' u v a b (inr e) (inl g) z q =
             absurd (p.apart.0 u a (sym (num_there u e) ∙ q ∙ ap (num_at (set ps i new)) g ∙ num_here))
-        distinct' u v a b (inr e) (inr g) z q = p.distinct u v a b (rw (num_there u e) at z) (sym (num_there u e) ∙ q ∙ num_there v g)
+        distinct' u v a b (inr e) (inr g) z q =
+            p.distinct u v a b (rw (num_there u e) at z) (sym (num_there u e) ∙ q ∙ num_there v g)
 
-        all' : (a : ℕ) → 0 < a → ((j : ℕ) × (j < 64) × (num_at ps j ≡ a)) ⊎ ((a ≡ n) ⊎ Among a ns) → ((j : ℕ) × (j < 64) × (num_at (set ps i new) j ≡ a)) ⊎ Among a ns
+        all' : (a : ℕ) → 0 < a → ((j : ℕ) × (j < 64) × (num_at ps j ≡ a)) ⊎ ((a ≡ n) ⊎ Among a ns)
+            → ((j : ℕ) × (j < 64) × (num_at (set ps i new) j ≡ a)) ⊎ Among a ns
         all' a z (inl (j, g, q)) = inl (j, g, num_there j (λ e. omega (arith, ap (num_at ps) e)) ∙ q)
         all' a z (inr (inl e)) = inl (i, lt, num_here ∙ sym e)
         all' a z (inr (inr e)) = inr e
 
-        home' : (j : ℕ) → j < 64 → (j ≡ i) ⊎ (j ≢ i) → 0 < table_num m j → 0 < count (table_num m j) disk.cells → num_at (set ps i new) j ≡ table_num m j
+        home' : (j : ℕ) → j < 64 → (j ≡ i) ⊎ (j ≢ i) → 0 < table_num m j → 0 < count (table_num m j) disk.cells
+            → num_at (set ps i new) j ≡ table_num m j
         home' j a (inl e) z q = absurd (omega (arith, p.home j a z q, ap (num_at ps) e))
         home' j a (inr e) z q = num_there j e ∙ p.home j a z q
 
-        apart_one : (y : ℕ) → n < y → ((j : ℕ) → j < 64 → num_at ps j ≢ y) → (j : ℕ) → j < 64 → num_at (set ps i new) j ≢ y
+        apart_one : (y : ℕ) → n < y → ((j : ℕ) → j < 64 → num_at ps j ≢ y) → (j : ℕ) → j < 64
+            → num_at (set ps i new) j ≢ y
         apart_one y g q j a = go (same? j i)
           where
             go : (j ≡ i) ⊎ (j ≢ i) → num_at (set ps i new) j ≢ y
@@ -224,14 +240,16 @@ module _ {l d : ℕ} {m : List ℕ} {b : Book} {disk : Disk} (x : Down l d m b d
 
   -- ---- all numbers of the log
 
-  took : (ns : List ℕ) (ps : List Place) → Ascending ns → Each (λ (n : ℕ). (0 < count n disk.cells) × (0 < (find (commits_in (read_log m l)) n).time)) ns
+  took : (ns : List ℕ) (ps : List Place) → Ascending ns
+      → Each (λ (n : ℕ). (0 < count n disk.cells) × (0 < (find (commits_in (read_log m l)) n).time)) ns
       → Took ps ns → Took (take_free m (read_log m l) c slots ps ns) []
   unfolding take_free new
   took [] ps r e p = p
   took (n ∷ ns) ps r e p = took ns _ r.1 e.1 (go (first (λ i. is_free (place_at ps i).life) 64 0) refl)
     where
       go : (f : Found) → first (λ i. is_free (place_at ps i).life) 64 0 ≡ f
-          → Took (take_at f ps (live_place m (read_log m l) c slots n (time_or_zero (commit_under (read_log m l) n)))) ns
+          → Took (take_at f ps (live_place m (read_log m l) c slots n (time_or_zero (commit_under (read_log m l) n))))
+          ns
       go (At i) q =
           let s = first_found (λ i. is_free (place_at ps i).life) 64 0 i q in
           placed ps n ns p e.0.0 e.0.1 r.0 i (omega (arith, s.1)) (free_num (place_at ps i).life s.2)
@@ -242,11 +260,13 @@ module _ {l d : ℕ} {m : List ℕ} {b : Book} {disk : Disk} (x : Down l d m b d
   -- ---- the table's places
 
   data Spot (i : ℕ) : Place → Type 0 where
-    kept : 0 < table_num m i → 0 < count (table_num m i) disk.cells → Spot i (live_place m (read_log m l) c slots (table_num m i) (table_time m i))
+    kept : 0 < table_num m i → 0 < count (table_num m i) disk.cells
+        → Spot i (live_place m (read_log m l) c slots (table_num m i) (table_time m i))
     bare : (table_num m i ≡ 0) ⊎ (count (table_num m i) disk.cells ≡ 0) → Spot i free_place
 
   spot : (i : ℕ)
-      → Spot i (cond (not (eqb (table_num m i) 0) && ltb 0 (count_waiting c (table_num m i) slots)) (live_place m (read_log m l) c slots (table_num m i) (table_time m i)) free_place)
+      → Spot i (cond (not (eqb (table_num m i) 0) && ltb 0 (count_waiting c (table_num m i) slots))
+      (live_place m (read_log m l) c slots (table_num m i) (table_time m i)) free_place)
   spot i = go (eqb (table_num m i) 0) refl (ltb 0 (count_waiting c (table_num m i) slots)) refl
     where
       go : (s : Bool) → eqb (table_num m i) 0 ≡ s → (t : Bool) → ltb 0 (count_waiting c (table_num m i) slots) ≡ t
@@ -254,8 +274,13 @@ module _ {l d : ℕ} {m : List ℕ} {b : Book} {disk : Disk} (x : Down l d m b d
       go true a t b = bare (inl (eqb-true _ _ a))
       go false a true b =
           let z : table_num m i ≢ 0 = eqb-false _ _ a in
-          kept (omega arith) (omega (arith, ltb-true 0 (count_waiting c (table_num m i) slots) b, counts (table_num m i)))
-      go false a false b = bare (inr (omega (arith, ltb-false 0 (count_waiting c (table_num m i) slots) b, counts (table_num m i))))
+          kept (omega arith) (omega (
+            arith,
+            ltb-true 0 (count_waiting c (table_num m i) slots) b,
+            counts (table_num m i),
+          ))
+      go false a false b =
+          bare (inr (omega (arith, ltb-false 0 (count_waiting c (table_num m i) slots) b, counts (table_num m i))))
 
   table_at : (i n j : ℕ) → j < n → Spot (i + j) (place_at (table_places m (read_log m l) c slots i n) j)
   unfolding table_places place_at
@@ -263,7 +288,8 @@ module _ {l d : ℕ} {m : List ℕ} {b : Book} {disk : Disk} (x : Down l d m b d
   table_at i (suc n) zero h = rw add-zero (spot i)
   table_at i (suc n) (suc j) h =
       let e : i + 1 + j ≡ i + suc j = omega arith in
-      subst (λ (q : ℕ). Spot q (place_at (table_places m (read_log m l) c slots (i + 1) n) j)) e (table_at (i + 1) n j (le_of_suc-le-suc h))
+      subst (λ (q : ℕ). Spot q (place_at (table_places m (read_log m l) c slots (i + 1) n) j)) e
+      (table_at (i + 1) n j (le_of_suc-le-suc h))
 
   table_length : (i n : ℕ) → length (table_places m (read_log m l) c slots i n) ≡ n
   unfolding table_places
@@ -276,9 +302,11 @@ module _ {l d : ℕ} {m : List ℕ} {b : Book} {disk : Disk} (x : Down l d m b d
   spot_at : (i : ℕ) → i < 64 → Spot i (place_at listed i)
   spot_at i h = let e : 0 + i ≡ i = omega arith in subst (λ (q : ℕ). Spot q (place_at listed i)) e (table_at 0 64 i h)
 
-  spot_lively : (i : ℕ) → i < 64 → (e : Place) → Spot i e → Lively (commits_of disk.stored) disk.cells disk.oldest (next_number m l) e
+  spot_lively : (i : ℕ) → i < 64 → (e : Place) → Spot i e
+      → Lively (commits_of disk.stored) disk.cells disk.oldest (next_number m l) e
   spot_lively i h e (bare w) = free_lively
-  spot_lively i h e (kept z q) = let t = x.medium.table.pair i h z in live_lively (table_num m i) (table_time m i) q t.0 t.1
+  spot_lively i h e (kept z q) =
+      let t = x.medium.table.pair i h z in live_lively (table_num m i) (table_time m i) q t.0 t.1
 
   -- what a place that is not free says
   spot_fact : (i : ℕ) (e : Place) → Spot i e → 0 < life_num e.life
@@ -287,7 +315,8 @@ module _ {l d : ℕ} {m : List ℕ} {b : Book} {disk : Disk} (x : Down l d m b d
   spot_fact i e (kept z q) h = (refl, refl, z)
   spot_fact i e (bare w) h = absurd (not-suc-le-zero h)
 
-  spot_fill : (i : ℕ) (e : Place) → Spot i e → 0 < table_num m i → 0 < count (table_num m i) disk.cells → life_num e.life ≡ table_num m i
+  spot_fill : (i : ℕ) (e : Place) → Spot i e → 0 < table_num m i → 0 < count (table_num m i) disk.cells
+      → life_num e.life ≡ table_num m i
   unfolding live_place
   spot_fill i e (kept z q) a b = refl
   spot_fill i e (bare (inl w)) a b = absurd (omega arith)
@@ -295,13 +324,16 @@ module _ {l d : ℕ} {m : List ℕ} {b : Book} {disk : Disk} (x : Down l d m b d
 
   -- ns are the waited numbers whose pair is in the log alone
   begun : (ns : List ℕ) → Each (λ (n : ℕ). (0 < count n disk.cells) × (table_find m n ≡ Nothing)) ns
-      → ((n : ℕ) → 0 < count n disk.cells → table_find m n ≡ Nothing → 0 < (find (commits_in (read_log m l)) n).time → Among n ns)
+      → ((n : ℕ) → 0 < count n disk.cells → table_find m n ≡ Nothing → 0 < (find (commits_in (read_log m l)) n).time
+      → Among n ns)
       → Took listed ns
   begun ns alone rest = record {
     size = table_length 0 64;
     each = λ i h. spot_lively i h _ (spot_at i h);
     over = λ i h z. let f = spot_fact i _ (spot_at i h) z in omega (arith, f.1, (x.medium.table.pair i h f.2).0);
-    distinct = λ i j h g z e. let f = spot_fact i _ (spot_at i h) z in let f' = spot_fact j _ (spot_at j g) (omega (arith, e)) in
+    distinct =
+        λ i j h g z e. let f = spot_fact i _ (spot_at i h) z in let f' =
+        spot_fact j _ (spot_at j g) (omega (arith, e)) in
         x.medium.table.apart i j h g f.2 (sym f.0 ∙ e ∙ f'.0);
     all = λ n h z. all' n h z (table_find m n) refl;
     covered = λ i h z s. let f = spot_fact i _ (spot_at i h) (timed_num i h z) in (sym f.0, sym f.1);
@@ -312,7 +344,8 @@ module _ {l d : ℕ} {m : List ℕ} {b : Book} {disk : Disk} (x : Down l d m b d
       timed_num : (i : ℕ) → i < 64 → 0 < time_at listed i → 0 < num_at listed i
       timed_num i h z = life_low (place_at listed i).life (spot_lively i h (place_at listed i) (spot_at i h)).formed z
 
-      all' : (n : ℕ) → 0 < count n disk.cells → 0 < (find (commits_of disk.stored) n).time → (f : Found) → table_find m n ≡ f
+      all' : (n : ℕ) → 0 < count n disk.cells → 0 < (find (commits_of disk.stored) n).time → (f : Found)
+          → table_find m n ≡ f
           → ((i : ℕ) × (i < 64) × (num_at listed i ≡ n)) ⊎ Among n ns
       all' n h z (At i) e =
           let r = table_found m n i e in
@@ -325,17 +358,21 @@ module _ {l d : ℕ} {m : List ℕ} {b : Book} {disk : Disk} (x : Down l d m b d
       apart' (n ∷ ys) q = (
         λ j a e.
             let z = waited_low x n q.0.0 in
-            let f = spot_fact j (place_at listed j) (spot_at j a) (omega (arith, e)) in table_lacks m n z q.0.1 j a (sym f.0 ∙ e),
+            let f = spot_fact j (place_at listed j) (spot_at j a) (omega (arith, e)) in
+            table_lacks m n z q.0.1 j a (sym f.0 ∙ e),
         apart' ys q.1,
       )
 
   pub places_taken : Taken m (commits_of disk.stored) disk.cells disk.oldest (next_number m l)
-      (take_free m (read_log m l) c slots (table_places m (read_log m l) c slots 0 64) (waiting_numbers c (in_log_alone m (read_log m l)) slots)) []
+      (take_free m (read_log m l) c slots (table_places m (read_log m l) c slots 0 64)
+      (waiting_numbers c (in_log_alone m (read_log m l)) slots)) []
   places_taken =
       took ns listed (waiting_ascends c p slots)
-      (each_map P (λ (n : ℕ). (0 < count n disk.cells) × (0 < (find (commits_in (read_log m l)) n).time)) ns (λ n f. (omega (arith, f.1, counts n), (alone_commit x n f.0).1)) each_waits)
+      (each_map P (λ (n : ℕ). (0 < count n disk.cells) × (0 < (find (commits_in (read_log m l)) n).time)) ns
+      (λ n f. (omega (arith, f.1, counts n), (alone_commit x n f.0).1)) each_waits)
       (begun ns
-      (each_map P (λ (n : ℕ). (0 < count n disk.cells) × (table_find m n ≡ Nothing)) ns (λ n f. (omega (arith, f.1, counts n), (alone_commit x n f.0).0)) each_waits)
+      (each_map P (λ (n : ℕ). (0 < count n disk.cells) × (table_find m n ≡ Nothing)) ns
+      (λ n f. (omega (arith, f.1, counts n), (alone_commit x n f.0).0)) each_waits)
       (λ n h e f. waiting_all c p slots n (commit_alone x n e f) (omega (arith, counts n))))
     where
       p : ℕ → Bool

@@ -1,5 +1,5 @@
--- The numbers under which slots wait, gathered slot by slot: they rise, so no two are the same; each passes the test and is
--- waited under; and each that does is among them.
+-- The numbers under which slots wait, gathered slot by slot: they rise, so no two are the same; each passes the test
+-- and is waited under; and each that does is among them.
 use Prim.Native.Nat.{ℕ, zero, suc, ◌+◌, ◌≤◌, ◌<◌}
 use native.Mathlib.Nat.{not-suc-le-zero, le_of_suc-le-suc}
 use native.Mathlib.Omega.{arith}
@@ -34,28 +34,33 @@ module _ (P : ℕ → Type 0) (n : ℕ) (h : P n) where
   unfolding insert
   each_insert [] e = (h, tt)
   each_insert (x ∷ xs) e =
-      cond_elim (Each P) (ltb n x) (λ t. (h, e)) (λ f. cond_elim (Each P) (eqb n x) (λ t. e) (λ g. (e.0, each_insert xs e.1)))
+      cond_elim (Each P) (ltb n x) (λ t. (h, e))
+      (λ f. cond_elim (Each P) (eqb n x) (λ t. e) (λ g. (e.0, each_insert xs e.1)))
 
 ascending_insert : (n : ℕ) (xs : List ℕ) → Ascending xs → Ascending (insert n xs)
 unfolding insert
 ascending_insert n [] r = (tt, tt)
 ascending_insert n (x ∷ xs) r =
     cond_elim Ascending (ltb n x)
-    (λ t. let l = ltb-true n x t in ((l, each_map (λ (y : ℕ). x < y) (λ (y : ℕ). n < y) xs (λ y a. omega arith) r.0), r))
+    (λ t. let l = ltb-true n x t in
+    ((l, each_map (λ (y : ℕ). x < y) (λ (y : ℕ). n < y) xs (λ y a. omega arith) r.0), r))
     (λ f. cond_elim Ascending (eqb n x) (λ t. r)
-    (λ g. let l = ltb-false n x f in let e = eqb-false n x g in (each_insert (λ (y : ℕ). x < y) n (omega arith) xs r.0, ascending_insert n xs r.1)))
+    (λ g. let l = ltb-false n x f in let e = eqb-false n x g in
+    (each_insert (λ (y : ℕ). x < y) n (omega arith) xs r.0, ascending_insert n xs r.1)))
 
 among_new : (n : ℕ) (xs : List ℕ) → Among n (insert n xs)
 unfolding insert
 among_new n [] = inl refl
 among_new n (x ∷ xs) =
-    cond_elim (Among n) (ltb n x) (λ t. inl refl) (λ f. cond_elim (Among n) (eqb n x) (λ t. inl (eqb-true n x t)) (λ g. inr (among_new n xs)))
+    cond_elim (Among n) (ltb n x) (λ t. inl refl)
+    (λ f. cond_elim (Among n) (eqb n x) (λ t. inl (eqb-true n x t)) (λ g. inr (among_new n xs)))
 
 among_old : (a n : ℕ) (xs : List ℕ) → Among a xs → Among a (insert n xs)
 unfolding insert
 among_old a n [] h = absurd h
 among_old a n (x ∷ xs) h =
-    cond_elim (Among a) (ltb n x) (λ t. inr h) (λ f. cond_elim (Among a) (eqb n x) (λ t. h) (λ g. go (among_old a n xs) h))
+    cond_elim (Among a) (ltb n x) (λ t. inr h)
+    (λ f. cond_elim (Among a) (eqb n x) (λ t. h) (λ g. go (among_old a n xs) h))
   where
     go : (Among a xs → Among a (insert n xs)) → (a ≡ x) ⊎ Among a xs → (a ≡ x) ⊎ Among a (insert n xs)
     go ih (inl e) = inl e
@@ -86,14 +91,20 @@ module _ (c : List ℕ) (p : ℕ → Bool) where
       P : Slot → ℕ → Type 0
       P s n = (p n ≡ true) × (0 < count_waiting c n k + cond (waits_under s n) 1 0)
 
-      more : (s : Slot) → Each (λ (n : ℕ). (p n ≡ true) × (0 < count_waiting c n k)) (waiting_numbers c p k) → Each (P s) (waiting_numbers c p k)
-      more s h = each_map (λ (n : ℕ). (p n ≡ true) × (0 < count_waiting c n k)) (P s) (waiting_numbers c p k) (λ n f. (f.0, omega (arith, f.1))) h
+      more : (s : Slot) → Each (λ (n : ℕ). (p n ≡ true) × (0 < count_waiting c n k)) (waiting_numbers c p k)
+          → Each (P s) (waiting_numbers c p k)
+      more s h =
+          each_map (λ (n : ℕ). (p n ≡ true) × (0 < count_waiting c n k)) (P s) (waiting_numbers c p k)
+          (λ n f. (f.0, omega (arith, f.1))) h
 
-      go' : (s : Slot) (t : Bool) (n : ℕ) → waits_under s n ≡ true → p n ≡ t → Each (P s) (waiting_numbers c p k) → Each (P s) (insert_if t n (waiting_numbers c p k))
+      go' : (s : Slot) (t : Bool) (n : ℕ) → waits_under s n ≡ true → p n ≡ t → Each (P s) (waiting_numbers c p k)
+          → Each (P s) (insert_if t n (waiting_numbers c p k))
       go' s true n w e h = each_insert (P s) n (e, rw w (omega arith)) (waiting_numbers c p k) h
       go' s false n w e h = h
 
-      go : (s : Slot) → (cell_at c k).state ≡ s → Each (λ (n : ℕ). (p n ≡ true) × (0 < count_waiting c n k)) (waiting_numbers c p k) → Each (P s) (with_waiting s p (waiting_numbers c p k))
+      go : (s : Slot) → (cell_at c k).state ≡ s
+          → Each (λ (n : ℕ). (p n ≡ true) × (0 < count_waiting c n k)) (waiting_numbers c p k)
+          → Each (P s) (with_waiting s p (waiting_numbers c p k))
       go Empty e h = more Empty h
       go (Waiting n) e h = go' (Waiting n) (p n.0) n.0 (eq-eqb n.0 n.0 refl) refl (more (Waiting n) h)
       go (Stamped t) e h = more (Stamped t) h
@@ -107,12 +118,17 @@ module _ (c : List ℕ) (p : ℕ → Bool) where
       older true a f = among_old n a (waiting_numbers c p k) f
       older false a f = f
 
-      by : (a : ℕ) (t : Bool) → eqb a n ≡ t → 0 < count_waiting c n k + cond t 1 0 → (0 < count_waiting c n k → Among n (waiting_numbers c p k))
+      by : (a : ℕ) (t : Bool) → eqb a n ≡ t → 0 < count_waiting c n k + cond t 1 0
+          → (0 < count_waiting c n k → Among n (waiting_numbers c p k))
           → Among n (insert_if (p a) a (waiting_numbers c p k))
-      by a true e h f = subst (λ (b : ℕ). Among n (insert_if (p b) b (waiting_numbers c p k))) (sym (eqb-true a n e)) (rw q (among_new n (waiting_numbers c p k)))
+      by a true e h f =
+          subst (λ (b : ℕ). Among n (insert_if (p b) b (waiting_numbers c p k))) (sym (eqb-true a n e))
+          (rw q (among_new n (waiting_numbers c p k)))
       by a false e h f = older (p a) a (f (omega arith))
 
-      go : (s : Slot) → 0 < count_waiting c n k + cond (waits_under s n) 1 0 → (0 < count_waiting c n k → Among n (waiting_numbers c p k)) → Among n (with_waiting s p (waiting_numbers c p k))
+      go : (s : Slot) → 0 < count_waiting c n k + cond (waits_under s n) 1 0
+          → (0 < count_waiting c n k → Among n (waiting_numbers c p k))
+          → Among n (with_waiting s p (waiting_numbers c p k))
       go Empty h f = f (omega arith)
       go (Waiting a) h f = by a.0 (eqb a.0 n) refl h f
       go (Stamped t) h f = f (omega arith)
@@ -125,7 +141,8 @@ ascending_lt (x ∷ xs) r i zero h l = absurd (not-suc-le-zero h)
 ascending_lt (x ∷ xs) r zero (suc j) h l = each_at (λ (y : ℕ). x < y) xs j 0 r.0 (le_of_suc-le-suc l)
 ascending_lt (x ∷ xs) r (suc i) (suc j) h l = ascending_lt xs r.1 i j (le_of_suc-le-suc h) (le_of_suc-le-suc l)
 
-pub ascending_same : (xs : List ℕ) → Ascending xs → (i j : ℕ) → i < length xs → j < length xs → get_or xs i 0 ≡ get_or xs j 0 → i ≡ j
+pub ascending_same : (xs : List ℕ) → Ascending xs → (i j : ℕ) → i < length xs → j < length xs
+    → get_or xs i 0 ≡ get_or xs j 0 → i ≡ j
 ascending_same xs r i j a b e = go (split i j) (split j i)
   where
     go : (i < j) ⊎ (j ≤ i) → (j < i) ⊎ (i ≤ j) → i ≡ j

@@ -8,7 +8,8 @@ use Rattle.runs.specs.Book.{Book}
 use Rattle.agreement.proofs.history.Ghost.{Disk}
 use Rattle.agreement.proofs.invariant.Invariant.{Down}
 use Rattle.agreement.proofs.opening.Redo.{applied_next_law}
-use Rattle.agreement.proofs.opening.FormHolds.{fields_in_form_law, sequences_in_range_law, records_whole_law, ends_logged_law}
+use Rattle.agreement.proofs.opening.FormHolds.{fields_in_form_law, sequences_in_range_law, records_whole_law}
+use Rattle.agreement.proofs.opening.FormHolds.{ends_logged_law}
 use Rattle.agreement.proofs.opening.HistoryHolds.{history_true_law}
 use Rattle.agreement.proofs.opening.PairsHold.{from_one_law, numbers_left_law, pairs_once_law, waiting_few}
 

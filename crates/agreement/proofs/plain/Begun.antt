@@ -1,5 +1,6 @@
 -- A number that is open is the number of one begin, in plain words: a number comes into the book's open ones by a begin
--- that answers it, and each event that closes it takes it out. By induction over the events, without a word of the store.
+-- that answers it, and each event that closes it takes it out. By induction over the events, without a word of the
+-- store.
 use Prim.Native.Nat.{ℕ, zero, suc}
 use native.Mathlib.Omega.{arith}
 use mathlib.Core.Bool.{Bool, true, false, ◌&&◌, ◌||◌, false≢true}
@@ -7,8 +8,10 @@ use mathlib.Core.List.{List, [], ◌∷◌, ◌++◌}
 use mathlib.Core.Path.{◌≡◌, refl, sym, ap, ◌∙◌}
 use lib.Dec.{eqb}
 use borrow.Author.Tests.{eqb-true, ne_eqb}
-use Rattle.runs.specs.Event.{Call, Event, opening, cut, call, begin, write, erase, current_read, commit, abort, as_of, changes, store_log, store_page, checkpoint, Observation}
-use Rattle.runs.specs.Book.{Opened, Book, blank, has_row, is_open, close, add, commits, fall, entered, unless_refused, feed}
+use Rattle.runs.specs.Event.{Call, Event, opening, cut, call, begin, write, erase, current_read, commit, abort, as_of}
+use Rattle.runs.specs.Event.{changes, store_log, store_page, checkpoint, Observation}
+use Rattle.runs.specs.Book.{Opened, Book, blank, has_row, is_open, close, add, commits, fall, entered, unless_refused}
+use Rattle.runs.specs.Book.{feed}
 use Rattle.runs.specs.Machine.{World, step, trace, formatted}
 use Rattle.runs.specs.Moments.{world_after, book_after, any_seen, is_begin, begins, closes}
 use Rattle.runs.specs.Plain.{BegunOnce, OneBegin}
@@ -26,15 +29,18 @@ apart : (os : List Opened) (n a : ℕ) → is_open (close os a) n ≡ true → e
 apart os n a h = go (eqb a n) refl
   where
     go : (t : Bool) → eqb a n ≡ t → t ≡ false
-    go true e = absurd (false≢true (sym (close_shuts os n) ∙ ap (λ (x : ℕ). is_open (close os x) n) (sym (eqb-true a n e)) ∙ h))
+    go true e =
+        absurd (false≢true (sym (close_shuts os n) ∙ ap (λ (x : ℕ). is_open (close os x) n) (sym (eqb-true a n e)) ∙ h))
     go false e = refl
 
-committing : (t : Bool) (b : Book) (n a k : ℕ) (ch : Bool) → is_open (commits t b a k ch).opened n ≡ true → is_open (close b.opened a) n ≡ true
+committing : (t : Bool) (b : Book) (n a k : ℕ) (ch : Bool) → is_open (commits t b a k ch).opened n ≡ true
+    → is_open (close b.opened a) n ≡ true
 unfolding add
 committing true b n a k ch h = h
 committing false b n a k ch h = h
 
-called : (n : ℕ) (b : Book) (x : Call) (o : Observation) → o.refusal ≡ 0 → is_open (entered b x o.result o.changed).opened n ≡ true → Open n b (call x) o
+called : (n : ℕ) (b : Book) (x : Call) (o : Observation) → o.refusal ≡ 0
+    → is_open (entered b x o.result o.changed).opened n ≡ true → Open n b (call x) o
 unfolding entered is_open add
 called n b (begin k) o z h = go (eqb o.result n) refl h
   where
@@ -45,7 +51,8 @@ called n b (write a key v) o z h = was h refl (rw z)
 called n b (erase a key) o z h = was h refl (rw z)
 called n b (current_read a key) o z h = was h refl (rw z)
 called n b (commit a k) o z h =
-    let q = committing (has_row b.rows a) b n a k o.changed h in was (close_less b.opened a n q) refl (rw (z, apart b.opened n a q))
+    let q = committing (has_row b.rows a) b n a k o.changed h in
+    was (close_less b.opened a n q) refl (rw (z, apart b.opened n a q))
 called n b (abort a) o z h = was (close_less b.opened a n h) refl (rw (z, apart b.opened n a h))
 called n b (as_of key t) o z h = was h refl (rw z)
 called n b (changes key t1 t2 buffer) o z h = was h refl (rw z)
@@ -53,7 +60,8 @@ called n b store_log o z h = was h refl (rw z)
 called n b (store_page p) o z h = was h refl (rw z)
 called n b checkpoint o z h = was h refl (rw z)
 
-refused_not : (n r : ℕ) (x : Call) (o : Observation) → o.refusal ≡ suc r → (begins n (call x) o ≡ false) × (closes n (call x) o ≡ false)
+refused_not : (n r : ℕ) (x : Call) (o : Observation) → o.refusal ≡ suc r
+    → (begins n (call x) o ≡ false) × (closes n (call x) o ≡ false)
 refused_not n r x o z =
     let q : eqb o.refusal 0 ≡ false = ne_eqb o.refusal 0 (λ e. omega arith) in (rw q (no_more (is_begin x)), rw q)
   where
@@ -71,25 +79,31 @@ opened n b (opening c) o h = go o.refusal refl h
 opened n b cut o h = absurd (false≢true h)
 opened n b (call x) o h = go o.refusal refl h
   where
-    go : (r : ℕ) → o.refusal ≡ r → is_open (unless_refused r b (entered b x o.result o.changed)).opened n ≡ true → Open n b (call x) o
+    go : (r : ℕ) → o.refusal ≡ r → is_open (unless_refused r b (entered b x o.result o.changed)).opened n ≡ true
+        → Open n b (call x) o
     go zero z h = called n b x o z h
     go (suc r) z h = let q = refused_not n r x o z in was h q.0 q.1
 
 -- the begin of an open number among some events that come at w, or it was open before them
 module _ (l d n : ℕ) where
   pub data Since (w : World) (b : Book) (es : List Event) : Type 0 where
-    kept : is_open b.opened n ≡ true → any_seen (begins n) es (trace l d w es) ≡ false → any_seen (closes n) es (trace l d w es) ≡ false → Since w b es
+    kept : is_open b.opened n ≡ true → any_seen (begins n) es (trace l d w es) ≡ false
+        → any_seen (closes n) es (trace l d w es) ≡ false → Since w b es
     begun : (clock : ℕ) (before behind : List Event) → es ≡ before ++ (call (begin clock) ∷ behind)
-        → (step l d (world_after l d w before) (call (begin clock))).seen.refusal ≡ 0 → (step l d (world_after l d w before) (call (begin clock))).seen.result ≡ n
-        → any_seen (begins n) behind (trace l d (step l d (world_after l d w before) (call (begin clock))).world behind) ≡ false
-        → any_seen (closes n) behind (trace l d (step l d (world_after l d w before) (call (begin clock))).world behind) ≡ false → Since w b es
+        → (step l d (world_after l d w before) (call (begin clock))).seen.refusal ≡ 0
+        → (step l d (world_after l d w before) (call (begin clock))).seen.result ≡ n
+        → any_seen (begins n) behind (trace l d (step l d (world_after l d w before) (call (begin clock))).world behind)
+        ≡ false
+        → any_seen (closes n) behind (trace l d (step l d (world_after l d w before) (call (begin clock))).world behind)
+        ≡ false → Since w b es
 
   since : (es : List Event) (w : World) (b : Book) → is_open (book_after l d w b es).opened n ≡ true → Since w b es
   unfolding book_after any_seen trace world_after
   since [] w b h = kept h refl refl
   since (e ∷ es) w b h = go (since es (step l d w e).world (feed b e (step l d w e).seen) h)
     where
-      here : any_seen (begins n) es (trace l d (step l d w e).world es) ≡ false → any_seen (closes n) es (trace l d (step l d w e).world es) ≡ false
+      here : any_seen (begins n) es (trace l d (step l d w e).world es) ≡ false
+          → any_seen (closes n) es (trace l d (step l d w e).world es) ≡ false
           → Open n b e (step l d w e).seen → Since w b (e ∷ es)
       here p q (was x y z) = kept x (rw (y, p)) (rw (z, q))
       here p q (given clock y z x) =
@@ -97,7 +111,8 @@ module _ (l d n : ℕ) where
 
       go : Since (step l d w e).world (feed b e (step l d w e).seen) es → Since w b (e ∷ es)
       go (kept x p q) = here p q (opened n b e (step l d w e).seen x)
-      go (begun clock before behind y z x p q) = begun clock (e ∷ before) behind (ap (λ (gs : List Event). e ∷ gs) y) z x p q
+      go (begun clock before behind y z x p q) =
+          begun clock (e ∷ before) behind (ap (λ (gs : List Event). e ∷ gs) y) z x p q
 
 pub one_begin : OneBegin
 unfolding OneBegin world_after blank is_open
@@ -106,6 +121,16 @@ one_begin l d es n r h = go (since l d n es (formatted l d) blank h)
     go : Since l d n (formatted l d) blank es → BegunOnce l d es n
     go (kept x p q) = absurd (false≢true x)
     go (begun clock before behind y z x p q) =
-        let e : world_after l d (formatted l d) (before ++ (call (begin clock) ∷ [])) ≡ (step l d (world_after l d (formatted l d) before) (call (begin clock))).world =
+        let e : world_after l d (formatted l d) (before ++ (call (begin clock) ∷ []))
+        ≡ (step l d (world_after l d (formatted l d) before) (call (begin clock))).world =
         world_append l d before (call (begin clock) ∷ []) (formatted l d) in
-        record { clock = clock; before = before; behind = behind; among = y; accepted = z; answer = x; only = rw e p; active = rw e q }
+        record {
+          clock = clock;
+          before = before;
+          behind = behind;
+          among = y;
+          accepted = z;
+          answer = x;
+          only = rw e p;
+          active = rw e q;
+        }

@@ -10,10 +10,12 @@ use mathlib.Core.Path.{◌≡◌, refl, sym, ap, ◌∙◌, subst}
 use lib.ListN.{length, take, length-take, length-append}
 use borrow.Author.Tests.{ne_eqb}
 use Rattle.runs.specs.Event.{Event, opening, call, store_log, Sight, Observation}
-use Rattle.runs.specs.Book.{Version, Row, version, committed, Book, versions, time_of, has_row, is_open, add, fall, entered, feed, sight, sights}
+use Rattle.runs.specs.Book.{Version, Row, version, committed, Book, versions, time_of, has_row, is_open, add, fall}
+use Rattle.runs.specs.Book.{entered, feed, sight, sights}
 use Rattle.runs.specs.Moments.{Run, book_at, seen_at, trace_at, Openings, Among}
 use Rattle.runs.specs.Plain.{rows_found, Kept, Durable}
-use Rattle.agreement.proofs.plain.Laws.{take_past, versions_append, time_front, time_none, rowless_left, version_has, close_less}
+use Rattle.agreement.proofs.plain.Laws.{take_past, versions_append, time_front, time_none, rowless_left, version_has}
+use Rattle.agreement.proofs.plain.Laws.{close_less}
 use Rattle.agreement.proofs.plain.Runs.{Turn, stays, falls, opens, adds, ends, closes, stores, never}
 use Rattle.agreement.proofs.plain.Times.{since, front_run, book_next, opened_cases}
 use Rattle.agreement.proofs.plain.Reads.{next_fits}
@@ -26,11 +28,13 @@ pub record Front (R : List Row) (b : Book) : Type 0 where
   pub stored : length R ≤ b.stored
 
 -- one row more is stored, or not
-stored_more : (R rest : List Row) (b : Book) (changed : Bool) → b.rows ≡ R ++ rest → length R ≤ b.stored → length R ≤ cond changed (length b.rows) b.stored
+stored_more : (R rest : List Row) (b : Book) (changed : Bool) → b.rows ≡ R ++ rest → length R ≤ b.stored
+    → length R ≤ cond changed (length b.rows) b.stored
 stored_more R rest b true e h = rw (e, length-append) (omega arith)
 stored_more R rest b false e h = h
 
-pub front_turn : (R : List Row) (b b' : Book) (hs rs : List Row) (e : Event) (o : Observation) → Turn b e o b' rs → Front R b → Front R b'
+pub front_turn : (R : List Row) (b b' : Book) (hs rs : List Row) (e : Event) (o : Observation) → Turn b e o b' rs
+    → Front R b → Front R b'
 unfolding fall add
 front_turn R b b' hs rs e o stays p = p
 front_turn R b b' hs rs e o (falls z) p =
@@ -48,7 +52,8 @@ front_turn R b b' hs rs e o (ends n t ch a h z) p = record {
   stored = stored_more R p.rest b ch p.rows p.stored;
 }
 front_turn R b b' hs rs e o (closes n) p = record { rest = p.rest; rows = p.rows; stored = p.stored }
-front_turn R b b' hs rs e o stores p = record { rest = p.rest; rows = p.rows; stored = rw (p.rows, length-append) (omega arith) }
+front_turn R b b' hs rs e o stores p =
+    record { rest = p.rest; rows = p.rows; stored = rw (p.rows, length-append) (omega arith) }
 
 -- all that an opening finds then
 pub front_found : (R : List Row) (b : Book) → Front R b → (more : List Row) × ((fall b).rows ≡ R ++ more)
@@ -65,10 +70,14 @@ durable l d es fs r a =
     let x : Event = call store_log in
     let split : (es ++ (x ∷ [])) ++ fs ≡ es ++ (x ∷ fs) = append_assoc es (x ∷ []) fs in
     let run : Run l d ((es ++ (x ∷ [])) ++ fs) = subst (Run l d) (sym split) r in
-    let start : Front (book_at l d es).rows (book_at l d (es ++ (x ∷ []))) = subst (Front (book_at l d es).rows) (sym (book_next l d es x)) (logged (book_at l d es) (seen_at l d es x) a) in
+    let start : Front (book_at l d es).rows (book_at l d (es ++ (x ∷ []))) =
+    subst (Front (book_at l d es).rows) (sym (book_next l d es x)) (logged (book_at l d es) (seen_at l d es x) a) in
     let all : Front (book_at l d es).rows (book_at l d ((es ++ (x ∷ [])) ++ fs)) =
-    since (es ++ (x ∷ [])) fs run (λ e o. false) (λ b hs. Front (book_at l d es).rows b) (λ b b' hs rs e o z. front_turn (book_at l d es).rows b b' hs rs e o) (never fs (trace_at l d (es ++ (x ∷ [])) fs)) start in
-    subst (λ (gs : List Event). (more : List Row) × (rows_found l d gs ≡ (book_at l d es).rows ++ more)) split (front_found (book_at l d es).rows (book_at l d ((es ++ (x ∷ [])) ++ fs)) all)
+    since (es ++ (x ∷ [])) fs run (λ e o. false) (λ b hs. Front (book_at l d es).rows b)
+    (λ b b' hs rs e o z. front_turn (book_at l d es).rows b b' hs rs e o)
+    (never fs (trace_at l d (es ++ (x ∷ [])) fs)) start in
+    subst (λ (gs : List Event). (more : List Row) × (rows_found l d gs ≡ (book_at l d es).rows ++ more)) split
+    (front_found (book_at l d es).rows (book_at l d ((es ++ (x ∷ [])) ++ fs)) all)
 
 -- ---- no number with a row among the stored ones commits any more
 
@@ -93,7 +102,8 @@ foreign_none : (R rs : List Row) (n : ℕ) → has_row R n ≡ true → Foreign 
 unfolding time_of
 foreign_none R [] n h f = refl
 foreign_none R (version v ∷ rs) n h f = foreign_none R rs n h f
-foreign_none R (committed k t ∷ rs) n h f = rw (ne_eqb k n (λ e. false≢true (sym f.0 ∙ ap (has_row R) e ∙ h))) (foreign_none R rs n h f.1)
+foreign_none R (committed k t ∷ rs) n h f =
+    rw (ne_eqb k n (λ e. false≢true (sym f.0 ∙ ap (has_row R) e ∙ h))) (foreign_none R rs n h f.1)
 
 foreign_time : (R rs : List Row) (n : ℕ) → has_row R n ≡ true → Foreign R rs → time_of (R ++ rs) n ≡ time_of R n
 foreign_time R rs n h f = go (time_of R n) refl
@@ -109,7 +119,8 @@ record Shown (R : List Row) (b : Book) : Type 0 where
   foreign : Foreign R rest
   strangers : (n : ℕ) → is_open b.opened n ≡ true → has_row R n ≡ false
 
-shown_turn : (R : List Row) (b b' : Book) (hs rs : List Row) (e : Event) (o : Observation) → Turn b e o b' rs → Shown R b → Shown R b'
+shown_turn : (R : List Row) (b b' : Book) (hs rs : List Row) (e : Event) (o : Observation) → Turn b e o b' rs
+    → Shown R b → Shown R b'
 unfolding fall add is_open
 shown_turn R b b' hs rs e o stays p = p
 shown_turn R b b' hs rs e o (falls z) p =
@@ -162,24 +173,31 @@ unfolding sights
 sights_append rs [] ws = refl
 sights_append rs (v ∷ vs) ws = ap (λ (xs : List Sight). sight rs v ∷ xs) (sights_append rs vs ws)
 
-sights_same : (rs ss : List Row) (vs : List Version) → ((v : Version) → Among v vs → time_of rs v.number ≡ time_of ss v.number) → sights rs vs ≡ sights ss vs
+sights_same : (rs ss : List Row) (vs : List Version)
+    → ((v : Version) → Among v vs → time_of rs v.number ≡ time_of ss v.number) → sights rs vs ≡ sights ss vs
 unfolding sights sight
 sights_same rs ss [] h = refl
 sights_same rs ss (v ∷ vs) h = rw (h v (inl refl), sights_same rs ss vs (λ w a. h w (inr a)))
 
 -- the slots found before are at the front of those found now
-sights_front : (R rs : List Row) → Foreign R rs → sights (R ++ rs) (versions (R ++ rs)) ≡ sights R (versions R) ++ sights (R ++ rs) (versions rs)
+sights_front : (R rs : List Row) → Foreign R rs → sights (R ++ rs) (versions (R ++ rs))
+    ≡ sights R (versions R) ++ sights (R ++ rs) (versions rs)
 sights_front R rs f =
     ap (sights (R ++ rs)) (versions_append R rs)
     ∙ sights_append (R ++ rs) (versions R) (versions rs)
-    ∙ ap (λ (xs : List Sight). xs ++ sights (R ++ rs) (versions rs)) (sights_same (R ++ rs) R (versions R) (λ v a. foreign_time R rs v.number (version_has v R a) f))
+    ∙ ap (λ (xs : List Sight). xs ++ sights (R ++ rs) (versions rs))
+    (sights_same (R ++ rs) R (versions R) (λ v a. foreign_time R rs v.number (version_has v R a) f))
 
-shown_found : (R : List Row) (b : Book) → Shown R b → (more : List Sight) × (sights (fall b).rows (versions (fall b).rows) ≡ sights R (versions R) ++ more)
+shown_found : (R : List Row) (b : Book) → Shown R b → (more : List Sight)
+    × (sights (fall b).rows (versions (fall b).rows) ≡ sights R (versions R) ++ more)
 unfolding fall
 shown_found R b p =
     let (j, q) = take_past R p.rest b.stored p.stored in
-    let e : take b.stored b.rows ≡ R ++ take j p.rest = ap (take b.stored) p.rows ∙ q in
-    (sights (R ++ take j p.rest) (versions (take j p.rest)), ap (λ (xs : List Row). sights xs (versions xs)) e ∙ sights_front R (take j p.rest) (foreign_take R j p.rest p.foreign))
+    let e : take b.stored b.rows ≡ R ++ take j p.rest = ap (take b.stored) p.rows ∙ q in (
+      sights (R ++ take j p.rest) (versions (take j p.rest)),
+      ap (λ (xs : List Row). sights xs (versions xs)) e
+          ∙ sights_front R (take j p.rest) (foreign_take R j p.rest p.foreign),
+    )
 
 -- ---- from one opening to another
 
@@ -213,14 +231,17 @@ module _ {l d : ℕ} {es fs : List Event} {c c' : List ℕ} (x : Openings l d es
   found_first : (seen_at l d es (opening c)).found ≡ sights (rows_found l d es) (versions (rows_found l d es))
   found_first = (next_fits es (opening c) (front_run (es ++ (opening c ∷ [])) fs parted)).finds x.first
 
-  pub found_second : (seen_at l d (es ++ (opening c ∷ fs)) (opening c')).found ≡ sights (rows_found l d (es ++ (opening c ∷ fs))) (versions (rows_found l d (es ++ (opening c ∷ fs))))
+  pub found_second : (seen_at l d (es ++ (opening c ∷ fs)) (opening c')).found
+      ≡ sights (rows_found l d (es ++ (opening c ∷ fs))) (versions (rows_found l d (es ++ (opening c ∷ fs))))
   found_second = (next_fits (es ++ (opening c ∷ fs)) (opening c') x.run).finds x.second
 
   shown_then : Shown (rows_found l d es) (book_at l d (es ++ (opening c ∷ fs)))
   shown_then =
       subst (λ (gs : List Event). Shown (rows_found l d es) (book_at l d gs)) halves
-      (since (es ++ (opening c ∷ [])) fs parted (λ e o. false) (λ b hs. Shown (rows_found l d es) b) (λ b b' hs rs e o z. shown_turn (rows_found l d es) b b' hs rs e o)
-      (never fs (trace_at l d (es ++ (opening c ∷ [])) fs)) (subst (Shown (rows_found l d es)) (sym book_first) (opened_shown (book_at l d es))))
+      (since (es ++ (opening c ∷ [])) fs parted (λ e o. false) (λ b hs. Shown (rows_found l d es) b)
+      (λ b b' hs rs e o z. shown_turn (rows_found l d es) b b' hs rs e o)
+      (never fs (trace_at l d (es ++ (opening c ∷ [])) fs))
+      (subst (Shown (rows_found l d es)) (sym book_first) (opened_shown (book_at l d es))))
 
 pub kept : Kept
 unfolding Kept

@@ -19,7 +19,8 @@ use Rattle.runs.specs.Moments.{Among, Transaction, transactions}
 pub take_past : {A : Type 0} (xs ys : List A) (n : ℕ) → length xs ≤ n → (j : ℕ) × (take n (xs ++ ys) ≡ xs ++ take j ys)
 take_past [] ys n h = (n, refl)
 take_past (x ∷ xs) ys zero h = absurd (omega arith)
-take_past {A} (x ∷ xs) ys (suc n) h = let (j, e) = take_past xs ys n (le_of_suc-le-suc h) in (j, ap (λ (zs : List A). x ∷ zs) e)
+take_past {A} (x ∷ xs) ys (suc n) h =
+    let (j, e) = take_past xs ys n (le_of_suc-le-suc h) in (j, ap (λ (zs : List A). x ∷ zs) e)
 
 pub among_left : {A : Type 0} (x : A) (xs ys : List A) → Among x xs → Among x (xs ++ ys)
 among_left x [] ys h = absurd h
@@ -70,7 +71,8 @@ pub transactions_append : (rs ss : List Row) → transactions (rs ++ ss) ≡ tra
 unfolding transactions
 transactions_append [] ss = refl
 transactions_append (version v ∷ rs) ss = transactions_append rs ss
-transactions_append (committed n t ∷ rs) ss = ap (λ (xs : List Transaction). record { number = n; time = t } ∷ xs) (transactions_append rs ss)
+transactions_append (committed n t ∷ rs) ss =
+    ap (λ (xs : List Transaction). record { number = n; time = t } ∷ xs) (transactions_append rs ss)
 
 -- a beginning of the rows has a beginning of the transactions
 pub transactions_take : (i : ℕ) (rs : List Row) → (j : ℕ) × (transactions (take i rs) ≡ take j (transactions rs))
@@ -97,7 +99,8 @@ among_version v (version w ∷ rs) (inr h) = inr (among_version v rs h)
 among_version v (committed n t ∷ rs) (inl e) = let z : ◌≡◌ {A = ℕ} 0 1 = cc in absurd (omega arith)
 among_version v (committed n t ∷ rs) (inr h) = among_version v rs h
 
-pub row_transaction : (n t : ℕ) (rs : List Row) → Among (committed n t) rs → Among (record { number = n; time = t }) (transactions rs)
+pub row_transaction : (n t : ℕ) (rs : List Row) → Among (committed n t) rs
+    → Among (record { number = n; time = t }) (transactions rs)
 unfolding transactions
 row_transaction n t [] h = absurd h
 row_transaction n t (version v ∷ rs) (inl e) = let z : ◌≡◌ {A = ℕ} 0 1 = cc in absurd (omega arith)
@@ -105,7 +108,8 @@ row_transaction n t (version v ∷ rs) (inr h) = row_transaction n t rs h
 row_transaction n t (committed k u ∷ rs) (inl e) = inl cc
 row_transaction n t (committed k u ∷ rs) (inr h) = inr (row_transaction n t rs h)
 
-pub transaction_row : (x : Transaction) (rs : List Row) → Among x (transactions rs) → Among (committed x.number x.time) rs
+pub transaction_row : (x : Transaction) (rs : List Row) → Among x (transactions rs)
+    → Among (committed x.number x.time) rs
 unfolding transactions
 transaction_row x [] h = absurd h
 transaction_row x (version v ∷ rs) h = inr (transaction_row x rs h)
@@ -120,7 +124,8 @@ time_among [] n t e = absurd (none_some e)
 time_among (version v ∷ rs) n t e = inr (time_among rs n t e)
 time_among (committed k u ∷ rs) n t e = go (eqb k n) refl e (time_among rs n t)
   where
-    go : (b : Bool) → eqb k n ≡ b → cond b (some u) (time_of rs n) ≡ some t → (time_of rs n ≡ some t → Among (committed n t) rs) → Among (committed n t) (committed k u ∷ rs)
+    go : (b : Bool) → eqb k n ≡ b → cond b (some u) (time_of rs n) ≡ some t
+        → (time_of rs n ≡ some t → Among (committed n t) rs) → Among (committed n t) (committed k u ∷ rs)
     go true q e ih = let z : k ≡ n = eqb-true k n q in inl cc
     go false q e ih = inr (ih e)
 
@@ -130,7 +135,8 @@ time_front [] ss n t e = absurd (none_some e)
 time_front (version v ∷ rs) ss n t e = time_front rs ss n t e
 time_front (committed k u ∷ rs) ss n t e = go (eqb k n) e (time_front rs ss n t)
   where
-    go : (b : Bool) → cond b (some u) (time_of rs n) ≡ some t → (time_of rs n ≡ some t → time_of (rs ++ ss) n ≡ some t) → cond b (some u) (time_of (rs ++ ss) n) ≡ some t
+    go : (b : Bool) → cond b (some u) (time_of rs n) ≡ some t → (time_of rs n ≡ some t → time_of (rs ++ ss) n ≡ some t)
+        → cond b (some u) (time_of (rs ++ ss) n) ≡ some t
     go true e ih = e
     go false e ih = ih e
 
@@ -140,7 +146,9 @@ time_none [] ss n e = refl
 time_none (version v ∷ rs) ss n e = time_none rs ss n e
 time_none (committed k u ∷ rs) ss n e = go (eqb k n) e (time_none rs ss n)
   where
-    go : (b : Bool) → cond b (some u) (time_of rs n) ≡ none → (time_of rs n ≡ none → time_of (rs ++ ss) n ≡ time_of ss n) → cond b (some u) (time_of (rs ++ ss) n) ≡ time_of ss n
+    go : (b : Bool) → cond b (some u) (time_of rs n) ≡ none
+        → (time_of rs n ≡ none → time_of (rs ++ ss) n ≡ time_of ss n)
+        → cond b (some u) (time_of (rs ++ ss) n) ≡ time_of ss n
     go true e ih = absurd (none_some (sym e))
     go false e ih = ih e
 
@@ -159,7 +167,8 @@ none_take (suc i) [] n e = refl
 none_take (suc i) (version v ∷ rs) n e = none_take i rs n e
 none_take (suc i) (committed k u ∷ rs) n e = go (eqb k n) e (none_take i rs n)
   where
-    go : (b : Bool) → cond b (some u) (time_of rs n) ≡ none → (time_of rs n ≡ none → time_of (take i rs) n ≡ none) → cond b (some u) (time_of (take i rs) n) ≡ none
+    go : (b : Bool) → cond b (some u) (time_of rs n) ≡ none → (time_of rs n ≡ none → time_of (take i rs) n ≡ none)
+        → cond b (some u) (time_of (take i rs) n) ≡ none
     go true e ih = absurd (none_some (sym e))
     go false e ih = ih e
 
@@ -220,7 +229,8 @@ unfolding is_open close
 close_shuts [] n = refl
 close_shuts (o ∷ os) n = go (eqb o.number n) refl (close_shuts os n)
   where
-    go : (t : Bool) → eqb o.number n ≡ t → is_open (close os n) n ≡ false → is_open (cond t (close os n) (o ∷ close os n)) n ≡ false
+    go : (t : Bool) → eqb o.number n ≡ t → is_open (close os n) n ≡ false
+        → is_open (cond t (close os n) (o ∷ close os n)) n ≡ false
     go true e ih = ih
     go false e ih = rw e ih
 
@@ -229,7 +239,8 @@ unfolding is_open close
 close_less [] n k e = e
 close_less (o ∷ os) n k e = go (eqb o.number n) e (close_less os n k)
   where
-    go : (t : Bool) → is_open (cond t (close os n) (o ∷ close os n)) k ≡ true → (is_open (close os n) k ≡ true → is_open os k ≡ true) → (eqb o.number k || is_open os k) ≡ true
+    go : (t : Bool) → is_open (cond t (close os n) (o ∷ close os n)) k ≡ true
+        → (is_open (close os n) k ≡ true → is_open os k ≡ true) → (eqb o.number k || is_open os k) ≡ true
     go true e ih = rw (ih e) (or-true (eqb o.number k))
     go false e ih = by (either_true (eqb o.number k) (is_open (close os n) k) e)
       where

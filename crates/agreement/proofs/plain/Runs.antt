@@ -1,5 +1,5 @@
--- A run event by event: what each event does to the book (`Turn`), by `keeps`, and what holds at every moment if each turn
--- keeps it (`along`). An accepted call names an open number because an active place's number is open in the book.
+-- A run event by event: what each event does to the book (`Turn`), by `keeps`, and what holds at every moment if each
+-- turn keeps it (`along`). An accepted call names an open number because an active place's number is open in the book.
 use Prim.Native.Nat.{ℕ, zero, suc, ◌<◌}
 use native.Mathlib.Omega.{arith}
 use mathlib.Core.Bool.{Bool, true, false, cond, false≢true}
@@ -16,11 +16,15 @@ use Rattle.store.specs.declared.State.{State}
 use Rattle.store.specs.Answer.{Outcome, answer_number}
 use Rattle.store.specs.Places.{find_active}
 use Rattle.store.proofs.AskLaws.{Passed}
-use Rattle.runs.specs.Moments.{begins, Run, world_after, book_after, book_at, if_accepted, commit_seen, row_seen, event_row, rows_seen, any_seen, is_break, named}
-use Rattle.runs.specs.Event.{Call, Event, opening, cut, call, begin, write, erase, current_read, commit, abort, as_of, changes, store_log, store_page, checkpoint, Observation, typed}
-use Rattle.runs.specs.Book.{Version, Row, version, committed, Book, blank, last_time, has_row, is_open, close, add, commit_time, commits, zeros, fall, entered, unless_refused, feed, Answers, Fits}
+use Rattle.runs.specs.Moments.{begins, Run, world_after, book_after, book_at, if_accepted, commit_seen, row_seen}
+use Rattle.runs.specs.Moments.{event_row, rows_seen, any_seen, is_break, named}
+use Rattle.runs.specs.Event.{Call, Event, opening, cut, call, begin, write, erase, current_read, commit, abort, as_of}
+use Rattle.runs.specs.Event.{changes, store_log, store_page, checkpoint, Observation, typed}
+use Rattle.runs.specs.Book.{Version, Row, version, committed, Book, blank, last_time, has_row, is_open, close, add}
+use Rattle.runs.specs.Book.{commit_time, commits, zeros, fall, entered, unless_refused, feed, Answers, Fits}
 use Rattle.runs.specs.Machine.{World, up, down, seen_of, step, allowed, is_run, trace, formatted}
-use Rattle.runs.proofs.Asks.{is_reading, asks, Way, refused, begins as begins_way, writes, erases, looks, commits as commits_way, ends as ends_way, aborts, logs, pages, checks, way, found}
+use Rattle.runs.proofs.Asks.{is_reading, asks, Way, refused, begins as begins_way, writes, erases, looks}
+use Rattle.runs.proofs.Asks.{commits as commits_way, ends as ends_way, aborts, logs, pages, checks, way, found}
 use Rattle.agreement.proofs.history.Ghost.{Disk}
 use Rattle.agreement.proofs.invariant.Invariant.{Up, Inv, running, fallen}
 use Rattle.agreement.proofs.invariant.PlaceFacts.{active_found}
@@ -31,13 +35,15 @@ use Rattle.agreement.proofs.plain.Laws.{none_some, neither_true}
 
 -- ---- an accepted call names an open number
 
-module _ {l d : ℕ} {m c : List ℕ} {s : State} {b : Book} {disk : Disk} {closed : List (List Record)} {tail : List Record} (u : Up l d m c s b disk closed tail) where
+module _ {l d : ℕ} {m c : List ℕ} {s : State} {b : Book} {disk : Disk} {closed : List (List Record)}
+    {tail : List Record} (u : Up l d m c s b disk closed tail) where
   active_open : (n i : ℕ) → find_active s.places n ≡ At i → is_open b.opened n ≡ true
   active_open n i f =
       let a = active_found u.living n i f in
       rw a.2 at (u.opens.known i a.0 (omega (arith, a.1, a.2)) a.3)
 
-  named_open : (x : Call) {o : Outcome} → Way m c s x o → (n : ℕ) → named x ≡ some n → answer_number o.answer ≡ 0 → is_open b.opened n ≡ true
+  named_open : (x : Call) {o : Outcome} → Way m c s x o → (n : ℕ) → named x ≡ some n → answer_number o.answer ≡ 0
+      → is_open b.opened n ≡ true
   unfolding answer_number
   named_open x (refused y r w) n e z = absurd (omega (arith, positive r))
   named_open x (begins_way clock i p w) n e z = absurd (none_some e)
@@ -51,7 +57,8 @@ module _ {l d : ℕ} {m c : List ℕ} {s : State} {b : Book} {disk : Disk} {clos
       looked (erase a key) r p e = absurd (false≢true r)
       looked (current_read a key) r p e =
           let q : a ≡ n = cc in
-          found (λ (f : Found). find_active s.places a ≡ f → is_open b.opened n ≡ true) (find_active s.places a) p.1.1.0 (λ i g h. rw q at (active_open a i h)) refl
+          found (λ (f : Found). find_active s.places a ≡ f → is_open b.opened n ≡ true) (find_active s.places a) p.1.1.0
+          (λ i g h. rw q at (active_open a i h)) refl
       looked (commit a k) r p e = absurd (false≢true r)
       looked (abort a) r p e = absurd (false≢true r)
       looked (as_of key t) r p e = absurd (none_some e)
@@ -71,7 +78,8 @@ Knows b (opening c) o = Unit {0}
 Knows b cut o = Unit {0}
 Knows b (call k) o = (n : ℕ) → named k ≡ some n → o.refusal ≡ 0 → is_open b.opened n ≡ true
 
-pub knows : (l d : ℕ) (w : World) (b : Book) (e : Event) → Inv l d w b → allowed l d w e ≡ true → Knows b e (step l d w e).seen
+pub knows : (l d : ℕ) (w : World) (b : Book) (e : Event) → Inv l d w b → allowed l d w e ≡ true
+    → Knows b e (step l d w e).seen
 unfolding step seen_of
 knows l d w b (opening y) i a = tt
 knows l d w b cut i a = tt
@@ -84,7 +92,8 @@ pub data Turn (b : Book) (e : Event) (o : Observation) : Book → List Row → T
   stays : Turn b e o b []
   falls : is_break e o ≡ true → Turn b e o (fall b) []
   opens : (n k : ℕ) → begins n e o ≡ true → has_row b.rows n ≡ false
-      → Turn b e o (record { opened = record { number = n; clock = k } ∷ b.opened; rows = b.rows; stored = b.stored }) []
+      → Turn b e o (record { opened = record { number = n; clock = k } ∷ b.opened; rows = b.rows; stored = b.stored })
+      []
   adds : (v : Version) (changed : Bool) → is_open b.opened v.number ≡ true
       → Turn b e o (add b (version v) changed b.opened) (version v ∷ [])
   ends : (n t : ℕ) (changed : Bool) → is_open b.opened n ≡ true → has_row b.rows n ≡ true → last_time b.rows < t
@@ -96,12 +105,14 @@ seen_time : (n t : ℕ) → 0 < t → commit_seen n t ≡ committed n t ∷ []
 seen_time n zero h = absurd (omega arith)
 seen_time n (suc t) h = refl
 
-call_turn : (b : Book) (x : Call) (o : Observation) → o.refusal ≡ 0 → Answers b x o → ((n : ℕ) → named x ≡ some n → is_open b.opened n ≡ true)
+call_turn : (b : Book) (x : Call) (o : Observation) → o.refusal ≡ 0 → Answers b x o
+    → ((n : ℕ) → named x ≡ some n → is_open b.opened n ≡ true)
     → Turn b (call x) o (entered b x o.result o.changed) (row_seen x o.result)
 unfolding entered
 call_turn b (begin k) o z a n = opens o.result k (rw (z, eq-eqb o.result o.result refl)) a.1
 call_turn b (write n key v) o z a k = adds (record { number = n; key = key; kind = 0; value = v }) o.changed (k n refl)
-call_turn b (erase n key) o z a k = adds (record { number = n; key = key; kind = 1; value = zeros 16 }) o.changed (k n refl)
+call_turn b (erase n key) o z a k =
+    adds (record { number = n; key = key; kind = 1; value = zeros 16 }) o.changed (k n refl)
 call_turn b (current_read n key) o z a k = stays
 call_turn b (commit n k) o z a f = go (has_row b.rows n) refl a
   where
@@ -118,7 +129,8 @@ call_turn b store_log o z a k = stores
 call_turn b (store_page p) o z a k = stays
 call_turn b checkpoint o z a k = stays
 
-pub turn : (d : ℕ) (b : Book) (e : Event) (o : Observation) → Fits d b e o → Knows b e o → Turn b e o (feed b e o) (event_row e o)
+pub turn : (d : ℕ) (b : Book) (e : Event) (o : Observation) → Fits d b e o → Knows b e o
+    → Turn b e o (feed b e o) (event_row e o)
 unfolding feed
 turn d b (opening c) o f k = go o.refusal refl
   where
@@ -128,24 +140,28 @@ turn d b (opening c) o f k = go o.refusal refl
 turn d b cut o f k = falls refl
 turn d b (call x) o f k = go o.refusal refl
   where
-    go : (r : ℕ) → o.refusal ≡ r → Turn b (call x) o (unless_refused r b (entered b x o.result o.changed)) (if_accepted r (row_seen x o.result))
+    go : (r : ℕ) → o.refusal ≡ r → Turn b (call x) o (unless_refused r b (entered b x o.result o.changed))
+        (if_accepted r (row_seen x o.result))
     go zero e = call_turn b x o e (f e) (λ n q. k n q e)
     go (suc r) e = stays
 
 -- ---- moments of a run
 
 module _ (l d : ℕ) where
-  pub world_append : (es fs : List Event) (w : World) → world_after l d w (es ++ fs) ≡ world_after l d (world_after l d w es) fs
+  pub world_append : (es fs : List Event) (w : World) → world_after l d w (es ++ fs)
+      ≡ world_after l d (world_after l d w es) fs
   unfolding world_after
   world_append [] fs w = refl
   world_append (e ∷ es) fs w = world_append es fs (step l d w e).world
 
-  pub book_append : (es fs : List Event) (w : World) (b : Book) → book_after l d w b (es ++ fs) ≡ book_after l d (world_after l d w es) (book_after l d w b es) fs
+  pub book_append : (es fs : List Event) (w : World) (b : Book)
+      → book_after l d w b (es ++ fs) ≡ book_after l d (world_after l d w es) (book_after l d w b es) fs
   unfolding world_after book_after
   book_append [] fs w b = refl
   book_append (e ∷ es) fs w b = book_append es fs (step l d w e).world (feed b e (step l d w e).seen)
 
-  pub run_append : (es fs : List Event) (w : World) → is_run l d w (es ++ fs) ≡ true → (is_run l d w es ≡ true) × (is_run l d (world_after l d w es) fs ≡ true)
+  pub run_append : (es fs : List Event) (w : World) → is_run l d w (es ++ fs) ≡ true
+      → (is_run l d w es ≡ true) × (is_run l d (world_after l d w es) fs ≡ true)
   unfolding is_run world_after
   run_append [] fs w r = (refl, r)
   run_append (e ∷ es) fs w r =
@@ -153,28 +169,33 @@ module _ (l d : ℕ) where
       let q = run_append es fs (step l d w e).world (and_1 (allowed l d w e) _ r1) in
       (rw (and_0 (typed e) _ r, and_0 (allowed l d w e) _ r1) q.0, q.1)
 
-  pub run_join : (es fs : List Event) (w : World) → is_run l d w es ≡ true → is_run l d (world_after l d w es) fs ≡ true → is_run l d w (es ++ fs) ≡ true
+  pub run_join : (es fs : List Event) (w : World) → is_run l d w es ≡ true → is_run l d (world_after l d w es) fs ≡ true
+      → is_run l d w (es ++ fs) ≡ true
   unfolding is_run world_after
   run_join [] fs w r q = q
   run_join (e ∷ es) fs w r q =
       let r1 = and_1 (typed e) _ r in
-      rw (and_0 (typed e) _ r, and_0 (allowed l d w e) _ r1) (run_join es fs (step l d w e).world (and_1 (allowed l d w e) _ r1) q)
+      rw (and_0 (typed e) _ r, and_0 (allowed l d w e) _ r1)
+      (run_join es fs (step l d w e).world (and_1 (allowed l d w e) _ r1) q)
 
   -- the first event of a run
-  pub first_typed : (e : Event) (es : List Event) (w : World) → is_run l d w (e ∷ es) ≡ true → (allowed l d w e ≡ true) × (typed e ≡ true) × (is_run l d (step l d w e).world es ≡ true)
+  pub first_typed : (e : Event) (es : List Event) (w : World) → is_run l d w (e ∷ es) ≡ true
+      → (allowed l d w e ≡ true) × (typed e ≡ true) × (is_run l d (step l d w e).world es ≡ true)
   unfolding is_run
   first_typed e es w r =
       let r1 = and_1 (typed e) _ r in
       (and_0 (allowed l d w e) _ r1, and_0 (typed e) _ r, and_1 (allowed l d w e) _ r1)
 
   pub after_one : (e : Event) (es : List Event) (w : World) (b : Book) → Inv l d w b → is_run l d w (e ∷ es) ≡ true
-      → Fits d b e (step l d w e).seen × Knows b e (step l d w e).seen × Inv l d (step l d w e).world (feed b e (step l d w e).seen) × (is_run l d (step l d w e).world es ≡ true)
+      → Fits d b e (step l d w e).seen × Knows b e (step l d w e).seen
+      × Inv l d (step l d w e).world (feed b e (step l d w e).seen) × (is_run l d (step l d w e).world es ≡ true)
   after_one e es w b i r =
       let t = first_typed e es w r in
       let k = keeps l d w b e i t.0 t.1 in
       (k.0, knows l d w b e i t.0, k.1, t.2)
 
-  pub inv_after : (es : List Event) (w : World) (b : Book) → Inv l d w b → is_run l d w es ≡ true → Inv l d (world_after l d w es) (book_after l d w b es)
+  pub inv_after : (es : List Event) (w : World) (b : Book) → Inv l d w b → is_run l d w es ≡ true
+      → Inv l d (world_after l d w es) (book_after l d w b es)
   unfolding world_after book_after
   inv_after [] w b i r = i
   inv_after (e ∷ es) w b i r =
@@ -183,8 +204,10 @@ module _ (l d : ℕ) where
 
   -- what every turn keeps of the book and the rows seen, where no event passes the test q
   module _ (q : Event → Observation → Bool) (P : Book → List Row → Type 0)
-      (one : (b b' : Book) (hs rs : List Row) (e : Event) (o : Observation) → q e o ≡ false → Turn b e o b' rs → P b hs → P b' (hs ++ rs)) where
-    pub along : (es : List Event) (w : World) (b : Book) (hs : List Row) → Inv l d w b → is_run l d w es ≡ true → any_seen q es (trace l d w es) ≡ false → P b hs
+      (one : (b b' : Book) (hs rs : List Row) (e : Event) (o : Observation) → q e o ≡ false → Turn b e o b' rs → P b hs
+      → P b' (hs ++ rs)) where
+    pub along : (es : List Event) (w : World) (b : Book) (hs : List Row) → Inv l d w b → is_run l d w es ≡ true
+        → any_seen q es (trace l d w es) ≡ false → P b hs
         → P (book_after l d w b es) (hs ++ rows_seen es (trace l d w es))
     unfolding book_after rows_seen trace any_seen
     along [] w b hs i r n p = subst (P b) (sym (append-nil hs)) p
@@ -192,7 +215,8 @@ module _ (l d : ℕ) where
         let o : Observation = (step l d w e).seen in
         let z = neither_true (q e o) (any_seen q es (trace l d (step l d w e).world es)) n in
         let k = after_one e es w b i r in
-        subst (P (book_after l d (step l d w e).world (feed b e o) es)) (append_assoc hs (event_row e o) (rows_seen es (trace l d (step l d w e).world es)))
+        subst (P (book_after l d (step l d w e).world (feed b e o) es))
+        (append_assoc hs (event_row e o) (rows_seen es (trace l d (step l d w e).world es)))
         (along es (step l d w e).world (feed b e o) (hs ++ event_row e o) k.2 k.3 z.1
         (one b (feed b e o) hs (event_row e o) e o z.0 (turn d b e o k.0 k.1) p))
 

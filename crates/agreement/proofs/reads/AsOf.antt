@@ -1,5 +1,5 @@
--- A read as of a time finds, along earlier slots, the version that the book's fold over all version rows gives: both are a
--- fold over the record's versions by rising slot (WalkLaws), and they agree at each slot.
+-- A read as of a time finds, along earlier slots, the version that the book's fold over all version rows gives: both
+-- are a fold over the record's versions by rising slot (WalkLaws), and they agree at each slot.
 use Prim.Native.Nat.{ℕ, zero, suc, ◌≤◌, ◌<◌}
 use native.Mathlib.Omega.{arith}
 use mathlib.Core.Bool.{Bool, true, false, cond, ◌&&◌}
@@ -23,7 +23,8 @@ use Rattle.store.specs.Places.{time_under}
 use Rattle.store.specs.Chain.{newest, cell_at, is_version, version_time, unless_empty, better_of, best_from, best_of}
 use Rattle.store.specs.AsOf.{as_of_at}
 use Rattle.store.specs.Changes.{before}
-use Rattle.runs.specs.Book.{Book, Row, Dated, time_of, dated_of, best_below, last_below, strip_at, versions, Version as RowVersion, later_of as later_row}
+use Rattle.runs.specs.Book.{Book, Row, Dated, time_of, dated_of, best_below, last_below, strip_at, versions}
+use Rattle.runs.specs.Book.{Version as RowVersion, later_of as later_row}
 use Rattle.runs.specs.Machine.{strip_of, time_in}
 use Rattle.agreement.proofs.transactions.WriteLaws.{newest_is}
 use Rattle.agreement.proofs.history.Ghost.{versions_of, commits_of, LoggedVersion, at, find, timing, Disk}
@@ -32,7 +33,8 @@ use Rattle.agreement.proofs.invariant.MediumFacts.{cell_fields, cell_cached}
 use Rattle.agreement.proofs.history.RowLaws.{row_for, rows_for}
 use Rattle.agreement.proofs.reads.Sights.{version_time_law}
 use Rattle.agreement.proofs.reads.WalkLaws.{over_all, Reaches, walked}
-use Rattle.agreement.proofs.reads.ReadFacts.{rows_for_step, all_rows, row_time_law, chain_cached, kind_cached, value_cached, few_slots}
+use Rattle.agreement.proofs.reads.ReadFacts.{rows_for_step, all_rows, row_time_law, chain_cached, kind_cached}
+use Rattle.agreement.proofs.reads.ReadFacts.{value_cached, few_slots}
 use Rattle.agreement.proofs.reads.CurrentRead.{cell_strip}
 
 -- ---- the book's fold
@@ -46,7 +48,8 @@ best_append rs key limit best (x ∷ vs) ws =
 
 pub best_snoc : (rs : List Row) (key limit : ℕ) (best : Option Dated) (vs : List RowVersion) (v : RowVersion)
     → best_below rs key limit best (vs ++ (v ∷ []))
-    ≡ cond (eqb v.key key) (dated_of (time_of rs v.number) (best_below rs key limit best vs) limit v) (best_below rs key limit best vs)
+    ≡ cond (eqb v.key key) (dated_of (time_of rs v.number) (best_below rs key limit best vs) limit v)
+    (best_below rs key limit best vs)
 unfolding best_below
 best_snoc rs key limit best vs v = best_append rs key limit best vs (v ∷ [])
 
@@ -66,14 +69,16 @@ none_below rs key = go (versions rs)
     go : (vs : List RowVersion) → best_below rs key 0 none vs ≡ none
     go [] = refl
     go (v ∷ vs) =
-        ap (λ (x : Option Dated). best_below rs key 0 x vs) (same (eqb v.key key) (dated_of (time_of rs v.number) none 0 v) (dated (time_of rs v.number) v))
+        ap (λ (x : Option Dated). best_below rs key 0 x vs)
+        (same (eqb v.key key) (dated_of (time_of rs v.number) none 0 v) (dated (time_of rs v.number) v))
         ∙ go vs
 
 -- ---- a slot found and the book's dated version are the same
 
 pub data Agree (vs : List LoggedVersion) : Best → Option Dated → Type 0 where
   neither : Agree vs Neither none
-  either : (n : ℕ) (t : CommitTime) → n < length vs → Agree vs (Version n t) (some (record { time = t.0; kind = (at vs n).kind; value = (at vs n).value }))
+  either : (n : ℕ) (t : CommitTime) → n < length vs
+      → Agree vs (Version n t) (some (record { time = t.0; kind = (at vs n).kind; value = (at vs n).value }))
 
 below_next : (a t : ℕ) → ltb a (suc t) ≡ leb a t
 below_next a t = go (leb a t) refl
@@ -82,7 +87,8 @@ below_next a t = go (leb a t) refl
     go true e = lt-ltb a (suc t) (omega (arith, leb-true a t e))
     go false e = le-ltb a (suc t) (omega (arith, leb-false a t e))
 
-better_is : (vs : List LoggedVersion) (x n t : ℕ) (rest : Best) (best : Option Dated) → n < length vs → Agree vs rest best
+better_is : (vs : List LoggedVersion) (x n t : ℕ) (rest : Best) (best : Option Dated) → n < length vs
+    → Agree vs rest best
     → Agree vs (better_of (timing x) n t rest) (dated_of (time_in (timing x)) best (suc t) (row_for (at vs n)))
 better_is vs zero n t rest best h a = a
 better_is vs (suc x) n t rest best h a = go rest best a
@@ -94,7 +100,8 @@ better_is vs (suc x) n t rest best h a = go rest best a
     row = record { time = suc x; kind = (at vs n).kind; value = (at vs n).value }
 
     go : (rest : Best) (best : Option Dated) → Agree vs rest best
-        → Agree vs (better_of (timing (suc x)) n t rest) (later_row best (suc t) (record { time = suc x; kind = (at vs n).kind; value = (at vs n).value }))
+        → Agree vs (better_of (timing (suc x)) n t rest)
+        (later_row best (suc t) (record { time = suc x; kind = (at vs n).kind; value = (at vs n).value }))
     go rest best neither = rw (below_next (suc x) t) (by (leb (suc x) t))
       where
         by : (y : Bool) → Agree vs (cond y (Version n me) Neither) (cond y (some row) none)
@@ -105,7 +112,8 @@ better_is vs (suc x) n t rest best h a = go rest best a
         old : Dated
         old = record { time = w.0; kind = (at vs r).kind; value = (at vs r).value }
 
-        by : (y z : Bool) → Agree vs (cond y (cond z (Version n me) (Version r w)) (Version r w)) (cond (y && z) (some row) (some old))
+        by : (y z : Bool) → Agree vs (cond y (cond z (Version n me) (Version r w)) (Version r w))
+            (cond (y && z) (some row) (some old))
         by true true = either n me h
         by true false = either r w g
         by false z = either r w g
@@ -114,62 +122,86 @@ better_is vs (suc x) n t rest best h a = go rest best a
 
 -- a slot of the walk: it counts if it has a time not above t
 abbrev counting : List ℕ → (ℕ → Timing) → ℕ → ℕ → Best → Best
-counting c pair t j rest = unless_empty (cell_at c j).state Neither (better_of (version_time pair (cell_at c j).state) j t rest)
+counting c pair t j rest =
+    unless_empty (cell_at c j).state Neither (better_of (version_time pair (cell_at c j).state) j t rest)
 
-best_reached : (c : List ℕ) (pair : ℕ → Timing) (t : ℕ) (f : Found) (a : Best) → Reaches (best_from c pair t) Neither f a → best_of f c pair t ≡ a
+best_reached : (c : List ℕ) (pair : ℕ → Timing) (t : ℕ) (f : Found) (a : Best)
+    → Reaches (best_from c pair t) Neither f a → best_of f c pair t ≡ a
 unfolding best_of
 best_reached c pair t (At j) a r = r (suc j) (omega arith)
 best_reached c pair t Nothing a r = r
 
-module _ {l d : ℕ} {m c : List ℕ} {s : State} {b : Book} {disk : Disk} {closed : List (List Record)} {tail : List Record} (u : Up l d m c s b disk closed tail) where
+module _ {l d : ℕ} {m c : List ℕ} {s : State} {b : Book} {disk : Disk} {closed : List (List Record)}
+    {tail : List Record} (u : Up l d m c s b disk closed tail) where
   counting_is : (t j : ℕ) (rest : Best) → j < length (versions_of (closed ++ (tail ∷ [])))
       → counting c (time_under s.places) t j rest
-      ≡ better_of (timing (find (commits_of (closed ++ (tail ∷ []))) (at (versions_of (closed ++ (tail ∷ []))) j).num).time) j t rest
+      ≡ better_of
+      (timing (find (commits_of (closed ++ (tail ∷ []))) (at (versions_of (closed ++ (tail ∷ []))) j).num).time) j t
+      rest
   counting_is t j rest h =
-      unless_some (cell_at c j).state Neither _ (ap (λ (x : Cell). is_version x.state) (cell_cached u.medium u.cache j h) ∙ (cell_fields u.medium j h).0)
+      unless_some (cell_at c j).state Neither _
+      (ap (λ (x : Cell). is_version x.state) (cell_cached u.medium u.cache j h) ∙ (cell_fields u.medium j h).0)
       ∙ ap (λ (x : Timing). better_of x j t rest) (version_time_law u j h)
 
   folds : (key t j : ℕ) → j ≤ length (versions_of (closed ++ (tail ∷ [])))
-      → Agree (versions_of (closed ++ (tail ∷ []))) (over_all Neither (counting c (time_under s.places) t) (versions_of (closed ++ (tail ∷ []))) key j)
+      → Agree (versions_of (closed ++ (tail ∷ [])))
+      (over_all Neither (counting c (time_under s.places) t) (versions_of (closed ++ (tail ∷ []))) key j)
       (best_below b.rows key (suc t) none (rows_for (take j (versions_of (closed ++ (tail ∷ []))))))
   unfolding over_all rows_for best_below
   folds key t zero h = neither
   folds key t (suc j) h =
       rw (
-        counting_is t j (over_all Neither (counting c (time_under s.places) t) (versions_of (closed ++ (tail ∷ []))) key j) h,
+        counting_is t j (over_all Neither (counting c (time_under s.places) t)
+            (versions_of (closed ++ (tail ∷ []))) key j) h,
         rows_for_step (versions_of (closed ++ (tail ∷ []))) j h,
-        best_snoc b.rows key (suc t) none (rows_for (take j (versions_of (closed ++ (tail ∷ []))))) (row_for (at (versions_of (closed ++ (tail ∷ []))) j)),
+        best_snoc b.rows key (suc t) none (rows_for (take j (versions_of (closed ++ (tail ∷ [])))))
+            (row_for (at (versions_of (closed ++ (tail ∷ []))) j)),
         row_time_law u (at (versions_of (closed ++ (tail ∷ []))) j).num,
       )
       (go (eqb (at (versions_of (closed ++ (tail ∷ []))) j).key key) _ _ (folds key t j (omega arith)))
     where
       go : (y : Bool) (rest : Best) (best : Option Dated) → Agree (versions_of (closed ++ (tail ∷ []))) rest best
           → Agree (versions_of (closed ++ (tail ∷ [])))
-          (cond y (better_of (timing (find (commits_of (closed ++ (tail ∷ []))) (at (versions_of (closed ++ (tail ∷ []))) j).num).time) j t rest) rest)
-          (cond y (dated_of (time_in (timing (find (commits_of (closed ++ (tail ∷ []))) (at (versions_of (closed ++ (tail ∷ []))) j).num).time)) best (suc t) (row_for (at (versions_of (closed ++ (tail ∷ []))) j))) best)
-      go true rest best a = better_is (versions_of (closed ++ (tail ∷ []))) (find (commits_of (closed ++ (tail ∷ []))) (at (versions_of (closed ++ (tail ∷ []))) j).num).time j t rest best h a
+          (cond y (better_of
+          (timing (find (commits_of (closed ++ (tail ∷ [])))
+          (at (versions_of (closed ++ (tail ∷ []))) j).num).time) j t rest) rest)
+          (cond y (dated_of
+          (time_in
+          (timing (find (commits_of (closed ++ (tail ∷ [])))
+          (at (versions_of (closed ++ (tail ∷ []))) j).num).time)) best (suc t)
+          (row_for (at (versions_of (closed ++ (tail ∷ []))) j))) best)
+      go true rest best a =
+          better_is (versions_of (closed ++ (tail ∷ [])))
+          (find (commits_of (closed ++ (tail ∷ []))) (at (versions_of (closed ++ (tail ∷ []))) j).num).time j t
+          rest best h a
       go false rest best a = a
 
   pub best_found : (key t : ℕ)
-      → Agree (versions_of (closed ++ (tail ∷ []))) (best_of (newest c key s.slots) c (time_under s.places) t) (last_below b.rows key (suc t))
+      → Agree (versions_of (closed ++ (tail ∷ []))) (best_of (newest c key s.slots) c (time_under s.places) t)
+      (last_below b.rows key (suc t))
   unfolding best_from last_below
   best_found key t =
       let e : best_of (newest c key s.slots) c (time_under s.places) t
-      ≡ over_all Neither (counting c (time_under s.places) t) (versions_of (closed ++ (tail ∷ []))) key (length (versions_of (closed ++ (tail ∷ [])))) =
+      ≡ over_all Neither (counting c (time_under s.places) t) (versions_of (closed ++ (tail ∷ []))) key
+      (length (versions_of (closed ++ (tail ∷ [])))) =
       ap (λ (f : Found). best_of f c (time_under s.places) t) (newest_is u key)
       ∙ best_reached c (time_under s.places) t _ _
-      (walked Neither (counting c (time_under s.places) t) (λ j. (cell_at c j).earlier) (best_from c (time_under s.places) t) (λ i j. refl)
-      (versions_of (closed ++ (tail ∷ []))) key (few_slots u) (chain_cached u) (length (versions_of (closed ++ (tail ∷ [])))) (omega arith)) in
+      (walked Neither (counting c (time_under s.places) t) (λ j. (cell_at c j).earlier)
+      (best_from c (time_under s.places) t) (λ i j. refl)
+      (versions_of (closed ++ (tail ∷ []))) key (few_slots u) (chain_cached u)
+      (length (versions_of (closed ++ (tail ∷ [])))) (omega arith)) in
       rw (e, all_rows u) (folds key t (length (versions_of (closed ++ (tail ∷ [])))) (omega arith))
 
   -- the last version below a time
   pub before_is : (key t : ℕ)
-      → Agree (versions_of (closed ++ (tail ∷ []))) (before c (time_under s.places) (newest c key s.slots) t) (last_below b.rows key t)
+      → Agree (versions_of (closed ++ (tail ∷ []))) (before c (time_under s.places) (newest c key s.slots) t)
+      (last_below b.rows key t)
   unfolding before
   before_is key zero = rw (none_below b.rows key) neither
   before_is key (suc t) = best_found key t
 
   -- what is read
-  pub best_strip : (x : Best) (y : Option Dated) → Agree (versions_of (closed ++ (tail ∷ []))) x y → strip_of (as_of_at x s m c).answer (as_of_at x s m c).value ≡ strip_at y
+  pub best_strip : (x : Best) (y : Option Dated) → Agree (versions_of (closed ++ (tail ∷ []))) x y
+      → strip_of (as_of_at x s m c).answer (as_of_at x s m c).value ≡ strip_at y
   best_strip x y neither = refl
   best_strip x y (either n t h) = cell_strip (cell_at c n) s m c ∙ rw (kind_cached u n h, value_cached u n h)

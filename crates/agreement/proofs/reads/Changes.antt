@@ -21,7 +21,8 @@ use Rattle.store.specs.declared.State.{State}
 use Rattle.store.specs.Places.{time_under}
 use Rattle.store.specs.Chain.{newest}
 use Rattle.store.specs.Changes.{Line, line_bytes, differs, differs_from, lines_at, lines_below, change_lines}
-use Rattle.runs.specs.Book.{Book, Dated, last_below, same, lines_of, number, listing, laid, differs as row_differs, lines_at as row_lines_at, lines_below as row_lines_below}
+use Rattle.runs.specs.Book.{Book, Dated, last_below, same, lines_of, number, listing, laid, differs as row_differs}
+use Rattle.runs.specs.Book.{lines_at as row_lines_at, lines_below as row_lines_below}
 use Rattle.agreement.proofs.history.Ghost.{versions_of, at, Disk}
 use Rattle.agreement.proofs.invariant.Invariant.{Up}
 use Rattle.agreement.proofs.invariant.MediumFacts.{sound_at}
@@ -55,10 +56,12 @@ unfolding flat line_bytes listing
 alike_bytes ended = refl
 alike_bytes (more t kind v h a) = rw (number_is 8 t, alike_bytes a)
 
-line_size : (t kind : ℕ) (v : List ℕ) → length v ≡ 16 → length (line_bytes (record { time = t; kind = kind; value = v })) ≡ 32
+line_size : (t kind : ℕ) (v : List ℕ) → length v ≡ 16
+    → length (line_bytes (record { time = t; kind = kind; value = v })) ≡ 32
 unfolding line_bytes
 line_size t kind v h =
-    length-append (enc 8 t) (kind ∷ (zeros 7 ++ v)) ∙ omega (arith, length_enc 8 t, length-append (zeros 7) v, length-replicate {A = ℕ} 7 0)
+    length-append (enc 8 t) (kind ∷ (zeros 7 ++ v))
+    ∙ omega (arith, length_enc 8 t, length-append (zeros 7) v, length-replicate {A = ℕ} 7 0)
 
 pub alike_size : {ls : List Line} {xs : List Dated} → Alike ls xs → length (flat line_bytes ls) ≡ 32 * length ls
 unfolding flat
@@ -83,9 +86,17 @@ same_is [] (y ∷ ys) = refl
 same_is (x ∷ xs) [] = refl
 same_is (x ∷ xs) (y ∷ ys) = ap (λ (t : Bool). eqb x y && t) (same_is xs ys)
 
-module _ {l d : ℕ} {m c : List ℕ} {s : State} {b : Book} {disk : Disk} {closed : List (List Record)} {tail : List Record} (u : Up l d m c s b disk closed tail) where
-  differs_is : (n t : ℕ) → n < length (versions_of (closed ++ (tail ∷ []))) → (x : Best) (y : Option Dated) → Agree (versions_of (closed ++ (tail ∷ []))) x y
-      → differs_from c n x ≡ row_differs (record { time = t; kind = (at (versions_of (closed ++ (tail ∷ []))) n).kind; value = (at (versions_of (closed ++ (tail ∷ []))) n).value }) y
+module _ {l d : ℕ} {m c : List ℕ} {s : State} {b : Book} {disk : Disk} {closed : List (List Record)}
+    {tail : List Record} (u : Up l d m c s b disk closed tail) where
+  differs_is : (n t : ℕ) → n < length (versions_of (closed ++ (tail ∷ []))) → (x : Best) (y : Option Dated)
+      → Agree (versions_of (closed ++ (tail ∷ []))) x y
+      → differs_from c n x
+      ≡ row_differs (record {
+        time = t;
+        kind = (at (versions_of (closed ++ (tail ∷ []))) n).kind;
+        value =
+            (at (versions_of (closed ++ (tail ∷ []))) n).value;
+      }) y
   unfolding differs
   differs_is n t h x y neither = refl
   differs_is n t h x y (either r w g) =
@@ -104,21 +115,41 @@ module _ {l d : ℕ} {m c : List ℕ} {s : State} {b : Book} {disk : Disk} {clos
   lines_below_law key t1 (suc i) t = go _ _ (before_is u key t) (lines_below_law key t1 i)
     where
       go : (x : Best) (y : Option Dated) → Agree (versions_of (closed ++ (tail ∷ []))) x y
-          → ((a : ℕ) → Alike (lines_below c (time_under s.places) (newest c key s.slots) t1 i a) (row_lines_below b.rows key t1 i a))
-          → Alike (lines_at c (time_under s.places) (newest c key s.slots) (lines_below c (time_under s.places) (newest c key s.slots) t1 i) t1 x)
+          → ((a : ℕ) → Alike (lines_below c (time_under s.places) (newest c key s.slots) t1 i a)
+          (row_lines_below b.rows key t1 i a))
+          → Alike (lines_at c (time_under s.places) (newest c key s.slots)
+          (lines_below c (time_under s.places) (newest c key s.slots) t1 i) t1 x)
           (row_lines_at b.rows key t1 (row_lines_below b.rows key t1 i) y)
       go x y neither ih = ended
       go x y (either n w h) ih =
           rw (kind_cached u n h, value_cached u n h, differs_is n w.0 h _ _ (before_is u key w.0))
-          (by (ltb w.0 t1) (row_differs (record { time = w.0; kind = (at (versions_of (closed ++ (tail ∷ []))) n).kind; value = (at (versions_of (closed ++ (tail ∷ []))) n).value }) (last_below b.rows key w.0)))
+          (by (ltb w.0 t1)
+          (row_differs (record {
+            time = w.0;
+            kind = (at (versions_of (closed ++ (tail ∷ []))) n).kind;
+            value =
+                (at (versions_of (closed ++ (tail ∷ []))) n).value;
+          }) (last_below b.rows key w.0)))
         where
           by : (z y : Bool)
               → Alike (cond z [] (lines_below c (time_under s.places) (newest c key s.slots) t1 i w.0
-              ++ cond y (record { time = w.0; kind = (at (versions_of (closed ++ (tail ∷ []))) n).kind; value = (at (versions_of (closed ++ (tail ∷ []))) n).value } ∷ []) []))
+              ++ cond y (record {
+                time = w.0;
+                kind = (at (versions_of (closed ++ (tail ∷ []))) n).kind;
+                value =
+                    (at (versions_of (closed ++ (tail ∷ []))) n).value;
+              } ∷ []) []))
               (cond z [] (row_lines_below b.rows key t1 i w.0
-              ++ cond y (record { time = w.0; kind = (at (versions_of (closed ++ (tail ∷ []))) n).kind; value = (at (versions_of (closed ++ (tail ∷ []))) n).value } ∷ []) []))
+              ++ cond y (record {
+                time = w.0;
+                kind = (at (versions_of (closed ++ (tail ∷ []))) n).kind;
+                value =
+                    (at (versions_of (closed ++ (tail ∷ []))) n).value;
+              } ∷ []) []))
           by true y = ended
-          by false true = alike_append (ih w.0) (more w.0 (at (versions_of (closed ++ (tail ∷ []))) n).kind (at (versions_of (closed ++ (tail ∷ []))) n).value (sound_at u.medium n h).size ended)
+          by false true =
+              alike_append (ih w.0) (more w.0 (at (versions_of (closed ++ (tail ∷ []))) n).kind
+              (at (versions_of (closed ++ (tail ∷ []))) n).value (sound_at u.medium n h).size ended)
           by false false = alike_append (ih w.0) ended
 
   pub lines_are : (key t1 t2 : ℕ) → Alike (change_lines s c key t1 t2) (lines_of b.rows key t1 t2)

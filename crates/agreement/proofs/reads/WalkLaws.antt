@@ -1,5 +1,5 @@
--- A walk along earlier slots gives what a fold over all versions of the record gives: by induction on the slots, since the
--- earlier slot is the next lower one of the record and those between are of other records. Assumes nothing.
+-- A walk along earlier slots gives what a fold over all versions of the record gives: by induction on the slots, since
+-- the earlier slot is the next lower one of the record and those between are of other records. Assumes nothing.
 use Prim.Native.Nat.{ℕ, zero, suc, ◌≤◌, ◌<◌}
 use native.Mathlib.Omega.{arith}
 use mathlib.Core.Bool.{Bool, true, false, cond}
@@ -34,7 +34,8 @@ module _ {A : Type 0} (stop : A) (step : ℕ → A → A) (earlier : ℕ → ℕ
   on (At s) n k a h r below reached = rw (lt-ltb s n (below s refl)) (reached k (omega (arith, below s refl)))
   on Nothing n k a h r below reached = rw (le-ltb 65535 n (omega arith)) reached
 
-  pub walked : (vs : List LoggedVersion) (key : ℕ) → length vs ≤ 65535 → ((n : ℕ) → n < length vs → earlier n ≡ or_none (newest_of vs (at vs n).key n))
+  pub walked : (vs : List LoggedVersion) (key : ℕ) → length vs ≤ 65535
+      → ((n : ℕ) → n < length vs → earlier n ≡ or_none (newest_of vs (at vs n).key n))
       → (n : ℕ) → n ≤ length vs → Reaches walk stop (newest_of vs key n) (over_all stop step vs key n)
   unfolding newest_of over_all
   walked vs key r chain zero h = refl

@@ -1,7 +1,7 @@
--- A call that was refused 8 is done once the log may take its record: its other questions were answered "yes" then, and are
--- answered the same as long as the log's history and the active places are. A record is held just if its newest version's number
--- is another that is active.
-use Prim.Native.Nat.{ℕ, ◌+◌, ◌-◌, ◌*◌, ◌^◌}
+-- A call that was refused 8 is done once the log may take its record: its other questions were answered "yes" then, and
+-- are answered the same as long as the log's history and the active places are. A record is held just if its newest
+-- version's number is another that is active.
+use Prim.Native.Nat.{ℕ, ◌-◌, ◌*◌, ◌^◌}
 use native.Mathlib.Omega.{arith}
 use mathlib.Core.Path.{◌≡◌, refl, sym, ap, ◌∙◌}
 use mathlib.Core.Bool.{Bool, true, false, not, ◌&&◌, ◌||◌, and-false, or-true, false≢true}
@@ -13,13 +13,16 @@ use Rattle.fields.proofs.CellLaws.{Each}
 use Rattle.layout.specs.Journal.{Record}
 use Rattle.layout.specs.Slot.{Cell, key_form}
 use Rattle.store.specs.declared.Answer.{Answer}
-use Rattle.store.specs.declared.Answer.TheVariants.{Refused, Done, Begun, Written, Committed, Opened, Missing, Erased, Present, Listed}
+use Rattle.store.specs.declared.Answer.TheVariants.{Refused, Done, Begun, Written, Committed, Opened, Missing, Erased}
+use Rattle.store.specs.declared.Answer.TheVariants.{Present, Listed}
 use Rattle.store.specs.declared.Found.{Found}
 use Rattle.store.specs.declared.Found.TheVariants.{At, Nothing}
 use Rattle.store.specs.declared.Phase.TheVariants.{Idle, FirstStored, SecondStored}
 use Rattle.store.specs.declared.Place.{Place}
 use Rattle.store.specs.declared.Refusal.{Refusal}
-use Rattle.store.specs.declared.Refusal.TheVariants.{BadSizes, BadCache, Malformed, NoPlace, NotActive, Held, NoSlot, LogFull, NoTime, NotYet, NoPage, NotLogged, Unchanged, ShortBuffer, NoNumber, Unfit, NoRecord}
+use Rattle.store.specs.declared.Refusal.TheVariants.{BadSizes, BadCache, Malformed, NoPlace, NotActive, Held, NoSlot}
+use Rattle.store.specs.declared.Refusal.TheVariants.{LogFull, NoTime, NotYet, NoPage, NotLogged, Unchanged, ShortBuffer}
+use Rattle.store.specs.declared.Refusal.TheVariants.{NoNumber, Unfit, NoRecord}
 use Rattle.store.specs.declared.State.{State}
 use Rattle.store.specs.Answer.{Outcome, ask, answer_number, refusal_number}
 use Rattle.store.specs.Places.{is_at, find_active, place_at, active_as}
@@ -33,11 +36,14 @@ use Rattle.store.specs.StorePage.{store_page_if}
 use Rattle.store.specs.Checkpoint.{checkpoint_step}
 use Rattle.store.proofs.AskLaws.{Passed, passes}
 use Rattle.store.proofs.SearchLaws.{first_found}
-use Rattle.runs.specs.Event.{Call, begin, write, erase, current_read, commit, abort, as_of, changes, store_log, store_page, checkpoint}
+use Rattle.runs.specs.Event.{Call, begin, write, erase, current_read, commit, abort, as_of, changes, store_log}
+use Rattle.runs.specs.Event.{store_page, checkpoint}
 use Rattle.runs.specs.Book.{Book}
 use Rattle.runs.specs.Machine.{up, called, after}
-use Rattle.runs.proofs.Asks.{asks, is_refused, Way, refused, begins, writes, erases, looks, commits, ends, aborts, logs, pages, checks, way}
-use Rattle.agreement.proofs.history.Ghost.{LoggedVersion, versions_of, at, newest_of, commits_of, cell, waiting_cell, Match, still, marked, Disk}
+use Rattle.runs.proofs.Asks.{asks, is_refused, Way, refused, begins, writes, erases, looks, commits, ends, aborts, logs}
+use Rattle.runs.proofs.Asks.{pages, checks, way}
+use Rattle.agreement.proofs.history.Ghost.{LoggedVersion, versions_of, at, newest_of, commits_of, cell, waiting_cell}
+use Rattle.agreement.proofs.history.Ghost.{Match, still, marked, Disk}
 use Rattle.agreement.proofs.history.VersionLaws.{newest_at}
 use Rattle.agreement.proofs.invariant.Invariant.{Up}
 use Rattle.agreement.proofs.invariant.MediumFacts.{cell_cached}
@@ -85,7 +91,8 @@ pub record Filled (m c : List ℕ) (s : State) (x : Call) (o : Outcome) : Type 0
   pub no : ask (asks m c s x) ≡ some LogFull
   pub stays : after o ≡ up m c s
 
-pub full_way : {m c : List ℕ} {s : State} {x : Call} {o : Outcome} → Way m c s x o → answer_number o.answer ≡ 8 → Filled m c s x o
+pub full_way : {m c : List ℕ} {s : State} {x : Call} {o : Outcome} → Way m c s x o → answer_number o.answer ≡ 8
+    → Filled m c s x o
 unfolding answer_number write_step commit_step store_log_if store_page_if checkpoint_step
 full_way (refused k r w) e = record { no = w ∙ ap some (full_of r e); stays = refl }
 full_way (begins clock i p w) e = absurd (omega arith)
@@ -102,9 +109,11 @@ full_way (checks (FirstStored n t) p w) e = absurd (omega arith)
 full_way (checks (SecondStored n t) p w) e = absurd (omega arith)
 
 -- all were answered "yes"
-pub done_way : {m c : List ℕ} {s : State} {x : Call} {o : Outcome} → Way m c s x o → Passed (asks m c s x) → answer_number o.answer ≡ 0
+pub done_way : {m c : List ℕ} {s : State} {x : Call} {o : Outcome} → Way m c s x o → Passed (asks m c s x)
+    → answer_number o.answer ≡ 0
 unfolding answer_number write_step commit_step store_log_if store_page_if checkpoint_step
-done_way {m} {c} {s} (refused k r w) e = let h = passes (asks m c s k) e in let z : ◌≡◌ {A = ℕ} 0 1 = cc in absurd (omega arith)
+done_way {m} {c} {s} (refused k r w) e =
+    let h = passes (asks m c s k) e in let z : ◌≡◌ {A = ℕ} 0 1 = cc in absurd (omega arith)
 done_way (begins clock i p w) e = refl
 done_way (writes n key i v p w) e = refl
 done_way (erases n key i p w) e = refl
@@ -119,7 +128,8 @@ done_way (checks (FirstStored n t) p w) e = refl
 done_way (checks (SecondStored n t) p w) e = refl
 
 -- those before question 8 were answered "yes"
-before_write : (v k w x y z : Bool) → ask ((v, Unfit) ∷ (k, NoRecord) ∷ (w, NotActive) ∷ (x, Held) ∷ (y, NoSlot) ∷ (z, LogFull) ∷ []) ≡ some LogFull
+before_write : (v k w x y z : Bool) → ask ((v, Unfit) ∷ (k, NoRecord) ∷ (w, NotActive) ∷ (x, Held) ∷ (y, NoSlot)
+    ∷ (z, LogFull) ∷ []) ≡ some LogFull
     → (k ≡ true) × (w ≡ true) × (x ≡ true) × (y ≡ true)
 before_write true true true true true z e = (refl, refl, refl, refl)
 before_write true true true true false z e = let o : ◌≡◌ {A = ℕ} 0 1 = cc in absurd (omega arith)
@@ -128,7 +138,8 @@ before_write true true false x y z e = let o : ◌≡◌ {A = ℕ} 0 1 = cc in a
 before_write true false w x y z e = let o : ◌≡◌ {A = ℕ} 0 1 = cc in absurd (omega arith)
 before_write false k w x y z e = let o : ◌≡◌ {A = ℕ} 0 1 = cc in absurd (omega arith)
 
-before_commit : (v w x z : Bool) → ask ((v, Unfit) ∷ (w, NotActive) ∷ (x, NoTime) ∷ (z, LogFull) ∷ []) ≡ some LogFull → (w ≡ true) × (x ≡ true)
+before_commit : (v w x z : Bool) → ask ((v, Unfit) ∷ (w, NotActive) ∷ (x, NoTime) ∷ (z, LogFull) ∷ []) ≡ some LogFull
+    → (w ≡ true) × (x ≡ true)
 before_commit true true true z e = (refl, refl)
 before_commit true true false z e = let o : ◌≡◌ {A = ℕ} 0 1 = cc in absurd (omega arith)
 before_commit true false x z e = let o : ◌≡◌ {A = ℕ} 0 1 = cc in absurd (omega arith)
@@ -166,7 +177,8 @@ abbrev pub holder : Found → List LoggedVersion → List Place → ℕ → Bool
 holder Nothing vs ps n = false
 holder (At y) vs ps n = not (eqb (at vs y).num n) && is_at (find_active ps (at vs y).num)
 
-module _ {l d : ℕ} {m c : List ℕ} {s : State} {b : Book} {disk : Disk} {closed : List (List Record)} {tail : List Record} (u : Up l d m c s b disk closed tail) where
+module _ {l d : ℕ} {m c : List ℕ} {s : State} {b : Book} {disk : Disk} {closed : List (List Record)}
+    {tail : List Record} (u : Up l d m c s b disk closed tail) where
   abbrev pub vs : List LoggedVersion
   vs = versions_of (closed ++ (tail ∷ []))
 
@@ -174,22 +186,27 @@ module _ {l d : ℕ} {m c : List ℕ} {s : State} {b : Book} {disk : Disk} {clos
   unfolding held
   held_is key n = ap (λ (f : Found). held_at f c s.places n) (newest_is u key) ∙ go (newest_of vs key (length vs)) refl
     where
-      not_active : (x : ℕ) (f : Found) → find_active s.places x ≡ f → ((i : ℕ) → find_active s.places x ≡ At i → ⊥) → is_at f ≡ false
+      not_active : (x : ℕ) (f : Found) → find_active s.places x ≡ f → ((i : ℕ) → find_active s.places x ≡ At i → ⊥)
+          → is_at f ≡ false
       not_active x Nothing e h = refl
       not_active x (At i) e h = absurd (h i e)
 
-      by : (y : ℕ) → (v : LoggedVersion) (z : Cell) → Match (commits_of disk.stored) v z → ((i : ℕ) → find_active s.places v.num ≡ At i → z ≡ waiting_cell v)
+      by : (y : ℕ) → (v : LoggedVersion) (z : Cell) → Match (commits_of disk.stored) v z
+          → ((i : ℕ) → find_active s.places v.num ≡ At i → z ≡ waiting_cell v)
           → held_as z.state s.places n ≡ not (eqb v.num n) && is_at (find_active s.places v.num)
       by y v z still h = refl
       by y v z (marked t a e) h =
-          sym (rw (not_active v.num (find_active s.places v.num) refl (λ i q. let w = ap (λ (x : Cell). x.state) (h i q) in let o : ◌≡◌ {A = ℕ} 0 1 = cc in omega arith)) (and-false (not (eqb v.num n))))
+          sym (rw (not_active v.num (find_active s.places v.num) refl
+          (λ i q. let w = ap (λ (x : Cell). x.state) (h i q) in let o : ◌≡◌ {A = ℕ} 0 1 = cc in omega arith))
+          (and-false (not (eqb v.num n))))
 
       go : (f : Found) → newest_of vs key (length vs) ≡ f → held_at f c s.places n ≡ holder f vs s.places n
       go Nothing e = refl
       go (At y) e =
           let w = newest_at vs key (length vs) y e in
           ap (λ (z : Cell). held_as z.state s.places n) (cell_cached u.medium u.cache y w.below)
-          ∙ by y (at vs y) (cell disk.cells y) (u.medium.pages.slots.match y w.below) (λ i q. all_wait u (at vs y).num i q y w.below refl)
+          ∙ by y (at vs y) (cell disk.cells y) (u.medium.pages.slots.match y w.below)
+          (λ i q. all_wait u (at vs y).num i q y w.below refl)
 
 -- ---- the same call
 
@@ -197,8 +214,10 @@ pub active_there : (ps : List Place) (x i : ℕ) → find_active ps x ≡ At i �
 unfolding find_active
 active_there ps x i e = (first_found (λ j. active_as (place_at ps j).life x) 64 0 i e).2
 
-module _ {l d : ℕ} {m c n a : List ℕ} {s t : State} {b b' : Book} {disk disk' : Disk} {closed : List (List Record)} {tail : List Record}
-    (u : Up l d m c s b disk closed tail) (w : Up l d n a t b' disk' closed tail) (same : Alike s t) (room : (size : ℕ) → may_log t n size ≡ true) where
+module _ {l d : ℕ} {m c n a : List ℕ} {s t : State} {b b' : Book} {disk disk' : Disk} {closed : List (List Record)}
+    {tail : List Record}
+    (u : Up l d m c s b disk closed tail) (w : Up l d n a t b' disk' closed tail) (same : Alike s t)
+    (room : (size : ℕ) → may_log t n size ≡ true) where
   held_same : (key x : ℕ) → held a t.places t.slots key x ≡ held c s.places s.slots key x
   held_same key x = held_is w key x ∙ go (newest_of (vs u) key (length (vs u))) ∙ sym (held_is u key x)
     where
@@ -224,27 +243,38 @@ module _ {l d : ℕ} {m c n a : List ℕ} {s t : State} {b b' : Book} {disk disk
 
   write_passes : (x key : ℕ) → ask (write_asks s m c x key) ≡ some LogFull → Passed (write_asks t n a x key)
   write_passes x key e =
-      let p = before_write (fits s (length m) (length c)) (key_form key) (is_at (find_active s.places x)) (not (held c s.places s.slots key x)) (ltb s.slots (15 * s.pages)) (may_log s m 34) e in (
+      let p = before_write (fits s (length m) (length c)) (key_form key) (is_at (find_active s.places x))
+      (not (held c s.places s.slots key x)) (ltb s.slots (15 * s.pages)) (may_log s m 34) e in (
         fits_up w,
         (p.0, (rw (same.active x) p.1, (rw (held_same key x) p.2, (rw (slots_same, pages_same) p.3, (room 34, tt))))),
       )
 
   commit_passes : (x : ℕ) → ask (commit_asks s m c x) ≡ some LogFull → Passed (commit_asks t n a x)
   commit_passes x e =
-      let p = before_commit (fits s (length m) (length c)) (is_at (find_active s.places x)) (no_versions (find_active s.places x) s || ltb s.last.0 (2 ^ 64 - 1)) (no_versions (find_active s.places x) s || may_log s m 19) e in (
+      let p = before_commit (fits s (length m) (length c)) (is_at (find_active s.places x))
+      (no_versions (find_active s.places x) s || ltb s.last.0 (2 ^ 64 - 1))
+      (no_versions (find_active s.places x) s || may_log s m 19) e in (
         fits_up w,
-        (rw (same.active x) p.0, (rw (none_same x, last_same) p.1, (rw (room 19) (or-true (no_versions (find_active t.places x) t)), tt))),
+        (
+          rw (same.active x) p.0,
+          (
+            rw (none_same x, last_same) p.1,
+            (rw (room 19) (or-true (no_versions (find_active t.places x) t)), tt),
+          ),
+        ),
       )
 
   passes_again : (x : Call) → ask (asks m c s x) ≡ some LogFull → Passed (asks n a t x)
   passes_again (begin y) e = absurd (never (asks m c s (begin y)) (refl, (refl, (refl, tt))) e)
   passes_again (write y key v) e = write_passes y key e
   passes_again (erase y key) e = write_passes y key e
-  passes_again (current_read y key) e = absurd (never (asks m c s (current_read y key)) (refl, (refl, (refl, (refl, tt)))) e)
+  passes_again (current_read y key) e =
+      absurd (never (asks m c s (current_read y key)) (refl, (refl, (refl, (refl, tt)))) e)
   passes_again (commit y clock) e = commit_passes y e
   passes_again (abort y) e = absurd (never (asks m c s (abort y)) (refl, (refl, tt)) e)
   passes_again (as_of key y) e = absurd (never (asks m c s (as_of key y)) (refl, (refl, (refl, tt))) e)
-  passes_again (changes key y z v) e = absurd (never (asks m c s (changes key y z v)) (refl, (refl, (refl, (refl, tt)))) e)
+  passes_again (changes key y z v) e =
+      absurd (never (asks m c s (changes key y z v)) (refl, (refl, (refl, (refl, tt)))) e)
   passes_again store_log e = absurd (never (asks m c s store_log) (refl, (refl, tt)) e)
   passes_again (store_page p) e = absurd (never (asks m c s (store_page p)) (refl, (refl, (refl, (refl, tt)))) e)
   passes_again checkpoint e = absurd (never (asks m c s checkpoint) (refl, tt) e)

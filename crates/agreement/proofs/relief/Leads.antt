@@ -1,5 +1,5 @@
--- Calls one after the other: that they are a run, that each is accepted, and that asking names each of them when its turn comes.
--- All by putting lists together as their calls are.
+-- Calls one after the other: that they are a run, that each is accepted, and that asking names each of them when its
+-- turn comes. All by putting lists together as their calls are.
 use Prim.Native.Nat.{ℕ, zero, suc, ◌+◌}
 use native.Mathlib.Omega.{arith}
 use mathlib.Core.Path.{◌≡◌, refl, sym, ap, ◌∙◌}
@@ -25,18 +25,21 @@ module _ (l d : ℕ) where
   unfolding is_run trace world_after
   leads_none w P p = record { run = refl; accepted = tt; there = p }
 
-  pub leads_call : (m c : List ℕ) (s : State) (x : Call) (es : List Event) (P : World → Type 0) → call_typed x ≡ true → (step l d (up m c s) (call x)).seen.refusal ≡ 0
+  pub leads_call : (m c : List ℕ) (s : State) (x : Call) (es : List Event) (P : World → Type 0) → call_typed x ≡ true
+      → (step l d (up m c s) (call x)).seen.refusal ≡ 0
       → Leads l d (step l d (up m c s) (call x)).world es P → Leads l d (up m c s) (call x ∷ es) P
   unfolding is_run trace world_after typed
   leads_call m c s x es P t z q = record { run = rw t q.run; accepted = (z, q.accepted); there = q.there }
 
-  pub leads_then : (w : World) (es fs : List Event) (P Q : World → Type 0) → Leads l d w es P → ((v : World) → P v → Leads l d v fs Q) → Leads l d w (es ++ fs) Q
+  pub leads_then : (w : World) (es fs : List Event) (P Q : World → Type 0) → Leads l d w es P
+      → ((v : World) → P v → Leads l d v fs Q) → Leads l d w (es ++ fs) Q
   unfolding is_run trace world_after
   leads_then w [] fs P Q a f = f w a.there
   leads_then w (e ∷ es) fs P Q a f =
       let r = and_1 (typed e) _ a.run in
       let q : Leads l d (step l d w e).world (es ++ fs) Q =
-      leads_then (step l d w e).world es fs P Q (record { run = and_1 (allowed l d w e) _ r; accepted = a.accepted.1; there = a.there }) f in
+      leads_then (step l d w e).world es fs P Q
+      (record { run = and_1 (allowed l d w e) _ r; accepted = a.accepted.1; there = a.there }) f in
       record {
         run = rw (and_0 (typed e) _ a.run, and_0 (allowed l d w e) _ r) q.run;
         accepted = (a.accepted.0, q.accepted);
@@ -53,11 +56,13 @@ module _ (l d : ℕ) where
   unfolding world_after
   asked_none w n = ap (λ (k : ℕ). asking l d k w) (omega arith)
 
-  pub asked_call : (w : World) (x : Call) (es : List Event) → next_in w ≡ call x ∷ [] → Asked (step l d w (call x)).world es → Asked w (call x ∷ es)
+  pub asked_call : (w : World) (x : Call) (es : List Event) → next_in w ≡ call x ∷ []
+      → Asked (step l d w (call x)).world es → Asked w (call x ∷ es)
   unfolding asking world_after
   asked_call w x es e q n =
       let z : suc (length es) + n ≡ suc (length es + n) = omega arith in
-      ap (λ (k : ℕ). asking l d k w) z ∙ ap (λ (es' : List Event). es' ++ asking l d (length es + n) (world_after l d w es')) e
+      ap (λ (k : ℕ). asking l d k w) z ∙ ap
+      (λ (es' : List Event). es' ++ asking l d (length es + n) (world_after l d w es')) e
       ∙ ap (λ (fs : List Event). call x ∷ fs) (q n)
 
   pub asked_then : (w : World) (es fs : List Event) → Asked w es → Asked (world_after l d w es) fs → Asked w (es ++ fs)
@@ -84,11 +89,15 @@ module _ (l d : ℕ) where
   pub follows_none : (w : World) (P : World → Type 0) → P w → Follows l d w [] P
   follows_none w P p = record { leads = leads_none l d w P p; asked = asked_none l d w }
 
-  pub follows_call : (m c : List ℕ) (s : State) (x : Call) (es : List Event) (P : World → Type 0) → call_typed x ≡ true → (step l d (up m c s) (call x)).seen.refusal ≡ 0
-      → next_in (up m c s) ≡ call x ∷ [] → Follows l d (step l d (up m c s) (call x)).world es P → Follows l d (up m c s) (call x ∷ es) P
-  follows_call m c s x es P t z e q = record { leads = leads_call l d m c s x es P t z q.leads; asked = asked_call l d (up m c s) x es e q.asked }
+  pub follows_call : (m c : List ℕ) (s : State) (x : Call) (es : List Event) (P : World → Type 0) → call_typed x ≡ true
+      → (step l d (up m c s) (call x)).seen.refusal ≡ 0
+      → next_in (up m c s) ≡ call x ∷ [] → Follows l d (step l d (up m c s) (call x)).world es P
+      → Follows l d (up m c s) (call x ∷ es) P
+  follows_call m c s x es P t z e q =
+      record { leads = leads_call l d m c s x es P t z q.leads; asked = asked_call l d (up m c s) x es e q.asked }
 
-  pub follows_then : (w : World) (es fs : List Event) (P Q : World → Type 0) → Follows l d w es P → ((v : World) → P v → Follows l d v fs Q) → Follows l d w (es ++ fs) Q
+  pub follows_then : (w : World) (es fs : List Event) (P Q : World → Type 0) → Follows l d w es P
+      → ((v : World) → P v → Follows l d v fs Q) → Follows l d w (es ++ fs) Q
   follows_then w es fs P Q a f = record {
     leads = leads_then l d w es fs P Q a.leads (λ v p. (f v p).leads);
     asked = asked_then l d w es fs a.asked (f (world_after l d w es) a.leads.there).asked;

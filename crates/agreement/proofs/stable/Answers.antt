@@ -1,5 +1,5 @@
--- Answers as of a time survive a cut. An answered read has a time that the stored rows have reached (Stored); they stay the
--- book's first (Found), and rows behind them change no such answer (Rows).
+-- Answers as of a time survive a cut. An answered read has a time that the stored rows have reached (Stored); they stay
+-- the book's first (Found), and rows behind them change no such answer (Rows).
 use Prim.Native.Nat.{ℕ, ◌*◌, ◌≤◌}
 use native.Mathlib.Omega.{arith}
 use mathlib.Core.Bool.{Bool, true, false, cond, false≢true}
@@ -28,14 +28,17 @@ use Rattle.agreement.proofs.stable.Stored.{read_refusal, list_refusal, list_size
 
 module _ (l d : ℕ) where
   read_at : (key t : ℕ) (w : World) (b : Book) → Inv l d w b → allowed l d w (call (as_of key t)) ≡ true
-      → (step l d w (call (as_of key t))).seen.refusal ≡ cond (key_form key) (cond (leb t (last_time (fall b).rows)) 0 10) 18
+      → (step l d w (call (as_of key t))).seen.refusal ≡ cond (key_form key)
+      (cond (leb t (last_time (fall b).rows)) 0 10) 18
   unfolding step seen_of called
   read_at key t (up m c s) b (running u) a = read_refusal u key t
   read_at key t (down m) b (fallen x) a = absurd (false≢true a)
 
-  list_at : (key t1 t2 : ℕ) (buffer : List ℕ) (w : World) (b : Book) → Inv l d w b → allowed l d w (call (changes key t1 t2 buffer)) ≡ true
+  list_at : (key t1 t2 : ℕ) (buffer : List ℕ) (w : World) (b : Book) → Inv l d w b
+      → allowed l d w (call (changes key t1 t2 buffer)) ≡ true
       → ((step l d w (call (changes key t1 t2 buffer))).seen.refusal
-      ≡ cond (key_form key) (cond (leb t2 (last_time (fall b).rows)) (cond (leb (32 * length (lines_of b.rows key t1 t2)) (length buffer)) 0 14) 10) 18)
+      ≡ cond (key_form key) (cond (leb t2 (last_time (fall b).rows))
+      (cond (leb (32 * length (lines_of b.rows key t1 t2)) (length buffer)) 0 14) 10) 18)
       × (length (listing (lines_of b.rows key t1 t2)) ≡ 32 * length (lines_of b.rows key t1 t2))
   unfolding step seen_of called
   list_at key t1 t2 buffer (up m c s) b (running u) a = (list_refusal u key t1 t2 buffer, list_size u key t1 t2)
@@ -47,10 +50,13 @@ reads_stored l d es key t r =
     let e : Event = call (as_of key t) in
     read_at l d key t (world_after l d (formatted l d) es) (book_at l d es) (held es e r) (may es e r)
 
-lists_at : (l d : ℕ) (es : List Event) (key t1 t2 : ℕ) (buffer : List ℕ) → Run l d (es ++ (call (changes key t1 t2 buffer) ∷ []))
+lists_at : (l d : ℕ) (es : List Event) (key t1 t2 : ℕ) (buffer : List ℕ)
+    → Run l d (es ++ (call (changes key t1 t2 buffer) ∷ []))
     → ((seen_at l d es (call (changes key t1 t2 buffer))).refusal
-    ≡ cond (key_form key) (cond (leb t2 (stored_time l d es)) (cond (leb (32 * length (lines_of (book_at l d es).rows key t1 t2)) (length buffer)) 0 14) 10) 18)
-    × (length (listing (lines_of (book_at l d es).rows key t1 t2)) ≡ 32 * length (lines_of (book_at l d es).rows key t1 t2))
+    ≡ cond (key_form key) (cond (leb t2 (stored_time l d es))
+    (cond (leb (32 * length (lines_of (book_at l d es).rows key t1 t2)) (length buffer)) 0 14) 10) 18)
+    × (length (listing (lines_of (book_at l d es).rows key t1 t2))
+    ≡ 32 * length (lines_of (book_at l d es).rows key t1 t2))
 lists_at l d es key t1 t2 buffer r =
     let e : Event = call (changes key t1 t2 buffer) in
     list_at l d key t1 t2 buffer (world_after l d (formatted l d) es) (book_at l d es) (held es e r) (may es e r)
@@ -83,13 +89,16 @@ module _ {l d : ℕ} {es : List Event} (r : Run l d es) {R : List Row} (p : Fron
   strip_first key t h = ap (λ (rs : List Row). strip_as_of rs key t) p.rows ∙ strip_same R p.rest rising fresh t h key
 
   list_first : (key t1 t2 : ℕ) → t2 ≤ last_time R → lines_of (book_at l d es).rows key t1 t2 ≡ lines_of R key t1 t2
-  list_first key t1 t2 h = ap (λ (rs : List Row). lines_of rs key t1 t2) p.rows ∙ list_same R p.rest rising fresh t2 h key t1
+  list_first key t1 t2 h =
+      ap (λ (rs : List Row). lines_of rs key t1 t2) p.rows ∙ list_same R p.rest rising fresh t2 h key t1
 
   time_first : last_time R ≤ stored_time l d es
   unfolding fall RisingRows
   time_first =
       let (more, e) = front_found R (book_at l d es) p in
-      let q : Rises 0 (transactions (R ++ more)) = subst (λ (rs : List Row). Rises 0 (transactions rs)) e (rises_take 0 (book_at l d es).stored (book_at l d es).rows (rising_rows l d es r)) in
+      let q : Rises 0 (transactions (R ++ more)) =
+      subst (λ (rs : List Row). Rises 0 (transactions rs)) e
+      (rises_take 0 (book_at l d es).stored (book_at l d es).rows (rising_rows l d es r)) in
       subst (λ (rs : List Row). last_time R ≤ last_time rs) (sym e) (last_more R more q)
 
 -- ---- two calls of a run
@@ -103,7 +112,8 @@ module _ {l d : ℕ} {es fs : List Event} {e e' : Event} (x : Again l d es e fs 
 
   kept : Front (rows_found l d es) (book_at l d (es ++ (e ∷ fs)))
   kept =
-      since es (e ∷ fs) later_run (λ e o. false) (λ b hs. Front (rows_found l d es) b) (λ b b' hs rs e o z. front_turn (rows_found l d es) b b' hs rs e o)
+      since es (e ∷ fs) later_run (λ e o. false) (λ b hs. Front (rows_found l d es) b)
+      (λ b b' hs rs e o z. front_turn (rows_found l d es) b b' hs rs e o)
       (never (e ∷ fs) (trace_at l d es (e ∷ fs))) (front_now (book_at l d es))
 
 -- questions 18 and 10: passed if the call was answered, and only then the rest decides
@@ -123,16 +133,19 @@ stable_reads l d es fs key t x =
     let h : t ≤ stored_time l d es = leb-true t (stored_time l d es) q.1 in
     let g : t ≤ stored_time l d (es ++ (e ∷ fs)) = omega (arith, time_first (later_run x) (kept x)) in
     let again : (seen_at l d (es ++ (e ∷ fs)) e).refusal ≡ 0 =
-    decided (key_form key) (leb t (stored_time l d (es ++ (e ∷ fs)))) 0 _ (reads_stored l d (es ++ (e ∷ fs)) key t x.run) q.0 (le-leb t (stored_time l d (es ++ (e ∷ fs))) g) in
+    decided (key_form key) (leb t (stored_time l d (es ++ (e ∷ fs)))) 0 _
+    (reads_stored l d (es ++ (e ∷ fs)) key t x.run) q.0 (le-leb t (stored_time l d (es ++ (e ∷ fs))) g) in
     record {
       answered = again;
       strip = next_fits (es ++ (e ∷ fs)) e x.run again
           ∙ strip_first (later_run x) (kept x) key t h
-          ∙ sym (next_fits es e (first_run x) x.first ∙ strip_first (front_run es (e ∷ []) (first_run x)) (front_now (book_at l d es)) key t h);
+          ∙ sym (next_fits es e (first_run x) x.first
+          ∙ strip_first (front_run es (e ∷ []) (first_run x)) (front_now (book_at l d es)) key t h);
     }
 
 -- the lines are the first bytes of the buffer
-lines_laid : (ls : List Dated) (buffer : List ℕ) (o : Observation) → ListsAs ls buffer o → length (listing ls) ≡ 32 * length ls
+lines_laid : (ls : List Dated) (buffer : List ℕ) (o : Observation) → ListsAs ls buffer o
+    → length (listing ls) ≡ 32 * length ls
     → (n : ℕ) → n ≡ length ls → take (32 * n) o.buffer ≡ listing ls
 unfolding laid
 lines_laid ls buffer o a size n e =
@@ -154,12 +167,15 @@ stable_lists l d es fs key t1 t2 buffer buffer' x =
     let now = list_first (later_run x) (kept x) key t1 t2 h in
     let first : ListsAs ls buffer (seen_at l d es e) = rw then at (next_fits es e (first_run x) x.first) in
     let size : length (listing ls) ≡ 32 * length ls = rw then at at.1 in
-    let later : (seen_at l d gs e').refusal ≡ 0 → ListsAs ls buffer' (seen_at l d gs e') = rw now at (next_fits gs e' x.run) in
+    let later : (seen_at l d gs e').refusal ≡ 0 → ListsAs ls buffer' (seen_at l d gs e') =
+    rw now at (next_fits gs e' x.run) in
     record {
       answered = λ room.
           decided (key_form key) (leb t2 (stored_time l d gs)) _ _ (lists_at l d gs key t1 t2 buffer' x.run).0 q.0
           (le-leb t2 (stored_time l d gs) (omega (arith, time_first (later_run x) (kept x))))
-          ∙ ap (λ (y : Bool). cond y 0 14) (le-leb (32 * length (lines_of (book_at l d gs).rows key t1 t2)) (length buffer') (omega (arith, ap length now, first.count)));
+          ∙ ap (λ (y : Bool). cond y 0 14)
+          (le-leb (32 * length (lines_of (book_at l d gs).rows key t1 t2)) (length buffer')
+          (omega (arith, ap length now, first.count)));
       count = λ z. (later z).count ∙ sym first.count;
       lines = λ z. lines_laid ls buffer' (seen_at l d gs e') (later z) size (seen_at l d es e).result first.count
           ∙ sym (lines_laid ls buffer (seen_at l d es e) first size (seen_at l d es e).result first.count);
@@ -168,4 +184,11 @@ stable_lists l d es fs key t1 t2 buffer buffer' x =
 -- ---- all of it
 
 pub stable_answers : StableAnswers
-stable_answers = record { reads_stored = reads_stored; lists_stored = lists_stored; stable_reads = stable_reads; stable_lists = stable_lists }
+stable_answers =
+    record {
+      reads_stored = reads_stored;
+      lists_stored = lists_stored;
+      stable_reads = stable_reads;
+      stable_lists =
+          stable_lists;
+    }

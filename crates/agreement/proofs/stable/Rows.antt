@@ -1,5 +1,6 @@
--- Rows that come later change no answer as of a time that the rows before have reached: a later commit row has a greater
--- time, and a later version row is of a number without a commit row before it. So the versions that count are the same.
+-- Rows that come later change no answer as of a time that the rows before have reached: a later commit row has a
+-- greater time, and a later version row is of a number without a commit row before it. So the versions that count are
+-- the same.
 use Prim.Native.Nat.{ℕ, zero, suc, ◌≤◌, ◌<◌}
 use native.Mathlib.Omega.{arith}
 use mathlib.Core.Bool.{Bool, true, false, cond}
@@ -10,7 +11,9 @@ use lib.Dec.{eqb}
 use lib.ListN.{take}
 use borrow.Author.Tests.{le-ltb}
 use Rattle.runs.specs.Event.{Event, Observation}
-use Rattle.runs.specs.Book.{Version, Row, version, committed, Book, blank, versions, time_of, last_time, is_open, add, fall, Dated, later_of, dated_of, best_below, last_below, strip_at, strip_as_of, lines_at, lines_below, lines_of}
+use Rattle.runs.specs.Book.{Version, Row, version, committed, Book, blank, versions, time_of, last_time, is_open, add}
+use Rattle.runs.specs.Book.{fall, Dated, later_of, dated_of, best_below, last_below, strip_at, strip_as_of, lines_at}
+use Rattle.runs.specs.Book.{lines_below, lines_of}
 use Rattle.runs.specs.Moments.{Run, book_at, transactions}
 use Rattle.runs.specs.Plain.{Rises}
 use Rattle.agreement.proofs.reads.AsOf.{best_append}
@@ -35,24 +38,31 @@ fresh_take (suc i) R (committed n t ∷ rs) h = fresh_take i (R ++ (committed n 
 
 fresh_append : (R rs ss : List Row) → Fresh R rs → Fresh (R ++ rs) ss → Fresh R (rs ++ ss)
 fresh_append R [] ss h g = subst (λ (xs : List Row). Fresh xs ss) (append-nil R) g
-fresh_append R (version v ∷ rs) ss h g =
-    (h.0, fresh_append (R ++ (version v ∷ [])) rs ss h.1 (subst (λ (xs : List Row). Fresh xs ss) (sym (append_assoc R (version v ∷ []) rs)) g))
+fresh_append R (version v ∷ rs) ss h g = (
+  h.0,
+  fresh_append (R ++ (version v ∷ [])) rs ss h.1
+      (subst (λ (xs : List Row). Fresh xs ss) (sym (append_assoc R (version v ∷ []) rs)) g),
+)
 fresh_append R (committed n t ∷ rs) ss h g =
-    fresh_append (R ++ (committed n t ∷ [])) rs ss h (subst (λ (xs : List Row). Fresh xs ss) (sym (append_assoc R (committed n t ∷ []) rs)) g)
+    fresh_append (R ++ (committed n t ∷ [])) rs ss h
+    (subst (λ (xs : List Row). Fresh xs ss) (sym (append_assoc R (committed n t ∷ []) rs)) g)
 
 fresh_right : (R rs ss : List Row) → Fresh R (rs ++ ss) → Fresh (R ++ rs) ss
 fresh_right R [] ss h = subst (λ (xs : List Row). Fresh xs ss) (sym (append-nil R)) h
 fresh_right R (version v ∷ rs) ss h =
-    subst (λ (xs : List Row). Fresh xs ss) (append_assoc R (version v ∷ []) rs) (fresh_right (R ++ (version v ∷ [])) rs ss h.1)
+    subst (λ (xs : List Row). Fresh xs ss) (append_assoc R (version v ∷ []) rs)
+    (fresh_right (R ++ (version v ∷ [])) rs ss h.1)
 fresh_right R (committed n t ∷ rs) ss h =
-    subst (λ (xs : List Row). Fresh xs ss) (append_assoc R (committed n t ∷ []) rs) (fresh_right (R ++ (committed n t ∷ [])) rs ss h)
+    subst (λ (xs : List Row). Fresh xs ss) (append_assoc R (committed n t ∷ []) rs)
+    (fresh_right (R ++ (committed n t ∷ [])) rs ss h)
 
 -- an open number has no commit, and writes are of open numbers
 record Written (b : Book) : Type 0 where
   orderly : Orderly b
   fresh : Fresh [] b.rows
 
-written_turn : (b b' : Book) (hs rs : List Row) (e : Event) (o : Observation) → Turn b e o b' rs → Written b → Written b'
+written_turn : (b b' : Book) (hs rs : List Row) (e : Event) (o : Observation) → Turn b e o b' rs → Written b
+    → Written b'
 unfolding fall add
 written_turn b b' hs rs e o t p = record { orderly = orderly_turn b b' hs rs e o t p.orderly; fresh = go t }
   where
@@ -67,7 +77,9 @@ written_turn b b' hs rs e o t p = record { orderly = orderly_turn b b' hs rs e o
 
 pub fresh_rows : {l d : ℕ} {es : List Event} → Run l d es → Fresh [] (book_at l d es).rows
 unfolding is_open blank time_of
-fresh_rows r = (always r (λ b hs. Written b) written_turn (record { orderly = record { once = tt; unended = λ n q. refl }; fresh = tt })).fresh
+fresh_rows r =
+    (always r (λ b hs. Written b) written_turn
+    (record { orderly = record { once = tt; unended = λ n q. refl }; fresh = tt })).fresh
 
 -- ---- times
 
@@ -78,7 +90,8 @@ last_low m low [] r = omega arith
 last_low m low (version v ∷ rs) r = last_low m low rs r
 last_low m low (committed k u ∷ rs) r = omega (arith, r.0, last_low k u rs r.1)
 
-last_from_low : (m low : ℕ) (rs ss : List Row) → Rises low (transactions (rs ++ ss)) → last_time (committed m low ∷ rs) ≤ last_time (committed m low ∷ rs ++ ss)
+last_from_low : (m low : ℕ) (rs ss : List Row) → Rises low (transactions (rs ++ ss))
+    → last_time (committed m low ∷ rs) ≤ last_time (committed m low ∷ rs ++ ss)
 unfolding transactions last_time
 last_from_low m low [] ss r = last_low m low ss r
 last_from_low m low (version v ∷ rs) ss r = last_from_low m low rs ss r
@@ -106,30 +119,38 @@ too_late none limit x h = rw (le-ltb x.time limit h)
 too_late (some y) limit x h = rw (le-ltb x.time limit h)
 
 -- no time among the rows R
-best_fresh : (R S rs : List Row) (key limit : ℕ) (best : Option Dated) → Fresh (R ++ S) rs → best_below R key limit best (versions rs) ≡ best
+best_fresh : (R S rs : List Row) (key limit : ℕ) (best : Option Dated) → Fresh (R ++ S) rs
+    → best_below R key limit best (versions rs) ≡ best
 unfolding best_below versions
 best_fresh R S [] key limit best h = refl
 best_fresh R S (version v ∷ rs) key limit best h =
-    ap (λ (x : Option ℕ). best_below R key limit (cond (eqb v.key key) (dated_of x best limit v) best) (versions rs)) (time_left R S v.number h.0)
+    ap (λ (x : Option ℕ). best_below R key limit (cond (eqb v.key key) (dated_of x best limit v) best) (versions rs))
+    (time_left R S v.number h.0)
     ∙ ap (λ (x : Option Dated). best_below R key limit x (versions rs)) (same (eqb v.key key))
-    ∙ best_fresh R (S ++ (version v ∷ [])) rs key limit best (subst (λ (xs : List Row). Fresh xs rs) (append_assoc R S (version v ∷ [])) h.1)
+    ∙ best_fresh R (S ++ (version v ∷ [])) rs key limit best
+    (subst (λ (xs : List Row). Fresh xs rs) (append_assoc R S (version v ∷ [])) h.1)
   where
     same : (x : Bool) → cond x best best ≡ best
     same true = refl
     same false = refl
 best_fresh R S (committed n t ∷ rs) key limit best h =
-    best_fresh R (S ++ (committed n t ∷ [])) rs key limit best (subst (λ (xs : List Row). Fresh xs rs) (append_assoc R S (committed n t ∷ [])) h)
+    best_fresh R (S ++ (committed n t ∷ [])) rs key limit best
+    (subst (λ (xs : List Row). Fresh xs rs) (append_assoc R S (committed n t ∷ [])) h)
 
 -- ---- lists
 
 -- a list follows from the last versions below the times up to its limit
-module _ (rs qs : List Row) (key t1 top : ℕ) (last : (limit : ℕ) → limit ≤ top → last_below qs key limit ≡ last_below rs key limit) where
+module _ (rs qs : List Row) (key t1 top : ℕ) (last : (limit : ℕ) → limit ≤ top
+    → last_below qs key limit ≡ last_below rs key limit) where
   pub lines_same : (k limit : ℕ) → limit ≤ top → lines_below qs key t1 k limit ≡ lines_below rs key t1 k limit
   unfolding lines_below
   lines_same zero limit h = refl
-  lines_same (suc k) limit h = ap (lines_at qs key t1 (lines_below qs key t1 k)) (last limit h) ∙ go (last_below rs key limit) refl (lines_same k)
+  lines_same (suc k) limit h =
+      ap (lines_at qs key t1 (lines_below qs key t1 k)) (last limit h)
+      ∙ go (last_below rs key limit) refl (lines_same k)
     where
-      go : (x : Option Dated) → last_below rs key limit ≡ x → ((a : ℕ) → a ≤ top → lines_below qs key t1 k a ≡ lines_below rs key t1 k a)
+      go : (x : Option Dated) → last_below rs key limit ≡ x
+          → ((a : ℕ) → a ≤ top → lines_below qs key t1 k a ≡ lines_below rs key t1 k a)
           → lines_at qs key t1 (lines_below qs key t1 k) x ≡ lines_at rs key t1 (lines_below rs key t1 k) x
       go none e ih = refl
       go (some x) e ih =
@@ -138,7 +159,8 @@ module _ (rs qs : List Row) (key t1 top : ℕ) (last : (limit : ℕ) → limit �
 
 -- ---- the same answers; the commits among R have reached the time t
 
-module _ (R more : List Row) (rising : Rises 0 (transactions (R ++ more))) (fresh : Fresh [] (R ++ more)) (t : ℕ) (reached : t ≤ last_time R) where
+module _ (R more : List Row) (rising : Rises 0 (transactions (R ++ more))) (fresh : Fresh [] (R ++ more)) (t : ℕ)
+    (reached : t ≤ last_time R) where
   later : (n u : ℕ) → time_of more n ≡ some u → t < u
   unfolding last_time
   later n u e = omega (arith, above (last_time R) more n u (rises_right 0 0 R more rising) e)
@@ -149,17 +171,23 @@ module _ (R more : List Row) (rising : Rises 0 (transactions (R ++ more))) (fres
     where
       late : (x : Option ℕ) → time_of more v.number ≡ x → dated_of x best limit v ≡ best
       late none e = refl
-      late (some u) e = too_late best limit (record { time = u; kind = v.kind; value = v.value }) (omega (arith, later v.number u e))
+      late (some u) e =
+          too_late best limit (record { time = u; kind = v.kind; value = v.value }) (omega (arith, later v.number u e))
 
-      go : (x : Option ℕ) → time_of R v.number ≡ x → dated_of (time_of (R ++ more) v.number) best limit v ≡ dated_of x best limit v
-      go none e = ap (λ (x : Option ℕ). dated_of x best limit v) (time_none R more v.number e) ∙ late (time_of more v.number) refl
+      go : (x : Option ℕ) → time_of R v.number ≡ x → dated_of (time_of (R ++ more) v.number) best limit v
+          ≡ dated_of x best limit v
+      go none e =
+          ap (λ (x : Option ℕ). dated_of x best limit v) (time_none R more v.number e)
+          ∙ late (time_of more v.number) refl
       go (some u) e = ap (λ (x : Option ℕ). dated_of x best limit v) (time_front R more v.number u e)
 
-  best_same : (key limit : ℕ) (best : Option Dated) (vs : List Version) → limit ≤ suc t → best_below (R ++ more) key limit best vs ≡ best_below R key limit best vs
+  best_same : (key limit : ℕ) (best : Option Dated) (vs : List Version) → limit ≤ suc t
+      → best_below (R ++ more) key limit best vs ≡ best_below R key limit best vs
   unfolding best_below
   best_same key limit best [] h = refl
   best_same key limit best (v ∷ vs) h =
-      ap (λ (x : Option Dated). best_below (R ++ more) key limit (cond (eqb v.key key) x best) vs) (dated_same v best limit h)
+      ap (λ (x : Option Dated). best_below (R ++ more) key limit (cond (eqb v.key key) x best) vs)
+      (dated_same v best limit h)
       ∙ best_same key limit (cond (eqb v.key key) (dated_of (time_of R v.number) best limit v) best) vs h
 
   last_same : (key limit : ℕ) → limit ≤ suc t → last_below (R ++ more) key limit ≡ last_below R key limit
@@ -168,7 +196,8 @@ module _ (R more : List Row) (rising : Rises 0 (transactions (R ++ more))) (fres
       ap (best_below (R ++ more) key limit none) (versions_append R more)
       ∙ best_same key limit none (versions R ++ versions more) h
       ∙ best_append R key limit none (versions R) (versions more)
-      ∙ best_fresh R [] more key limit (best_below R key limit none (versions R)) (subst (λ (xs : List Row). Fresh xs more) (sym (append-nil R)) (fresh_right [] R more fresh))
+      ∙ best_fresh R [] more key limit (best_below R key limit none (versions R))
+      (subst (λ (xs : List Row). Fresh xs more) (sym (append-nil R)) (fresh_right [] R more fresh))
 
   pub strip_same : (key : ℕ) → strip_as_of (R ++ more) key t ≡ strip_as_of R key t
   unfolding strip_as_of

@@ -1,5 +1,5 @@
--- A version stamped counts its transaction's place down: the place waits for one slot less, or is free once nothing waits
--- for it. So the places stay true of the slots, and each keeps its life or is free.
+-- A version stamped counts its transaction's place down: the place waits for one slot less, or is free once nothing
+-- waits for it. So the places stay true of the slots, and each keeps its life or is free.
 use Prim.Native.Nat.{ℕ, suc, ◌+◌, ◌-◌, ◌^◌, ◌≤◌, ◌<◌}
 use native.Mathlib.Omega.{arith}
 use mathlib.Core.Bool.{Bool, true, false, cond}
@@ -24,7 +24,8 @@ use Rattle.agreement.proofs.invariant.PlaceFacts.{life_low}
 use Rattle.agreement.proofs.history.Ghost.{LoggedVersion, at, LoggedCommit, find, cell, count}
 use Rattle.agreement.proofs.history.ListLaws.{same?}
 use Rattle.agreement.proofs.history.SlotLaws.{count_set}
-use Rattle.agreement.proofs.invariant.Invariant.{life_num, life_time, life_clock, num_at, time_at, table_num, table_time, Covered, Lively, Living, Opens}
+use Rattle.agreement.proofs.invariant.Invariant.{life_num, life_time, life_clock, num_at, time_at, table_num}
+use Rattle.agreement.proofs.invariant.Invariant.{table_time, Covered, Lively, Living, Opens}
 use Rattle.agreement.proofs.invariant.PlaceSet.{place_at_same, place_at_other, covered_set, living_set}
 
 -- ---- each place keeps its life or is free
@@ -45,7 +46,8 @@ abbrev pub AllKept : List Place → List Place → Type 0
 AllKept ps qs = (i : ℕ) → i < 64 → Kept (place_at ps i).life (place_at qs i).life
 
 -- so what is asked of active places and of the table still holds
-pub opens_kept : {vs : List LoggedVersion} {next : ℕ} {os : List Opened} {ps qs : List Place} → AllKept ps qs → Opens vs next os ps → Opens vs next os qs
+pub opens_kept : {vs : List LoggedVersion} {next : ℕ} {os : List Opened} {ps qs : List Place} → AllKept ps qs
+    → Opens vs next os ps → Opens vs next os qs
 opens_kept {vs} {next} {os} {ps} {qs} k o = record {
   clocks = λ i h. clocks' i h (place_at qs i).life (k i h);
   short = λ i h. short' i h (place_at qs i).life (k i h);
@@ -54,7 +56,8 @@ opens_kept {vs} {next} {os} {ps} {qs} k o = record {
   known = λ i h. known' i h (place_at qs i).life (k i h);
 }
   where
-    clocks' : (i : ℕ) → i < 64 → (y : Life) → Kept (place_at ps i).life y → 0 < life_num y → life_time y ≡ 0 → clock_in os (life_num y) ≡ life_clock y
+    clocks' : (i : ℕ) → i < 64 → (y : Life) → Kept (place_at ps i).life y → 0 < life_num y → life_time y ≡ 0
+        → clock_in os (life_num y) ≡ life_clock y
     clocks' i h y same = o.clocks i h
     clocks' i h y freed = λ z. absurd (omega arith)
 
@@ -62,19 +65,23 @@ opens_kept {vs} {next} {os} {ps} {qs} k o = record {
     short' i h y same = o.short i h
     short' i h y freed = omega arith
 
-    held' : (i : ℕ) → i < 64 → (y : Life) → Kept (place_at ps i).life y → 0 < life_num y → life_time y ≡ 0 → (j n : ℕ) → j < n → n < length vs
+    held' : (i : ℕ) → i < 64 → (y : Life) → Kept (place_at ps i).life y → 0 < life_num y → life_time y ≡ 0 → (j n : ℕ)
+        → j < n → n < length vs
         → (at vs j).num ≡ life_num y → (at vs j).key ≡ (at vs n).key → (at vs n).num ≡ life_num y
     held' i h y same = o.held i h
     held' i h y freed = λ z. absurd (omega arith)
 
-    known' : (i : ℕ) → i < 64 → (y : Life) → Kept (place_at ps i).life y → 0 < life_num y → life_time y ≡ 0 → is_open os (life_num y) ≡ true
+    known' : (i : ℕ) → i < 64 → (y : Life) → Kept (place_at ps i).life y → 0 < life_num y → life_time y ≡ 0
+        → is_open os (life_num y) ≡ true
     known' i h y same = o.known i h
     known' i h y freed = λ z. absurd (omega arith)
 
-pub covered_kept : (m : List ℕ) (cs : List LoggedCommit) (ps qs : List Place) (o n : ℕ) → n ≤ 64 → AllKept ps qs → Covered m cs ps o n → Covered m cs qs o n
+pub covered_kept : (m : List ℕ) (cs : List LoggedCommit) (ps qs : List Place) (o n : ℕ) → n ≤ 64 → AllKept ps qs
+    → Covered m cs ps o n → Covered m cs qs o n
 covered_kept m cs ps qs o n le k c i h = go (place_at qs i).life (k i (omega arith))
   where
-    go : (y : Life) → Kept (place_at ps i).life y → 0 < life_time y → (find cs (life_num y)).seq < o → (table_num m i ≡ life_num y) × (table_time m i ≡ life_time y)
+    go : (y : Life) → Kept (place_at ps i).life y → 0 < life_time y → (find cs (life_num y)).seq < o
+        → (table_num m i ≡ life_num y) × (table_time m i ≡ life_time y)
     go y same = c i h
     go y freed = λ z. absurd (omega arith)
 
@@ -88,7 +95,8 @@ pub lowers : (c : ℕ) (p : Place) → p.waiting ≡ suc c → Lowers c p (lower
 unfolding lowered
 lowers c p e = go (leb p.waiting 1) refl
   where
-    go : (t : Bool) → leb p.waiting 1 ≡ t → Lowers c p (cond t free_place (record { life = p.life; waiting = p.waiting - 1 }))
+    go : (t : Bool) → leb p.waiting 1 ≡ t → Lowers c p
+        (cond t free_place (record { life = p.life; waiting = p.waiting - 1 }))
     go true f = gone (omega (arith, e, leb-true p.waiting 1 f))
     go false f =
         let q : c ≡ p.waiting - 1 = omega (arith, e) in
@@ -99,26 +107,32 @@ lowers_kept : (c : ℕ) (p q : Place) → Lowers c p q → Kept p.life q.life
 lowers_kept c p q (gone e) = freed
 lowers_kept c p q (less z) = same
 
-pub lowered_kept : (ps : List Place) (j : ℕ) → length ps ≡ 64 → j < 64 → 0 < (place_at ps j).waiting → AllKept ps (set ps j (lowered (place_at ps j)))
+pub lowered_kept : (ps : List Place) (j : ℕ) → length ps ≡ 64 → j < 64 → 0 < (place_at ps j).waiting
+    → AllKept ps (set ps j (lowered (place_at ps j)))
 lowered_kept ps j l h w i a = go (same? i j)
   where
     low : Kept (place_at ps j).life (lowered (place_at ps j)).life
-    low = lowers_kept ((place_at ps j).waiting - 1) (place_at ps j) (lowered (place_at ps j)) (lowers ((place_at ps j).waiting - 1) (place_at ps j) (omega arith))
+    low =
+        lowers_kept ((place_at ps j).waiting - 1) (place_at ps j) (lowered (place_at ps j))
+        (lowers ((place_at ps j).waiting - 1) (place_at ps j) (omega arith))
 
     go : (i ≡ j) ⊎ (i ≢ j) → Kept (place_at ps i).life (place_at (set ps j (lowered (place_at ps j))) i).life
     go (inl e) = rw (e, place_at_same ps j (lowered (place_at ps j)) l h) low
     go (inr e) = rw (place_at_other ps j i (lowered (place_at ps j)) e) same
 
 -- slot x, which waited under number n of place j, is stamped
-module _ {m : List ℕ} {cs : List LoggedCommit} {cells : List Cell} {o next : ℕ} {ps : List Place} (v : Living m cs cells o next ps)
-    (x : ℕ) (inside : x < length cells) (n : TxNumber) (waits : (cell cells x).state ≡ Waiting n) (new : Cell) (t : CommitTime) (stamp : new.state ≡ Stamped t)
+module _ {m : List ℕ} {cs : List LoggedCommit} {cells : List Cell} {o next : ℕ} {ps : List Place}
+    (v : Living m cs cells o next ps)
+    (x : ℕ) (inside : x < length cells) (n : TxNumber) (waits : (cell cells x).state ≡ Waiting n) (new : Cell)
+    (t : CommitTime) (stamp : new.state ≡ Stamped t)
     (j : ℕ) (h : j < 64) (num : num_at ps j ≡ n.0) (time : 0 < time_at ps j) where
   abbrev cells' : List Cell
   cells' = set cells x new
 
   step : (a : ℕ) → count a cells' + cond (eqb n.0 a) 1 0 ≡ count a cells
   step a =
-      let e : count a cells' + cond (waits_under (cell cells x).state a) 1 0 ≡ count a cells + cond (waits_under new.state a) 1 0 = count_set a x cells new inside in
+      let e : count a cells' + cond (waits_under (cell cells x).state a) 1 0
+      ≡ count a cells + cond (waits_under new.state a) 1 0 = count_set a x cells new inside in
       omega (
         arith,
         e,
@@ -191,7 +205,8 @@ module _ {m : List ℕ} {cs : List LoggedCommit} {cells : List Cell} {o next : �
   num_stays y (less w) z = num
 
   covered_own : (a b : ℕ) → Covered m cs ps a b → j < b → (y : Place) → Lowers (count n.0 cells') (place_at ps j) y
-      → 0 < life_time y.life → (find cs (life_num y.life)).seq < a → (table_num m j ≡ life_num y.life) × (table_time m j ≡ life_time y.life)
+      → 0 < life_time y.life → (find cs (life_num y.life)).seq < a
+      → (table_num m j ≡ life_num y.life) × (table_time m j ≡ life_time y.life)
   covered_own a b c k y (gone e) z = absurd (omega arith)
   covered_own a b c k y (less w) z = c j k z
 
@@ -199,17 +214,21 @@ module _ {m : List ℕ} {cs : List LoggedCommit} {cells : List Cell} {o next : �
   living_lowered = living_set v m cs cells' o next j h (lowered (place_at ps j))
       (lively_own (lowered (place_at ps j)) down)
       lively_other
-      (λ i a d z e. d (v.distinct i j a h (omega (arith, z, e)) (e ∙ num_own (lowered (place_at ps j)) down z ∙ sym num)))
+      (λ i a d z e. d (v.distinct i j a h (omega (arith, z, e))
+      (e ∙ num_own (lowered (place_at ps j)) down z ∙ sym num)))
       (λ a w z. all' a w (v.all a (omega (arith, fewer a)) z))
-      (covered_set m cs ps j (lowered (place_at ps j)) o 64 v.size h (covered_own o 64 v.covered h (lowered (place_at ps j)) down) (λ i a d. v.covered i a))
+      (covered_set m cs ps j (lowered (place_at ps j)) o 64 v.size h
+      (covered_own o 64 v.covered h (lowered (place_at ps j)) down) (λ i a d. v.covered i a))
       (λ z w. let e = v.home j h z (omega (arith, fewer (table_num m j))) in
       num_stays (lowered (place_at ps j)) down (subst (λ (b : ℕ). 0 < count b cells') (sym e ∙ num) w) ∙ sym num ∙ e)
       (λ i a d z w. v.home i a z (omega (arith, fewer (table_num m i))))
     where
-      all' : (a : ℕ) → 0 < count a cells' → (i : ℕ) × (i < 64) × (num_at ps i ≡ a) → (life_num (lowered (place_at ps j)).life ≡ a) ⊎ ((i : ℕ) × (i < 64) × (i ≢ j) × (num_at ps i ≡ a))
+      all' : (a : ℕ) → 0 < count a cells' → (i : ℕ) × (i < 64) × (num_at ps i ≡ a)
+          → (life_num (lowered (place_at ps j)).life ≡ a) ⊎ ((i : ℕ) × (i < 64) × (i ≢ j) × (num_at ps i ≡ a))
       all' a w (i, b, e) = go (same? i j)
         where
-          go : (i ≡ j) ⊎ (i ≢ j) → (life_num (lowered (place_at ps j)).life ≡ a) ⊎ ((i : ℕ) × (i < 64) × (i ≢ j) × (num_at ps i ≡ a))
+          go : (i ≡ j) ⊎ (i ≢ j) → (life_num (lowered (place_at ps j)).life ≡ a)
+              ⊎ ((i : ℕ) × (i < 64) × (i ≢ j) × (num_at ps i ≡ a))
           go (inr d) = inr (i, b, d, e)
           go (inl d) =
               let f : n.0 ≡ a = sym num ∙ ap (λ (y : ℕ). num_at ps y) (sym d) ∙ e in

@@ -27,7 +27,8 @@ use Rattle.agreement.proofs.invariant.Invariant.{Stored, up_to, Pending, Up, Inv
 use Rattle.agreement.proofs.invariant.PlaceSet.{phase_map, covered_same, living_same}
 use Rattle.agreement.proofs.logging.Growth.{with_log, storing, pairs_stay}
 
-module _ {l d : ℕ} {m c : List ℕ} {s : State} {b : Book} {disk : Disk} {closed : List (List Record)} {tail : List Record} (u : Up l d m c s b disk closed tail) where
+module _ {l d : ℕ} {m c : List ℕ} {s : State} {b : Book} {disk : Disk} {closed : List (List Record)}
+    {tail : List Record} (u : Up l d m c s b disk closed tail) where
   abbrev pub history : List (List Record)
   history = closed ++ (tail ∷ [])
 
@@ -38,7 +39,8 @@ module _ {l d : ℕ} {m c : List ℕ} {s : State} {b : Book} {disk : Disk} {clos
   new_disk = with_log disk history
 
   tail_size : length (flat record_bytes tail) ≡ size_of tail
-  tail_size = size_flat tail (sound_sized d tail (each_right (BlockSound d) closed (tail ∷ []) u.medium.log.shape.sound).0.each)
+  tail_size =
+      size_flat tail (sound_sized d tail (each_right (BlockSound d) closed (tail ∷ []) u.medium.log.shape.sound).0.each)
 
   tail_fits : length (flat record_bytes tail) ≤ 502
   tail_fits = omega (arith, tail_size, (each_right (BlockSound d) closed (tail ∷ []) u.medium.log.shape.sound).0.fits)
@@ -51,21 +53,29 @@ module _ {l d : ℕ} {m c : List ℕ} {s : State} {b : Book} {disk : Disk} {clos
   unfolding tail_end
   end_is =
       rw (tail_sequence u)
-      (ap (end_place (length closed)) (ap used_of u.state.tail_block ∙ used_log_bytes (length closed) tail tail_fits ∙ ap (λ (n : ℕ). 10 + n) tail_size))
+      (ap (end_place (length closed)) (ap used_of u.state.tail_block ∙ used_log_bytes (length closed) tail tail_fits
+      ∙ ap (λ (n : ℕ). 10 + n) tail_size))
 
   mark_is : Stored closed tail (closed ++ (tail ∷ [])) (tail_end s.tail).0
   mark_is =
       subst (λ (e : ℕ). Stored closed tail (closed ++ (tail ∷ [])) e) (sym end_is)
-      (subst (λ (rs : List Record). Stored closed tail (closed ++ (rs ∷ [])) (end_place (length closed) (10 + size_of rs))) (take_all (length tail) tail (omega arith))
+      (subst (λ (rs : List Record). Stored closed tail (closed ++ (rs ∷ []))
+      (end_place (length closed) (10 + size_of rs))) (take_all (length tail) tail (omega arith))
       (up_to (length tail) (omega arith)))
 
   pairs : (i : ℕ) → i < 64 → table_pair medium i ≡ table_pair m i
   pairs = pairs_stay u.medium u.state.ring_low u.state.ring_high u.state.mark
 
   pub later : last_of (commits_of disk.stored) ≤ last_of (commits_of history)
-  later = omega (arith, ap last_of (commits_split u.medium), last_append (commits_of disk.stored) (commits_in u.medium.log.shape.rest))
+  later =
+      omega (
+        arith,
+        ap last_of (commits_split u.medium),
+        last_append (commits_of disk.stored) (commits_in u.medium.log.shape.rest),
+      )
 
-  pub log_up : Up l d medium c (log_stored s) (record { opened = b.opened; rows = b.rows; stored = length b.rows }) new_disk closed tail
+  pub log_up : Up l d medium c (log_stored s) (record { opened = b.opened; rows = b.rows; stored = length b.rows })
+      new_disk closed tail
   unfolding log_stored
   log_up = record {
     medium = storing u.medium u.state.ring_low u.state.ring_high u.state.mark;
@@ -87,7 +97,9 @@ module _ {l d : ℕ} {m c : List ℕ} {s : State} {b : Book} {disk : Disk} {clos
     firsts = u.firsts;
     living = living_same m medium pairs u.living;
     opens = u.opens;
-    phase = phase_map s.phase d m medium disk new_disk (commits_of history) (commits_of history) s.places s.places s.first s.first (length closed) (length closed) goes_on u.phase;
+    phase =
+        phase_map s.phase d m medium disk new_disk (commits_of history) (commits_of history) s.places s.places s.first
+        s.first (length closed) (length closed) goes_on u.phase;
     rows = u.rows;
     stored = ap length u.rows ∙ length_rows (records history);
   }
@@ -105,4 +117,6 @@ module _ {l d : ℕ} {m c : List ℕ} {s : State} {b : Book} {disk : Disk} {clos
 
   pub log_stored_law : Inv l d (up (stored_tail s.blocks m s.tail) c (log_stored s))
       (record { opened = b.opened; rows = b.rows; stored = length b.rows })
-  log_stored_law = subst (λ (x : List ℕ). Inv l d (up x c (log_stored s)) (record { opened = b.opened; rows = b.rows; stored = length b.rows })) (sym medium_is) (running log_up)
+  log_stored_law =
+      subst (λ (x : List ℕ). Inv l d (up x c (log_stored s))
+      (record { opened = b.opened; rows = b.rows; stored = length b.rows })) (sym medium_is) (running log_up)

@@ -1,5 +1,5 @@
--- Store page: the page stamped and stored, and the places counted down. The page's last version is stored (question 12),
--- so the page holds stored versions only; StampLaws says what the page and the places then are.
+-- Store page: the page stamped and stored, and the places counted down. The page's last version is stored (question
+-- 12), so the page holds stored versions only; StampLaws says what the page and the places then are.
 use Prim.Native.Nat.{ℕ, zero, suc, ◌+◌, ◌-◌, ◌*◌, ◌/◌, ◌%◌, ◌≤◌, ◌<◌}
 use native.Mathlib.Omega.{arith}
 use mathlib.Core.Bool.{Bool, cond}
@@ -49,7 +49,8 @@ unfolding on_with
 on_other on p n q h = ap (λ (t : Bool). cond t n (on q)) (ne_eqb q p h)
 
 -- page p has no first change
-pub firsts_cleared : {d : ℕ} {vs : List LoggedVersion} {on : ℕ → ℕ} {o q : ℕ} {first : List ℕ} → Firsts d vs on (length vs) o q first
+pub firsts_cleared : {d : ℕ} {vs : List LoggedVersion} {on : ℕ → ℕ} {o q : ℕ} {first : List ℕ}
+    → Firsts d vs on (length vs) o q first
     → (p : ℕ) → p < 64 → Firsts d vs (on_with on p (full (length vs) p)) (length vs) o q (set first p 0)
 firsts_cleared {d} {vs} {on} {o} {q} {first} f p h = record {
   size = length-set first p 0 ∙ f.size;
@@ -61,8 +62,11 @@ firsts_cleared {d} {vs} {on} {o} {q} {first} f p h = record {
   where
     noted' : (n : ℕ) → n < length vs → (n / 15 ≡ p) ⊎ (n / 15 ≢ p) → on_with on p (full (length vs) p) (n / 15) ≤ n % 15
         → (0 < get_or (set first p 0) (n / 15) 0) × (get_or (set first p 0) (n / 15) 0 ≤ (at vs n).seq)
-    noted' n a (inl e) z = absurd (omega (arith, ap (on_with on p (full (length vs) p)) e, on_same on p (full (length vs) p)))
-    noted' n a (inr e) z = rw (get_or-set_other first p (n / 15) 0 0 e) (f.noted n a (rw (on_other on p (full (length vs) p) (n / 15) e) at z))
+    noted' n a (inl e) z =
+        absurd (omega (arith, ap (on_with on p (full (length vs) p)) e, on_same on p (full (length vs) p)))
+    noted' n a (inr e) z =
+        rw (get_or-set_other first p (n / 15) 0 0 e)
+        (f.noted n a (rw (on_other on p (full (length vs) p) (n / 15) e) at z))
 
     low' : (i : ℕ) → i < d → (i ≡ p) ⊎ (i ≢ p) → 0 < get_or (set first p 0) i 0 → o ≤ get_or (set first p 0) i 0
     low' i a (inl e) z = absurd (omega (arith, rw e at z, get_or-set_same first p 0 0 (omega (arith, f.size))))
@@ -72,11 +76,14 @@ firsts_cleared {d} {vs} {on} {o} {q} {first} f p h = record {
     high' i a (inl e) = rw (e, get_or-set_same first p 0 0 (omega (arith, f.size))) (omega arith)
     high' i a (inr e) = rw (get_or-set_other first p i 0 0 e) (f.high i a)
 
-    lacks' : (i : ℕ) → i < d → (i ≡ p) ⊎ (i ≢ p) → 0 < get_or (set first p 0) i 0 → on_with on p (full (length vs) p) i < full (length vs) i
+    lacks' : (i : ℕ) → i < d → (i ≡ p) ⊎ (i ≢ p) → 0 < get_or (set first p 0) i 0
+        → on_with on p (full (length vs) p) i < full (length vs) i
     lacks' i a (inl e) z = absurd (omega (arith, rw e at z, get_or-set_same first p 0 0 (omega (arith, f.size))))
-    lacks' i a (inr e) z = rw (on_other on p (full (length vs) p) i e) (f.lacks i a (rw (get_or-set_other first p i 0 0 e) at z))
+    lacks' i a (inr e) z =
+        rw (on_other on p (full (length vs) p) i e) (f.lacks i a (rw (get_or-set_other first p i 0 0 e) at z))
 
-module _ {l d : ℕ} {m c : List ℕ} {s : State} {b : Book} {disk : Disk} {closed : List (List Record)} {tail : List Record} (u : Up l d m c s b disk closed tail) where
+module _ {l d : ℕ} {m c : List ℕ} {s : State} {b : Book} {disk : Disk} {closed : List (List Record)}
+    {tail : List Record} (u : Up l d m c s b disk closed tail) where
   abbrev pub history : List (List Record)
   history = closed ++ (tail ∷ [])
 
@@ -91,7 +98,8 @@ module _ {l d : ℕ} {m c : List ℕ} {s : State} {b : Book} {disk : Disk} {clos
             let lt : 15 * p + x < length (versions_of history) = omega (arith, e) in
             let z : page_end (blk c p) ≡ (at (versions_of history) (15 * p + x)).end =
             ap page_end (u.cache.pages p inside ∙ ap (λ (y : ℕ). page_with (versions_of history) disk.cells p y) e)
-            ∙ end_page (versions_of history) disk.cells p (suc x) (omega (arith, near d history u.medium.log.shape.sound (15 * p + x) lt, u.medium.log.shape.top)) in
+            ∙ end_page (versions_of history) disk.cells p (suc x)
+            (omega (arith, near d history u.medium.log.shape.sound (15 * p + x) lt, u.medium.log.shape.top)) in
             omega (arith, version_marked u.medium u.state.mark (15 * p + x) lt (omega (arith, z, ended)))
 
     abbrev pub page : List ℕ
@@ -103,7 +111,8 @@ module _ {l d : ℕ} {m c : List ℕ} {s : State} {b : Book} {disk : Disk} {clos
     abbrev pub new_medium : List ℕ
     new_medium = put m place page
 
-    abbrev pub turned : Turned m disk (versions_of history) (commits_of history) s.next.0 s.places (stored_pair s) p 15 (stamped_page s (blk c p)) (settled s (blk c p))
+    abbrev pub turned : Turned m disk (versions_of history) (commits_of history) s.next.0 s.places (stored_pair s) p 15
+        (stamped_page s (blk c p)) (settled s (blk c p))
     turned = page_turned u p inside
 
     abbrev pub N : ℕ
@@ -113,7 +122,16 @@ module _ {l d : ℕ} {m c : List ℕ} {s : State} {b : Book} {disk : Disk} {clos
     on = on_with disk.on p (full N p)
 
     abbrev pub new_disk : Disk
-    new_disk = record { oldest = disk.oldest; next = disk.next; time = disk.time; stored = disk.stored; cells = turned.cells; on = on }
+    new_disk =
+        record {
+          oldest = disk.oldest;
+          next = disk.next;
+          time = disk.time;
+          stored = disk.stored;
+          cells =
+              turned.cells;
+          on = on;
+        }
 
     sized : Each SlotSized turned.cells
     sized = match_sized u.medium turned.cells turned.size turned.match
@@ -132,7 +150,8 @@ module _ {l d : ℕ} {m c : List ℕ} {s : State} {b : Book} {disk : Disk} {clos
     pairs : (i : ℕ) → i < 64 → table_pair new_medium i ≡ table_pair m i
     pairs i h = table_pair_other m i place page page_length (λ e. omega (arith, page_block_low l p))
 
-    other_page : (q x : ℕ) → q ≢ p → x ≤ 15 → page_with (versions_of history) disk.cells q x ≡ page_with (versions_of history) turned.cells q x
+    other_page : (q x : ℕ) → q ≢ p → x ≤ 15 → page_with (versions_of history) disk.cells q x
+        ≡ page_with (versions_of history) turned.cells q x
     other_page q x e h =
         page_with_ext (versions_of history) disk.cells turned.cells q x (u.medium.pages.slots.count ∙ sym turned.size)
         (λ i a. sym (turned.off (15 * q + i) (omega arith)))
@@ -141,11 +160,13 @@ module _ {l d : ℕ} {m c : List ℕ} {s : State} {b : Book} {disk : Disk} {clos
     few' q (inl e) = rw (e, on_same disk.on p (full N p)) (omega arith, ahead)
     few' q (inr e) = rw (on_other disk.on p (full N p) q e) (u.medium.pages.few q)
 
-    page' : (q : ℕ) → q < d → (q ≡ p) ⊎ (q ≢ p) → blk new_medium (page_block_at l q) ≡ page_with (versions_of history) turned.cells q (on q)
+    page' : (q : ℕ) → q < d → (q ≡ p) ⊎ (q ≢ p) → blk new_medium (page_block_at l q)
+        ≡ page_with (versions_of history) turned.cells q (on q)
     page' q h (inl e) = rw (e, on_same disk.on p (full N p)) (blk_same m place page page_length within ∙ turned.bytes)
     page' q h (inr e) =
         rw (on_other disk.on p (full N p) q e)
-        (blk_other m place page (page_block_at l q) page_length (page_blocks_apart l q p e) ∙ u.medium.pages.page q h ∙ other_page q (disk.on q) e (u.medium.pages.few q).0)
+        (blk_other m place page (page_block_at l q) page_length (page_blocks_apart l q p e) ∙ u.medium.pages.page q h
+        ∙ other_page q (disk.on q) e (u.medium.pages.few q).0)
 
     absent : (n : ℕ) → n < N → on (n / 15) ≤ n % 15 → (n / 15 ≢ p) × (disk.on (n / 15) ≤ n % 15)
     absent n h z = go (same? (n / 15) p)
@@ -154,15 +175,22 @@ module _ {l d : ℕ} {m c : List ℕ} {s : State} {b : Book} {disk : Disk} {clos
         go (inl e) = absurd (omega (arith, ap on e, on_same disk.on p (full N p)))
         go (inr e) = (e, rw (on_other disk.on p (full N p) (n / 15) e) at z)
 
-    cache' : (q : ℕ) → q < d → (q ≡ p) ⊎ (q ≢ p) → blk (put c p page) q ≡ page_with (versions_of history) turned.cells q (full N q)
+    cache' : (q : ℕ) → q < d → (q ≡ p) ⊎ (q ≢ p) → blk (put c p page) q
+        ≡ page_with (versions_of history) turned.cells q (full N q)
     cache' q h (inl e) = rw e (blk_same c p page page_length within_cache ∙ turned.bytes)
-    cache' q h (inr e) = blk_other c p page q page_length e ∙ u.cache.pages q h ∙ other_page q (full N q) e (omega arith)
+    cache' q h (inr e) =
+        blk_other c p page q page_length e ∙ u.cache.pages q h ∙ other_page q (full N q) e (omega arith)
 
     cleared : (q : ℕ) → 0 < get_or (set s.first p 0) q 0 → get_or (set s.first p 0) q 0 ≡ get_or s.first q 0
     cleared q z = go (same? q p) z
       where
         go : (q ≡ p) ⊎ (q ≢ p) → 0 < get_or (set s.first p 0) q 0 → get_or (set s.first p 0) q 0 ≡ get_or s.first q 0
-        go (inl e) z = absurd (omega (arith, rw e at z, get_or-set_same s.first p 0 0 (omega (arith, u.firsts.size, u.medium.sizes.range.pages_high))))
+        go (inl e) z =
+            absurd (omega (
+              arith,
+              rw e at z,
+              get_or-set_same s.first p 0 0 (omega (arith, u.firsts.size, u.medium.sizes.range.pages_high)),
+            ))
         go (inr e) z = get_or-set_other s.first p q 0 0 e
 
     pub page_up : Up l d new_medium (put c p page) (page_stored s p (blk c p)) b new_disk closed tail
@@ -176,8 +204,12 @@ module _ {l d : ℕ} {m c : List ℕ} {s : State} {b : Book} {disk : Disk} {clos
         };
         log = record {
           shape = u.medium.log.shape;
-          blocks = λ q a h. blk_other m place page (log_block_at l q) page_length (log_page_apart l q p (omega (arith, u.medium.sizes.range.blocks_low))) ∙ u.medium.log.blocks q a h;
-          fresh = λ j h. rw (blk_other m place page (3 + j) page_length (λ e. omega (arith, page_block_low l p))) (u.medium.log.fresh j h);
+          blocks =
+              λ q a h. blk_other m place page (log_block_at l q) page_length
+              (log_page_apart l q p (omega (arith, u.medium.sizes.range.blocks_low))) ∙ u.medium.log.blocks q a h;
+          fresh =
+              λ j h. rw (blk_other m place page (3 + j) page_length (λ e. omega (arith, page_block_low l p)))
+              (u.medium.log.fresh j h);
         };
         pages = record {
           slots = record {
@@ -200,13 +232,16 @@ module _ {l d : ℕ} {m c : List ℕ} {s : State} {b : Book} {disk : Disk} {clos
       firsts = firsts_cleared u.firsts p (omega (arith, inside, u.medium.sizes.range.pages_high));
       living = living_same m new_medium pairs turned.living;
       opens = opens_kept turned.kept u.opens;
-      phase = phase_map s.phase d m new_medium disk new_disk (commits_of history) (commits_of history) s.places (settled s (blk c p)) s.first (set s.first p 0) (length closed) (length closed) goes_on u.phase;
+      phase =
+          phase_map s.phase d m new_medium disk new_disk (commits_of history) (commits_of history) s.places
+          (settled s (blk c p)) s.first (set s.first p 0) (length closed) (length closed) goes_on u.phase;
       rows = u.rows;
       stored = u.stored;
     }
       where
         goes_on : (o t n : ℕ) → n ≤ 64 → Pending d m disk (commits_of history) s.places s.first (length closed) o t n
-            → Pending d new_medium new_disk (commits_of history) (settled s (blk c p)) (set s.first p 0) (length closed) o t n
+            → Pending d new_medium new_disk (commits_of history) (settled s (blk c p)) (set s.first p 0)
+            (length closed) o t n
         goes_on o t n h q = record {
           above = q.above;
           below = q.below;
@@ -220,5 +255,7 @@ module _ {l d : ℕ} {m c : List ℕ} {s : State} {b : Book} {disk : Disk} {clos
   pub page_stored_law : (p : ℕ) → Passed (store_page_asks s m c p) → Inv l d (after (store_page_if none s m c p)) b
   unfolding store_page_if
   page_stored_law p a =
-      subst (λ (x : ℕ). Inv l d (up (put m (page_block_at x p) (stamped_page s (blk c p))) (put c p (stamped_page s (blk c p))) (page_stored s p (blk c p))) b) (sym u.state.blocks)
-      (running (page_up p (omega (arith, ltb-true p s.pages a.1.0, u.state.pages)) (leb-true (page_end (blk c p)) s.end.0 a.1.1.0)))
+      subst (λ (x : ℕ). Inv l d (up (put m (page_block_at x p) (stamped_page s (blk c p)))
+      (put c p (stamped_page s (blk c p))) (page_stored s p (blk c p))) b) (sym u.state.blocks)
+      (running (page_up p (omega (arith, ltb-true p s.pages a.1.0, u.state.pages))
+      (leb-true (page_end (blk c p)) s.end.0 a.1.1.0)))

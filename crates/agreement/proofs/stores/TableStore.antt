@@ -35,15 +35,18 @@ use Rattle.agreement.proofs.history.VersionLaws.{near_commits}
 use Rattle.agreement.proofs.invariant.MediumFacts.{last_high}
 use Rattle.agreement.proofs.invariant.StoredFacts.{commit_closed}
 use Rattle.agreement.proofs.invariant.PlaceFacts.{life_low}
-use Rattle.agreement.proofs.invariant.Invariant.{life_num, life_time, life_end, Formed, num_at, time_at, table_num, table_time, TableOn, OnMedium, Covered, Living, PhaseIs, Up}
+use Rattle.agreement.proofs.invariant.Invariant.{life_num, life_time, life_end, Formed, num_at, time_at, table_num}
+use Rattle.agreement.proofs.invariant.Invariant.{table_time, TableOn, OnMedium, Covered, Living, PhaseIs, Up}
 
 -- ---- a table block
 
-get_d_pairs_from : (ps : List Place) (o i k j : ℕ) → j < k → get_or (pairs_from ps o i k) j no_pair ≡ pair_below o (place_at ps (i + j)).life
+get_d_pairs_from : (ps : List Place) (o i k j : ℕ) → j < k → get_or (pairs_from ps o i k) j no_pair
+    ≡ pair_below o (place_at ps (i + j)).life
 unfolding pairs_from
 get_d_pairs_from ps o i zero j h = absurd (omega arith)
 get_d_pairs_from ps o i (suc k) zero h = let e : i + 0 ≡ i = omega arith in rw e
-get_d_pairs_from ps o i (suc k) (suc j) h = let e : i + 1 + j ≡ i + suc j = omega arith in rw e at (get_d_pairs_from ps o (i + 1) k j (le_of_suc-le-suc h))
+get_d_pairs_from ps o i (suc k) (suc j) h =
+    let e : i + 1 + j ≡ i + suc j = omega arith in rw e at (get_d_pairs_from ps o (i + 1) k j (le_of_suc-le-suc h))
 
 -- what the table is to have of a place: nothing, or the pair of a commit below block o
 pub data Tabled (o : ℕ) (x : Life) (p : Pair) : Type 0 where
@@ -55,11 +58,13 @@ tabled o Free f = none refl refl (λ z. absurd (omega arith))
 tabled o (Active n k) f = none refl refl (λ z. absurd (omega arith))
 tabled o (Committed n t e) f = go (leb e.0 (512 * o)) refl
   where
-    go : (y : Bool) → leb e.0 (512 * o) ≡ y → Tabled o (Committed n t e) (cond y (record { number = n; time = t }) no_pair)
+    go : (y : Bool) → leb e.0 (512 * o) ≡ y
+        → Tabled o (Committed n t e) (cond y (record { number = n; time = t }) no_pair)
     go true q = some refl refl f.1 (leb-true _ _ q)
     go false q = none refl refl (λ z w. omega (arith, leb-false e.0 (512 * o) q))
 
-module _ {l d : ℕ} {m c : List ℕ} {s : State} {b : Book} {disk : Disk} {closed : List (List Record)} {tail : List Record} (u : Up l d m c s b disk closed tail)
+module _ {l d : ℕ} {m c : List ℕ} {s : State} {b : Book} {disk : Disk} {closed : List (List Record)}
+    {tail : List Record} (u : Up l d m c s b disk closed tail)
     (t : ℕ) (two : t < 2) (o : ℕ) (above : disk.oldest ≤ o) (below : o ≤ length closed) where
   abbrev cs : List LoggedCommit
   cs = commits_of (closed ++ (tail ∷ []))
@@ -78,23 +83,31 @@ module _ {l d : ℕ} {m c : List ℕ} {s : State} {b : Book} {disk : Disk} {clos
   inside = rw u.medium.sizes.size (first_in_medium l d (1 + t) (omega arith))
 
   -- a commit lies below block o just if its end place does
-  ends_near : (i : ℕ) → i < 64 → 0 < time_at s.places i → (life_end (place_at s.places i).life ≤ 512 * o → (find cs (num_at s.places i)).seq < o) × ((find cs (num_at s.places i)).seq < o → life_end (place_at s.places i).life ≤ 512 * o)
+  ends_near : (i : ℕ) → i < 64 → 0 < time_at s.places i
+      → (life_end (place_at s.places i).life ≤ 512 * o → (find cs (num_at s.places i)).seq < o)
+      × ((find cs (num_at s.places i)).seq < o → life_end (place_at s.places i).life ≤ 512 * o)
   ends_near i h z = go ((u.living.each i h).place z)
     where
-      near_find : (512 * (find cs (num_at s.places i)).seq + 10 < (find cs (num_at s.places i)).end) × ((find cs (num_at s.places i)).end ≤ 512 * (find cs (num_at s.places i)).seq + 512) × ((find cs (num_at s.places i)).seq < length (closed ++ (tail ∷ [])))
+      near_find : (512 * (find cs (num_at s.places i)).seq + 10 < (find cs (num_at s.places i)).end)
+          × ((find cs (num_at s.places i)).end ≤ 512 * (find cs (num_at s.places i)).seq + 512)
+          × ((find cs (num_at s.places i)).seq < length (closed ++ (tail ∷ [])))
       near_find =
-          find_each (num_at s.places i) (λ (x : LoggedCommit). (512 * x.seq + 10 < x.end) × (x.end ≤ 512 * x.seq + 512) × (x.seq < length (closed ++ (tail ∷ [])))) cs
+          find_each (num_at s.places i) (λ (x : LoggedCommit). (512 * x.seq + 10 < x.end) × (x.end ≤ 512 * x.seq + 512)
+          × (x.seq < length (closed ++ (tail ∷ [])))) cs
           (near_commits d (closed ++ (tail ∷ [])) u.medium.log.shape.sound) (omega (arith, (u.living.each i h).over z))
 
-      go : (life_end (place_at s.places i).life ≡ (find cs (num_at s.places i)).end) ⊎ ((life_end (place_at s.places i).life ≡ 0) × ((find cs (num_at s.places i)).seq < disk.oldest))
-          → (life_end (place_at s.places i).life ≤ 512 * o → (find cs (num_at s.places i)).seq < o) × ((find cs (num_at s.places i)).seq < o → life_end (place_at s.places i).life ≤ 512 * o)
+      go : (life_end (place_at s.places i).life ≡ (find cs (num_at s.places i)).end)
+          ⊎ ((life_end (place_at s.places i).life ≡ 0) × ((find cs (num_at s.places i)).seq < disk.oldest))
+          → (life_end (place_at s.places i).life ≤ 512 * o → (find cs (num_at s.places i)).seq < o)
+          × ((find cs (num_at s.places i)).seq < o → life_end (place_at s.places i).life ≤ 512 * o)
       go (inl e) = (λ w. omega (arith, near_find.0), λ w. omega (arith, near_find.1))
       go (inr e) = (λ w. omega (arith, e.1), λ w. omega (arith, e.0))
 
   sized : (i : ℕ) → i < 64 → PairSized (pair_below o (place_at s.places i).life)
   sized i h = go (tabled o (place_at s.places i).life (u.living.each i h).formed)
     where
-      go : Tabled o (place_at s.places i).life (pair_below o (place_at s.places i).life) → PairSized (pair_below o (place_at s.places i).life)
+      go : Tabled o (place_at s.places i).life (pair_below o (place_at s.places i).life)
+          → PairSized (pair_below o (place_at s.places i).life)
       go (none a e f) = record { number = omega arith; time = omega arith }
       go (some a e z f) = record {
         number = omega (arith, (u.living.each i h).small, u.state.next_high);
@@ -106,7 +119,8 @@ module _ {l d : ℕ} {m c : List ℕ} {s : State} {b : Book} {disk : Disk} {clos
   pair_new i h e =
       let j : i % 32 < 32 = omega arith in
       let w : 32 * t + i % 32 ≡ i = omega arith in
-      let g : get_or (pairs_from s.places o (32 * t) 32) (i % 32) no_pair ≡ pair_below o (place_at s.places i).life = rw w at (get_d_pairs_from s.places o (32 * t) 32 (i % 32) j) in
+      let g : get_or (pairs_from s.places o (32 * t) 32) (i % 32) no_pair ≡ pair_below o (place_at s.places i).life =
+      rw w at (get_d_pairs_from s.places o (32 * t) 32 (i % 32) j) in
       ap (λ (x : ℕ). table_pair (put m (1 + x) new) i) (sym e)
       ∙ table_pair_same m i new length_new (rw e inside)
       ∙ pairs_at (pairs_from s.places o (32 * t) 32) (i % 32) no_pair (rw length_pairs_from j) (rw g (sized i h))
@@ -118,15 +132,21 @@ module _ {l d : ℕ} {m c : List ℕ} {s : State} {b : Book} {disk : Disk} {clos
   -- a place of the new table: as before, or what the places say
   pub data Case (i : ℕ) : Type 0 where
     old : i / 32 ≢ t → table_num m' i ≡ table_num m i → table_time m' i ≡ table_time m i → Case i
-    vacated : i / 32 ≡ t → table_num m' i ≡ 0 → table_time m' i ≡ 0 → (0 < time_at s.places i → (find cs (num_at s.places i)).seq < o → ⊥) → Case i
-    filled : i / 32 ≡ t → table_num m' i ≡ num_at s.places i → table_time m' i ≡ time_at s.places i → 0 < time_at s.places i → (find cs (num_at s.places i)).seq < o → Case i
+    vacated : i / 32 ≡ t → table_num m' i ≡ 0 → table_time m' i ≡ 0
+        → (0 < time_at s.places i → (find cs (num_at s.places i)).seq < o → ⊥) → Case i
+    filled : i / 32 ≡ t → table_num m' i ≡ num_at s.places i → table_time m' i ≡ time_at s.places i
+        → 0 < time_at s.places i → (find cs (num_at s.places i)).seq < o → Case i
 
   case : (i : ℕ) → i < 64 → Case i
   case i h = go (same? (i / 32) t)
     where
       by : i / 32 ≡ t → Tabled o (place_at s.places i).life (pair_below o (place_at s.places i).life) → Case i
-      by e (none a q f) = vacated e (ap (λ (p : Pair). p.number.0) (pair_new i h e) ∙ a) (ap (λ (p : Pair). p.time.0) (pair_new i h e) ∙ q) (λ z w. f z ((ends_near i h z).1 w))
-      by e (some a q z f) = filled e (ap (λ (p : Pair). p.number.0) (pair_new i h e) ∙ a) (ap (λ (p : Pair). p.time.0) (pair_new i h e) ∙ q) z ((ends_near i h z).0 f)
+      by e (none a q f) =
+          vacated e (ap (λ (p : Pair). p.number.0) (pair_new i h e) ∙ a)
+          (ap (λ (p : Pair). p.time.0) (pair_new i h e) ∙ q) (λ z w. f z ((ends_near i h z).1 w))
+      by e (some a q z f) =
+          filled e (ap (λ (p : Pair). p.number.0) (pair_new i h e) ∙ a)
+          (ap (λ (p : Pair). p.time.0) (pair_new i h e) ∙ q) z ((ends_near i h z).0 f)
 
       go : (i / 32 ≡ t) ⊎ (i / 32 ≢ t) → Case i
       go (inl e) = by e (tabled o (place_at s.places i).life (u.living.each i h).formed)
@@ -146,30 +166,41 @@ module _ {l d : ℕ} {m c : List ℕ} {s : State} {b : Book} {disk : Disk} {clos
     apart = λ i j h g. apart' i j h g (case i h) (case j g);
   }
     where
-      pair' : (i : ℕ) → i < 64 → Case i → 0 < table_num m' i → (0 < table_time m' i) × ((find (commits_of disk.stored) (table_num m' i)).time ≡ table_time m' i)
+      pair' : (i : ℕ) → i < 64 → Case i → 0 < table_num m' i
+          → (0 < table_time m' i) × ((find (commits_of disk.stored) (table_num m' i)).time ≡ table_time m' i)
       pair' i h (old e a q) z = rw (a, q) (u.medium.table.pair i h (rw a at z))
       pair' i h (vacated e a q f) z = absurd (omega arith)
       pair' i h (filled e a q y f) z =
           let w = (u.living.each i h).over y in
-          rw (a, q) (y, ap (λ (x : LoggedCommit). x.time) (commit_closed u.medium u.state.mark (num_at s.places i) (omega (arith, w)) (omega (arith, f, below))) ∙ w)
+          rw (a, q) (
+            y,
+            ap (λ (x : LoggedCommit). x.time)
+                (commit_closed u.medium u.state.mark (num_at s.places i) (omega (arith, w)) (omega (arith, f, below)))
+                ∙ w,
+          )
 
       vacant' : (i : ℕ) → i < 64 → Case i → table_num m' i ≡ 0 → table_time m' i ≡ 0
       vacant' i h (old e a q) z = q ∙ u.medium.table.vacant i h (sym a ∙ z)
       vacant' i h (vacated e a q f) z = q
-      vacant' i h (filled e a q y f) z = absurd (omega (arith, life_low (place_at s.places i).life (u.living.each i h).formed y))
+      vacant' i h (filled e a q y f) z =
+          absurd (omega (arith, life_low (place_at s.places i).life (u.living.each i h).formed y))
 
-      mixed : (i j : ℕ) → i < 64 → j < 64 → 0 < time_at s.places j → 0 < table_num m i → table_num m i ≡ num_at s.places j → i ≡ j
+      mixed : (i j : ℕ) → i < 64 → j < 64 → 0 < time_at s.places j → 0 < table_num m i
+          → table_num m i ≡ num_at s.places j → i ≡ j
       mixed i j h g y z e =
-          u.living.distinct i j h g (omega (arith, u.living.home i h z (rw e (live_at j g y)))) (u.living.home i h z (rw e (live_at j g y)) ∙ e)
+          u.living.distinct i j h g (omega (arith, u.living.home i h z (rw e (live_at j g y))))
+          (u.living.home i h z (rw e (live_at j g y)) ∙ e)
 
-      apart' : (i j : ℕ) → i < 64 → j < 64 → Case i → Case j → 0 < table_num m' i → table_num m' i ≡ table_num m' j → i ≡ j
+      apart' : (i j : ℕ) → i < 64 → j < 64 → Case i → Case j → 0 < table_num m' i
+          → table_num m' i ≡ table_num m' j → i ≡ j
       apart' i j h g (old e a q) (old e' a' q') z w = u.medium.table.apart i j h g (omega arith) (sym a ∙ w ∙ a')
       apart' i j h g (old e a q) (vacated e' a' q' f') z w = absurd (omega arith)
       apart' i j h g (old e a q) (filled e' a' q' y' f') z w = mixed i j h g y' (omega arith) (sym a ∙ w ∙ a')
       apart' i j h g (vacated e a q f) x z w = absurd (omega arith)
       apart' i j h g (filled e a q y f) (old e' a' q') z w = sym (mixed j i g h y (omega arith) (sym a' ∙ sym w ∙ a))
       apart' i j h g (filled e a q y f) (vacated e' a' q' f') z w = absurd (omega arith)
-      apart' i j h g (filled e a q y f) (filled e' a' q' y' f') z w = u.living.distinct i j h g (omega arith) (sym a ∙ w ∙ a')
+      apart' i j h g (filled e a q y f) (filled e' a' q' y' f') z w =
+          u.living.distinct i j h g (omega arith) (sym a ∙ w ∙ a')
 
   pub medium_tabled : OnMedium l d m' disk (closed ++ (tail ∷ []))
   medium_tabled = record {
@@ -180,13 +211,17 @@ module _ {l d : ℕ} {m c : List ℕ} {s : State} {b : Book} {disk : Disk} {clos
     };
     log = record {
       shape = u.medium.log.shape;
-      blocks = λ q a e. blk_other m (1 + t) new (log_block_at l q) length_new (log_not_first l q (1 + t) (omega arith)) ∙ u.medium.log.blocks q a e;
+      blocks =
+          λ q a e. blk_other m (1 + t) new (log_block_at l q) length_new (log_not_first l q (1 + t) (omega arith))
+          ∙ u.medium.log.blocks q a e;
       fresh = λ j a. rw (blk_other m (1 + t) new (3 + j) length_new (omega arith)) (u.medium.log.fresh j a);
     };
     pages = record {
       slots = u.medium.pages.slots;
       few = u.medium.pages.few;
-      page = λ p a. blk_other m (1 + t) new (page_block_at l p) length_new (page_not_first l p (1 + t) (omega arith)) ∙ u.medium.pages.page p a;
+      page =
+          λ p a. blk_other m (1 + t) new (page_block_at l p) length_new (page_not_first l p (1 + t) (omega arith))
+          ∙ u.medium.pages.page p a;
       kept = u.medium.pages.kept;
       plain = u.medium.pages.plain;
     };
@@ -223,12 +258,14 @@ module _ {l d : ℕ} {m c : List ℕ} {s : State} {b : Book} {disk : Disk} {clos
     home = λ i h. home' i h (case i h);
   }
     where
-      home' : (i : ℕ) → i < 64 → Case i → 0 < table_num m' i → 0 < count (table_num m' i) disk.cells → num_at s.places i ≡ table_num m' i
+      home' : (i : ℕ) → i < 64 → Case i → 0 < table_num m' i → 0 < count (table_num m' i) disk.cells
+          → num_at s.places i ≡ table_num m' i
       home' i h (old e a q) z w = u.living.home i h (rw a at z) (rw a at w) ∙ sym a
       home' i h (vacated e a q f) z w = absurd (omega arith)
       home' i h (filled e a q y f) z w = sym a
 
-  pub tabled_up : (ph : Phase) → PhaseIs ph d m' disk cs s.places s.first (length closed) → Up l d m' c (with_phase s ph) b disk closed tail
+  pub tabled_up : (ph : Phase) → PhaseIs ph d m' disk cs s.places s.first (length closed)
+      → Up l d m' c (with_phase s ph) b disk closed tail
   unfolding with_phase
   tabled_up ph p = record {
     medium = medium_tabled;

@@ -1,12 +1,12 @@
--- No run is stuck. Once the log is freed and all active transactions are aborted, every place is free, no record is held, and the
--- tail is the oldest block; so begin finds a place, and the log takes the version and the commit, in the tail or in the next block.
+-- No run is stuck. Once the log is freed and all active transactions are aborted, every place is free, no record is
+-- held, and the tail is the oldest block; so begin finds a place, and the log takes the version and the commit, in the
+-- tail or in the next block.
 use Prim.Native.Nat.{ℕ, ◌+◌, ◌-◌, ◌*◌, ◌%◌, ◌^◌, ◌≤◌, ◌<◌}
 use native.Mathlib.Omega.{arith}
 use native.Mathlib.Nat.{mod-lt, zero-add}
 use mathlib.Core.Path.{◌≡◌, refl, sym, ap, ◌∙◌, subst}
 use mathlib.Core.Logic.{◌⊎◌, inl, inr, ◌≢◌}
 use mathlib.Core.Bool.{true, false, not, ◌&&◌, ◌||◌, and-false, or-true}
-use mathlib.Core.Option.{some}
 use mathlib.Core.List.{List, [], ◌∷◌, ◌++◌}
 use lib.ListN.{length}
 use lib.Dec.{eqb, leb, ltb}
@@ -69,7 +69,8 @@ pub record Alone (r : State) (m : List ℕ) (s : State) : Type 0 where
   pub active : time_at s.places place ≡ 0
   pub others : (j : ℕ) → j < 64 → j ≢ place → num_at s.places j ≡ 0
 
-module _ {l d : ℕ} {m c : List ℕ} {s : State} {b : Book} {disk : Disk} {closed : List (List Record)} {tail : List Record} (u : Up l d m c s b disk closed tail)
+module _ {l d : ℕ} {m c : List ℕ} {s : State} {b : Book} {disk : Disk} {closed : List (List Record)}
+    {tail : List Record} (u : Up l d m c s b disk closed tail)
     (r : State) (e : Emptied r 64 m s) (left : Left d r) where
   free_found : find_free s.places s.ring ≡ At 0
   unfolding find_free first ring_place
@@ -78,9 +79,11 @@ module _ {l d : ℕ} {m c : List ℕ} {s : State} {b : Book} {disk : Disk} {clos
   next_is : s.next.0 ≡ r.next.0
   next_is = ap (λ (x : TxNumber). x.0) e.same.next
 
-  begin_done : (clock : ℕ) → called m c s (begin clock) ≡ leaves (Begun s.next) (begun s (ring_place s.ring 0) clock) m c
+  begin_done : (clock : ℕ) → called m c s (begin clock) ≡ leaves (Begun s.next)
+      (begun s (ring_place s.ring 0) clock) m c
   unfolding called begin_of begin_if
-  begin_done clock = rw (fits_up u, lt-ltb s.next.0 (2 ^ 64 - 1) (omega (arith, next_is, left.numbers)), free_found) (rw free_found)
+  begin_done clock =
+      rw (fits_up u, lt-ltb s.next.0 (2 ^ 64 - 1) (omega (arith, next_is, left.numbers)), free_found) (rw free_found)
 
   begun_alone : (clock : ℕ) → Alone r m (begun s (ring_place s.ring 0) clock)
   unfolding begun ring_place
@@ -115,7 +118,8 @@ pub record Ready (n : ℕ) (m : List ℕ) (s : State) : Type 0 where
 
 -- ---- write
 
-module _ {l d : ℕ} {m c : List ℕ} {s : State} {b : Book} {disk : Disk} {closed : List (List Record)} {tail : List Record} (u : Up l d m c s b disk closed tail)
+module _ {l d : ℕ} {m c : List ℕ} {s : State} {b : Book} {disk : Disk} {closed : List (List Record)}
+    {tail : List Record} (u : Up l d m c s b disk closed tail)
     (r : State) (a : Alone r m s) (left : Left d r) where
   -- an active number is this one
   only : (x j : ℕ) → find_active s.places x ≡ At j → x ≡ r.next.0
@@ -148,7 +152,8 @@ module _ {l d : ℕ} {m c : List ℕ} {s : State} {b : Book} {disk : Disk} {clos
   may_log_law size (inl h) = rw (le-leb (used_of s.tail + size) 512 h)
   may_log_law size (inr h) =
       rw (
-        lt-ltb (sequence_of s.tail + 1) (oldest_on m + s.blocks) (omega (arith, a.oldest, u.state.blocks, u.medium.sizes.range.blocks_low)),
+        lt-ltb (sequence_of s.tail + 1) (oldest_on m + s.blocks)
+            (omega (arith, a.oldest, u.state.blocks, u.medium.sizes.range.blocks_low)),
         lt-ltb (sequence_of s.tail + 1) (2 ^ 48) h,
       ) (or-true (leb (used_of s.tail + size) 512))
 
@@ -159,21 +164,35 @@ module _ {l d : ℕ} {m c : List ℕ} {s : State} {b : Book} {disk : Disk} {clos
       end_is : 512 * sequence_of s.tail + used_of s.tail + 53 ≤ 512 * 2 ^ 48
       end_is = rw a.tail left.log
 
-      go : (512 < used_of s.tail + 34) ⊎ (used_of s.tail + 34 ≤ 512) → (used_of s.tail + 34 ≤ 512) ⊎ (sequence_of s.tail + 1 < 2 ^ 48)
+      go : (512 < used_of s.tail + 34) ⊎ (used_of s.tail + 34 ≤ 512)
+          → (used_of s.tail + 34 ≤ 512) ⊎ (sequence_of s.tail + 1 < 2 ^ 48)
       go (inr h) = inl h
       go (inl h) = inr (omega (arith, end_is))
 
   write_passed : (key : ℕ) → key_form key ≡ true → Passed (write_asks s m c r.next.0 key)
   write_passed key k = (
     fits_up u,
-    (k, (rw mine_found, (rw (not_held key), (lt-ltb s.slots (15 * s.pages) (omega (arith, a.slots, left.slots, u.state.pages)), (may_log_law 34 room, tt))))),
+    (
+      k,
+      (
+        rw mine_found,
+        (
+          rw (not_held key),
+          (
+            lt-ltb s.slots (15 * s.pages) (omega (arith, a.slots, left.slots, u.state.pages)),
+            (may_log_law 34 room, tt),
+          ),
+        ),
+      ),
+    ),
   )
 
   -- the version's record, and what the log makes of it
   record_of : ℕ → List ℕ → Record
   record_of key value = version_record (new_head s c r.next.0 key 0) value
 
-  write_done : (key : ℕ) → key_form key ≡ true → (value : List ℕ) → called m c s (write r.next.0 key value) ≡ write_step s m c a.place (new_head s c r.next.0 key 0) value
+  write_done : (key : ℕ) → key_form key ≡ true → (value : List ℕ)
+      → called m c s (write r.next.0 key value) ≡ write_step s m c a.place (new_head s c r.next.0 key 0) value
   unfolding called write_of add_of write_if
   write_done key k value = rw (passes (write_asks s m c r.next.0 key) (write_passed key k)) (rw mine_found)
 
@@ -188,11 +207,13 @@ module _ {l d : ℕ} {m c : List ℕ} {s : State} {b : Book} {disk : Disk} {clos
       end_is = rw a.tail left.log
 
       go : (512 < used_of g.tail + 19) ⊎ (used_of g.tail + 19 ≤ 512)
-          → leb (used_of g.tail + 19) 512 || (ltb (sequence_of g.tail + 1) (oldest_on g.medium + s.blocks) && ltb (sequence_of g.tail + 1) (2 ^ 48)) ≡ true
+          → leb (used_of g.tail + 19) 512 || (ltb (sequence_of g.tail + 1) (oldest_on g.medium + s.blocks)
+          && ltb (sequence_of g.tail + 1) (2 ^ 48)) ≡ true
       go (inr h) = rw (le-leb (used_of g.tail + 19) 512 h)
       go (inl h) =
           rw (
-            lt-ltb (sequence_of g.tail + 1) (oldest_on g.medium + s.blocks) (omega (arith, ap oldest_on y, a.oldest, u.state.blocks, u.medium.sizes.range.blocks_low)),
+            lt-ltb (sequence_of g.tail + 1) (oldest_on g.medium + s.blocks)
+                (omega (arith, ap oldest_on y, a.oldest, u.state.blocks, u.medium.sizes.range.blocks_low)),
             lt-ltb (sequence_of g.tail + 1) (2 ^ 48) (omega (arith, end_is)),
           ) (or-true (leb (used_of g.tail + 19) 512))
 
@@ -200,7 +221,8 @@ module _ {l d : ℕ} {m c : List ℕ} {s : State} {b : Book} {disk : Disk} {clos
   unfolding written
   last_stays i g = refl
 
-  written_ready : (key : ℕ) (value : List ℕ) → Ready r.next.0 (logged s m (record_of key value)).medium (written s a.place (logged s m (record_of key value)))
+  written_ready : (key : ℕ) (value : List ℕ)
+      → Ready r.next.0 (logged s m (record_of key value)).medium (written s a.place (logged s m (record_of key value)))
   unfolding record_size record_of new_head bytes_of
   written_ready key value =
       let g = logged s m (record_of key value) in
@@ -208,52 +230,65 @@ module _ {l d : ℕ} {m c : List ℕ} {s : State} {b : Book} {disk : Disk} {clos
         active = rw (still_active s u.living.size r.next.0 a.place mine_found a.inside g);
         some = has_version s u.living.size r.next.0 a.place mine_found a.inside g;
         times = omega (arith, last_stays a.place g, a.last, left.times);
-        log = log_then a.place g (takes s m (record_of key value) (fit_of s (length m) (length c) (fits_up u)).tail (omega arith));
+        log =
+            log_then a.place g (takes s m (record_of key value) (fit_of s (length m) (length c) (fits_up u)).tail
+            (omega arith));
       }
 
 -- ---- begin, write, commit
 
-refusal_is : (l d : ℕ) (m c : List ℕ) (s : State) (x : Call) → answer_number (called m c s x).answer ≡ 0 → (step l d (up m c s) (call x)).seen.refusal ≡ 0
+refusal_is : (l d : ℕ) (m c : List ℕ) (s : State) (x : Call) → answer_number (called m c s x).answer ≡ 0
+    → (step l d (up m c s) (call x)).seen.refusal ≡ 0
 unfolding step seen_of
 refusal_is l d m c s x e = e
 
 abbrev Anywhere : World → Type 0
 Anywhere w = Unit {0}
 
-module _ (l d : ℕ) (r : State) (left : Left d r) (clock key : ℕ) (form : key_form key ≡ true) (value : List ℕ) (end : ℕ) where
-  commit_leads : call_typed (commit r.next.0 end) ≡ true → (w : World) → Standing l d (Ready r.next.0) w → Leads l d w (call (commit r.next.0 end) ∷ []) Anywhere
+module _ (l d : ℕ) (r : State) (left : Left d r) (clock key : ℕ) (form : key_form key ≡ true) (value : List ℕ)
+    (end : ℕ) where
+  commit_leads : call_typed (commit r.next.0 end) ≡ true → (w : World) → Standing l d (Ready r.next.0) w
+      → Leads l d w (call (commit r.next.0 end) ∷ []) Anywhere
   commit_leads t w (stands m c s b disk closed tail u a) =
-      leads_call l d m c s (commit r.next.0 end) [] Anywhere t (refusal_is l d m c s (commit r.next.0 end) (done_way (way m c s (commit r.next.0 end)) passed))
+      leads_call l d m c s (commit r.next.0 end) [] Anywhere t
+      (refusal_is l d m c s (commit r.next.0 end) (done_way (way m c s (commit r.next.0 end)) passed))
       (leads_none l d _ Anywhere tt)
     where
       passed : Passed (commit_asks s m c r.next.0)
       passed = (fits_up u, (a.active, (rw a.some (lt-ltb s.last.0 (2 ^ 64 - 1) a.times), (rw a.some a.log, tt))))
 
-  write_leads : call_typed (write r.next.0 key value) ≡ true → call_typed (commit r.next.0 end) ≡ true → (w : World) → Standing l d (Alone r) w
+  write_leads : call_typed (write r.next.0 key value) ≡ true → call_typed (commit r.next.0 end) ≡ true → (w : World)
+      → Standing l d (Alone r) w
       → Leads l d w (call (write r.next.0 key value) ∷ call (commit r.next.0 end) ∷ []) Anywhere
   unfolding write_step record_of
   write_leads t z w (stands m c s b disk closed tail u a) =
       leads_call l d m c s (write r.next.0 key value) (call (commit r.next.0 end) ∷ []) Anywhere t
-      (refusal_is l d m c s (write r.next.0 key value) (done_way (way m c s (write r.next.0 key value)) (write_passed u r a left key form)))
-      (commit_leads z _ (called_on l d (Ready r.next.0) m c s b (running u) (write r.next.0 key value) t _ (write_done u r a left key form value) (written_ready u r a left key value)))
+      (refusal_is l d m c s (write r.next.0 key value)
+      (done_way (way m c s (write r.next.0 key value)) (write_passed u r a left key form)))
+      (commit_leads z _ (called_on l d (Ready r.next.0) m c s b (running u) (write r.next.0 key value) t _
+      (write_done u r a left key form value) (written_ready u r a left key value)))
 
-  begin_leads : call_typed (begin clock) ≡ true → call_typed (write r.next.0 key value) ≡ true → call_typed (commit r.next.0 end) ≡ true → (w : World) → Standing l d (Emptied r 64) w
+  begin_leads : call_typed (begin clock) ≡ true → call_typed (write r.next.0 key value) ≡ true
+      → call_typed (commit r.next.0 end) ≡ true → (w : World) → Standing l d (Emptied r 64) w
       → Leads l d w (transaction r.next.0 clock key value end) Anywhere
   unfolding answer_number
   begin_leads x y z w (stands m c s b disk closed tail u e) =
       leads_call l d m c s (begin clock) (call (write r.next.0 key value) ∷ call (commit r.next.0 end) ∷ []) Anywhere x
       (refusal_is l d m c s (begin clock) (ap (λ (o : Outcome). answer_number o.answer) (begin_done u r e left clock)))
-      (write_leads y z _ (called_on l d (Alone r) m c s b (running u) (begin clock) x _ (begin_done u r e left clock) (begun_alone u r e left clock)))
+      (write_leads y z _ (called_on l d (Alone r) m c s b (running u) (begin clock) x _ (begin_done u r e left clock)
+      (begun_alone u r e left clock)))
 
 -- begin answers the next number
-begin_number : (l d : ℕ) (r : State) → Left d r → (clock : ℕ) (w : World) → Standing l d (Emptied r 64) w → (step l d w (call (begin clock))).seen.result ≡ r.next.0
+begin_number : (l d : ℕ) (r : State) → Left d r → (clock : ℕ) (w : World) → Standing l d (Emptied r 64) w
+    → (step l d w (call (begin clock))).seen.result ≡ r.next.0
 unfolding step seen_of answer_value
 begin_number l d r left clock w (stands m c s b disk closed tail u e) =
     ap (λ (o : Outcome). answer_value o.answer) (begin_done u r e left clock) ∙ next_is u r e left
 
 -- ---- all of them
 
-emptying : {l d : ℕ} {m c : List ℕ} {s : State} {b : Book} {disk : Disk} {closed : List (List Record)} {tail : List Record} → Up l d m c s b disk closed tail → (w : World)
+emptying : {l d : ℕ} {m c : List ℕ} {s : State} {b : Book} {disk : Disk} {closed : List (List Record)}
+    {tail : List Record} → Up l d m c s b disk closed tail → (w : World)
     → Free l d closed tail s w → Standing l d (Emptied s 0) w
 emptying u w (runs n a t b' disk' x f) = stands n a t b' disk' _ _ x (record {
   same = record {
@@ -275,9 +310,19 @@ unstuck l d es m c s r e left clock key value end k x y z =
     go : {b : Book} → Inv l d (up m c s) b → Restarts l d (up m c s) s.next.0 clock key value end
     go (running {closed = closed} {tail = tail} u) =
         let p : Leads l d (up m c s) (relief l d (up m c s) ++ aborts_of s.places) (Standing l d (Emptied s 64)) =
-        leads_then l d (up m c s) (relief l d (up m c s)) (aborts_of s.places) (Free l d closed tail s) (Standing l d (Emptied s 64)) (relief_leads u)
-        (λ v a. aborts_lead l d s s.places 0 (omega (arith, u.living.size)) (λ j. ap (place_at s.places) (zero-add j)) v (emptying u v a)) in
-        let q : Leads l d (up m c s) ((relief l d (up m c s) ++ aborts_of s.places) ++ transaction s.next.0 clock key value end) Anywhere =
-        leads_then l d (up m c s) (relief l d (up m c s) ++ aborts_of s.places) (transaction s.next.0 clock key value end) (Standing l d (Emptied s 64)) Anywhere p
+        leads_then l d (up m c s) (relief l d (up m c s)) (aborts_of s.places) (Free l d closed tail s)
+        (Standing l d (Emptied s 64)) (relief_leads u)
+        (λ v a. aborts_lead l d s s.places 0 (omega (arith, u.living.size)) (λ j. ap (place_at s.places) (zero-add j)) v
+        (emptying u v a)) in
+        let q : Leads l d (up m c s) ((relief l d (up m c s) ++ aborts_of s.places)
+        ++ transaction s.next.0 clock key value end) Anywhere =
+        leads_then l d (up m c s) (relief l d (up m c s) ++ aborts_of s.places)
+        (transaction s.next.0 clock key value end) (Standing l d (Emptied s 64)) Anywhere p
         (begin_leads l d s left clock key k value end x y z) in
-        record { goes_on = q.run; accepted = q.accepted; number = begin_number l d s left clock (world_after l d (up m c s) (relief l d (up m c s) ++ aborts_of s.places)) p.there }
+        record {
+          goes_on = q.run;
+          accepted = q.accepted;
+          number =
+              begin_number l d s left clock
+              (world_after l d (up m c s) (relief l d (up m c s) ++ aborts_of s.places)) p.there;
+        }

@@ -60,7 +60,8 @@ current_sized : (rs : List Row) (n key : ℕ) (before : Strip) (vs : List Versio
 unfolding current_of strip_of
 current_sized rs n key before [] f z = z
 current_sized rs n key before (v ∷ vs) f z =
-    current_sized rs n key _ vs f.1 (go (eqb v.key key && (eqb v.number n || is_some (time_of rs v.number))) (eqb v.kind 1))
+    let seen = eqb v.key key && (eqb v.number n || is_some (time_of rs v.number)) in
+    current_sized rs n key (cond seen (strip_of v.kind v.value) before) vs f.1 (go seen (eqb v.kind 1))
   where
     go : (seen gone : Bool) → Sized (cond seen (cond gone erased (present v.value)) before)
     go true true = tt
