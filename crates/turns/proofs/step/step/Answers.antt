@@ -26,6 +26,7 @@ look-end-requires c =
 
 pub returns-then-p : goal.returns-then-p
 returns-then-p c =
+    let e = (c.look-end.ensures.upper_bound, c.look-end.ensures.prints) in
     record {
       n_bound = c.look-end.ensures.upper_bound;
       out_after = c.look-end.ensures.prints.0;
@@ -45,9 +46,12 @@ pub returns-in-Hand : goal.returns-in-Hand
 returns-in-Hand c =
     let k = c.args in let e = hand_turn k.asked (room_of k.t k.medium.now k.cache.now (state_of k.words.now k.tail.now)) _ _ _ _ _ _ c.in-Hand.is c.hand-answer.ensures in
     record {
-      n_bound = omega arith;
-      out_after = c.put_handed-end.ensures.out_after ∙ ap (λ (u : Turn). take k.n k.out.now ++ u.text) e;
-      tail_after = ap (λ (u : Turn). u.room) e;
+      n_bound = (-Hand.is c.hand-answer.ensures in
+    (omega arith, (c.put_handed-end.ensures.out_after ∙ ap (λ (u : Turn). take k.n k.out.now ++ u.text) e, ap (λ (u : Turn). u.room) e))).0;
+      out_after = (-Hand.is c.hand-answer.ensures in
+    (omega arith, (c.put_handed-end.ensures.out_after ∙ ap (λ (u : Turn). take k.n k.out.now ++ u.text) e, ap (λ (u : Turn). u.room) e))).1.0;
+      tail_after = (-Hand.is c.hand-answer.ensures in
+    (omega arith, (c.put_handed-end.ensures.out_after ∙ ap (λ (u : Turn). take k.n k.out.now ++ u.text) e, ap (λ (u : Turn). u.room) e))).1.1;
     }
 
 pub turn-turned-requires : goal.turn-turned-requires
