@@ -8,12 +8,10 @@ use native.Mathlib.Numerals.{add-one}
 use lib.ListN.{length, take, drop, get_or, drop_of_length-le}
 use lib.Seq.{drop-cons, drop-drop}
 use lib.Dec.{eqb}
-use types.Run.{OneOf, miss}
-use denote.Enum.Declared.{tag_of}
 use Rattle.store.specs.declared.Answer.{Answer}
 use Rattle.store.specs.declared.Answer.TheVariants.{Refused, Done, Begun, Written, Committed, Opened, Missing, Erased, Present, Listed}
 use Rattle.store.specs.Answer.{answer_number}
-use Rattle.store.specs.contracts.Answer.{the_type}
+use Rattle.store.specs.declared.Refusal.{Refusal}
 use Rattle.fields.proofs.EqualLaws.{noted}
 use Rattle.fields.proofs.PartLaws.{lent_rest}
 use Rattle.answers.specs.Text.{change_text, changes_text, all_are, kept_text, list_text}
@@ -67,7 +65,7 @@ list_put x z y b k flag e f g =
     g ∙ ap (λ (w : List ℕ). w ++ kept_text flag) e ∙ append_assoc x (changes_text k b) (kept_text flag)
     ∙ ap (λ (w : Bool). x ++ (changes_text k b ++ kept_text w)) (f ∙ ap (all_are 170) (lent_rest b (32 * k)))
 
-pub list_none : (a : Answer) (b : List ℕ) → OneOf (0 ∷ 1 ∷ 2 ∷ 3 ∷ 4 ∷ 5 ∷ 6 ∷ 7 ∷ 8 ∷ []) (tag_of the_type a) → list_text a b ≡ []
+pub list_none : (a : Answer) (b : List ℕ) → ((k : ℕ) → a ≡ Listed k → ⊥) → list_text a b ≡ []
 unfolding list_text
 list_none (Refused r) b o = refl
 list_none Done b o = refl
@@ -78,12 +76,12 @@ list_none (Opened t) b o = refl
 list_none Missing b o = refl
 list_none Erased b o = refl
 list_none Present b o = refl
-list_none (Listed k) b o = absurd (miss (0 ∷ 1 ∷ 2 ∷ 3 ∷ 4 ∷ 5 ∷ 6 ∷ 7 ∷ 8 ∷ []) 9 tt o)
+list_none (Listed k) b o = absurd (o k refl)
 
 -- an answer that is no refusal
-pub no_refusal : (a : Answer) → OneOf (1 ∷ 2 ∷ 3 ∷ 4 ∷ 5 ∷ 6 ∷ 7 ∷ 8 ∷ 9 ∷ []) (tag_of the_type a) → 0 ≡ answer_number a
+pub no_refusal : (a : Answer) → ((r : Refusal) → a ≡ Refused r → ⊥) → 0 ≡ answer_number a
 unfolding answer_number
-no_refusal (Refused r) o = absurd (miss (1 ∷ 2 ∷ 3 ∷ 4 ∷ 5 ∷ 6 ∷ 7 ∷ 8 ∷ 9 ∷ []) 0 tt o)
+no_refusal (Refused r) o = absurd (o r refl)
 no_refusal Done o = refl
 no_refusal (Begun n) o = refl
 no_refusal (Written k) o = refl

@@ -1,6 +1,6 @@
 -- A line that looks leaves the room as it is, for the outcome of its call is the room's own state, medium and cache; and a
 -- list that is answered lies within its buffer.
-use mathlib.Core.Path.{◌≡◌, sym, ap, ◌∙◌}
+use mathlib.Core.Path.{◌≡◌, refl, sym, ap, ◌∙◌}
 use mathlib.Core.Bool.{true, false}
 use mathlib.Core.List.{List, [], ◌∷◌, ◌++◌, append-nil, append_assoc}
 use Prim.Native.Nat.{ℕ, ◌-◌, ◌*◌, ◌≤◌}
@@ -9,8 +9,6 @@ use lib.ListN.{length, take, replicate}
 use lib.Seq.{length-take-le}
 use lib.Dec.{eqb, leb}
 use borrow.Author.Tests.{leb-true}
-use types.Run.{OneOf, miss}
-use denote.Enum.Declared.{tag_of}
 use Rattle.fields.specs.Block.{zeros}
 use Rattle.layout.specs.Slot.{key_form}
 use Rattle.store.specs.declared.Answer.{Answer}
@@ -23,7 +21,6 @@ use Rattle.store.specs.CurrentRead.{reads}
 use Rattle.store.specs.Changes.{change_lines, changes_if, changes_of}
 use Rattle.script.specs.declared.call.Call.{Call}
 use Rattle.script.specs.declared.call.Call.TheVariants.{Format, Open, OpenSized, Cut, Begin, Write, Erase, Read, Commit, Abort, Hand, AsOf, Changes, StoreLog, StorePage, Checkpoint, Block, Page, Poke, Other}
-use Rattle.script.specs.contracts.call.Call.{the_type}
 use Rattle.fields.proofs.Choose.{bool_case, no}
 use Rattle.rooms.specs.declared.parts.Standing.{Standing}
 use Rattle.answers.specs.Text.{answer_text, list_text}
@@ -77,29 +74,28 @@ pub look_list : (b x y m c : List ℕ) (s : State) (l d key t1 t2 k : ℕ) → l
     → Prints x y (ready l d m c s) (called 76 l d (changes_of s m c (replicate k 170) key t1 t2))
 look_list b x y m c s l d key t1 t2 k e h p = rw (length-take-le k b (omega arith)) at p
 
--- the lines that the match leaves to its last arm
-abbrev Rest : List ℕ
-Rest = 0 ∷ 1 ∷ 2 ∷ 3 ∷ 4 ∷ 5 ∷ 6 ∷ 8 ∷ 9 ∷ 10 ∷ 13 ∷ 14 ∷ 15 ∷ 18 ∷ 19 ∷ []
-
-pub look_rest : (k : Call) → OneOf Rest (tag_of the_type k) → (plan_of k).looks ≡ true → ⊥
+-- no other line looks
+pub look_rest : (k : Call) → ((a b : ℕ) → k ≡ Read a b → ⊥) → ((a b : ℕ) → k ≡ AsOf a b → ⊥)
+    → ((a b c d : ℕ) → k ≡ Changes a b c d → ⊥) → ((a : ℕ) → k ≡ Block a → ⊥) → ((a : ℕ) → k ≡ Page a → ⊥)
+    → (plan_of k).looks ≡ true → ⊥
 unfolding plan_of
-look_rest (Format l d) o e = no e
-look_rest (Open byte) o e = no e
-look_rest (OpenSized bytes) o e = no e
-look_rest Cut o e = no e
-look_rest (Begin clock) o e = no e
-look_rest (Write number key) o e = no e
-look_rest (Erase number key) o e = no e
-look_rest (Read number key) o e = miss Rest 7 tt o
-look_rest (Commit number clock) o e = no e
-look_rest (Abort number) o e = no e
-look_rest (Hand flight from to began ended) o e = no e
-look_rest (AsOf key time) o e = miss Rest 11 tt o
-look_rest (Changes key t1 t2 bytes) o e = miss Rest 12 tt o
-look_rest StoreLog o e = no e
-look_rest (StorePage page) o e = no e
-look_rest Checkpoint o e = no e
-look_rest (Block block) o e = miss Rest 16 tt o
-look_rest (Page page) o e = miss Rest 17 tt o
-look_rest (Poke offset byte) o e = no e
-look_rest Other o e = no e
+look_rest (Format l d) x y z u w e = no e
+look_rest (Open byte) x y z u w e = no e
+look_rest (OpenSized bytes) x y z u w e = no e
+look_rest Cut x y z u w e = no e
+look_rest (Begin clock) x y z u w e = no e
+look_rest (Write number key) x y z u w e = no e
+look_rest (Erase number key) x y z u w e = no e
+look_rest (Read number key) x y z u w e = x number key refl
+look_rest (Commit number clock) x y z u w e = no e
+look_rest (Abort number) x y z u w e = no e
+look_rest (Hand flight from to began ended) x y z u w e = no e
+look_rest (AsOf key time) x y z u w e = y key time refl
+look_rest (Changes key t1 t2 bytes) x y z u w e = z key t1 t2 bytes refl
+look_rest StoreLog x y z u w e = no e
+look_rest (StorePage page) x y z u w e = no e
+look_rest Checkpoint x y z u w e = no e
+look_rest (Block block) x y z u w e = u block refl
+look_rest (Page page) x y z u w e = w page refl
+look_rest (Poke offset byte) x y z u w e = no e
+look_rest Other x y z u w e = no e

@@ -8,14 +8,11 @@ use native.Mathlib.Omega.{arith}
 use lib.ListN.{replicate}
 use lib.Dec.{eqb, leb}
 use borrow.Author.Tests.{leb-true}
-use types.Run.{OneOf, miss}
-use denote.Enum.Declared.{tag_of}
 use Rattle.store.specs.declared.Answer.TheVariants.{Done}
 use Rattle.store.specs.declared.State.{State}
 use Rattle.store.specs.Answer.{leaves}
 use Rattle.script.specs.declared.call.Call.{Call}
 use Rattle.script.specs.declared.call.Call.TheVariants.{Format, Open, OpenSized, Cut, Begin, Write, Erase, Read, Commit, Abort, Hand, AsOf, Changes, StoreLog, StorePage, Checkpoint, Block, Page, Poke, Other}
-use Rattle.script.specs.contracts.call.Call.{the_type}
 use Rattle.fields.proofs.Choose.{bool_case, no}
 use Rattle.rooms.specs.declared.parts.Standing.{Standing}
 use Rattle.rooms.specs.declared.plan.Plan.{Plan}
@@ -59,58 +56,57 @@ turn_calls (Poke offset byte) v r e h = absurd (omega arith)
 turn_calls Other v r e h = absurd (omega arith)
 
 -- the lines that the match on the calls leaves to its last arm
-abbrev Calls : List ℕ
-Calls = 0 ∷ 1 ∷ 2 ∷ 3 ∷ 7 ∷ 10 ∷ 11 ∷ 12 ∷ 16 ∷ 17 ∷ 18 ∷ 19 ∷ []
-
-pub no_call : (k : Call) (v : List ℕ) (s : State) (m c : List ℕ) → OneOf Calls (tag_of the_type k) → (plan_of k).looks ≡ false → leaves Done s m c ≡ outcome_of k v s m c
+pub no_call : (k : Call) (v : List ℕ) (s : State) (m c : List ℕ) → ((a : ℕ) → k ≡ Begin a → ⊥)
+    → ((a b : ℕ) → k ≡ Write a b → ⊥) → ((a b : ℕ) → k ≡ Erase a b → ⊥) → ((a b : ℕ) → k ≡ Commit a b → ⊥)
+    → ((a : ℕ) → k ≡ Abort a → ⊥) → (k ≡ StoreLog → ⊥) → ((a : ℕ) → k ≡ StorePage a → ⊥) → (k ≡ Checkpoint → ⊥)
+    → (plan_of k).looks ≡ false → leaves Done s m c ≡ outcome_of k v s m c
 unfolding plan_of outcome_of
-no_call (Format l d) v s m c o e = refl
-no_call (Open byte) v s m c o e = refl
-no_call (OpenSized bytes) v s m c o e = refl
-no_call Cut v s m c o e = refl
-no_call (Begin clock) v s m c o e = absurd (miss Calls 4 tt o)
-no_call (Write number key) v s m c o e = absurd (miss Calls 5 tt o)
-no_call (Erase number key) v s m c o e = absurd (miss Calls 6 tt o)
-no_call (Read number key) v s m c o e = no (sym e)
-no_call (Commit number clock) v s m c o e = absurd (miss Calls 8 tt o)
-no_call (Abort number) v s m c o e = absurd (miss Calls 9 tt o)
-no_call (Hand flight from to began ended) v s m c o e = refl
-no_call (AsOf key time) v s m c o e = no (sym e)
-no_call (Changes key t1 t2 bytes) v s m c o e = no (sym e)
-no_call StoreLog v s m c o e = absurd (miss Calls 13 tt o)
-no_call (StorePage page) v s m c o e = absurd (miss Calls 14 tt o)
-no_call Checkpoint v s m c o e = absurd (miss Calls 15 tt o)
-no_call (Block block) v s m c o e = refl
-no_call (Page page) v s m c o e = refl
-no_call (Poke offset byte) v s m c o e = refl
-no_call Other v s m c o e = refl
+no_call (Format l d) v s m c x y z u w f g h e = refl
+no_call (Open byte) v s m c x y z u w f g h e = refl
+no_call (OpenSized bytes) v s m c x y z u w f g h e = refl
+no_call Cut v s m c x y z u w f g h e = refl
+no_call (Begin clock) v s m c x y z u w f g h e = absurd (x clock refl)
+no_call (Write number key) v s m c x y z u w f g h e = absurd (y number key refl)
+no_call (Erase number key) v s m c x y z u w f g h e = absurd (z number key refl)
+no_call (Read number key) v s m c x y z u w f g h e = no (sym e)
+no_call (Commit number clock) v s m c x y z u w f g h e = absurd (u number clock refl)
+no_call (Abort number) v s m c x y z u w f g h e = absurd (w number refl)
+no_call (Hand flight from to began ended) v s m c x y z u w f g h e = refl
+no_call (AsOf key time) v s m c x y z u w f g h e = no (sym e)
+no_call (Changes key t1 t2 bytes) v s m c x y z u w f g h e = no (sym e)
+no_call StoreLog v s m c x y z u w f g h e = absurd (f refl)
+no_call (StorePage page) v s m c x y z u w f g h e = absurd (g page refl)
+no_call Checkpoint v s m c x y z u w f g h e = absurd (h refl)
+no_call (Block block) v s m c x y z u w f g h e = refl
+no_call (Page page) v s m c x y z u w f g h e = refl
+no_call (Poke offset byte) v s m c x y z u w f g h e = refl
+no_call Other v s m c x y z u w f g h e = refl
 
 -- the lines that the match on those that change a room leaves to its last arm
-abbrev Rest : List ℕ
-Rest = 4 ∷ 5 ∷ 6 ∷ 7 ∷ 8 ∷ 9 ∷ 10 ∷ 11 ∷ 12 ∷ 13 ∷ 14 ∷ 15 ∷ 16 ∷ 17 ∷ 19 ∷ []
-
-pub no_rest : (k : Call) (n : ℕ) → OneOf Rest (tag_of the_type k) → (plan_of k).looks ≡ false → ((plan_of k).stage ≡ 3 → ⊥) → (plan_of k).stage ≤ n → n ≤ 3 → ⊥
+pub no_rest : (k : Call) (n : ℕ) → ((a b : ℕ) → k ≡ Format a b → ⊥) → ((a : ℕ) → k ≡ Open a → ⊥)
+    → ((a : ℕ) → k ≡ OpenSized a → ⊥) → (k ≡ Cut → ⊥) → ((a b : ℕ) → k ≡ Poke a b → ⊥)
+    → (plan_of k).looks ≡ false → ((plan_of k).stage ≡ 3 → ⊥) → (plan_of k).stage ≤ n → n ≤ 3 → ⊥
 unfolding plan_of
-no_rest (Format l d) n o e f h g = miss Rest 0 tt o
-no_rest (Open byte) n o e f h g = miss Rest 1 tt o
-no_rest (OpenSized bytes) n o e f h g = miss Rest 2 tt o
-no_rest Cut n o e f h g = miss Rest 3 tt o
-no_rest (Begin clock) n o e f h g = f refl
-no_rest (Write number key) n o e f h g = f refl
-no_rest (Erase number key) n o e f h g = f refl
-no_rest (Read number key) n o e f h g = no (sym e)
-no_rest (Commit number clock) n o e f h g = f refl
-no_rest (Abort number) n o e f h g = f refl
-no_rest (Hand flight from to began ended) n o e f h g = f refl
-no_rest (AsOf key time) n o e f h g = no (sym e)
-no_rest (Changes key t1 t2 bytes) n o e f h g = no (sym e)
-no_rest StoreLog n o e f h g = f refl
-no_rest (StorePage page) n o e f h g = f refl
-no_rest Checkpoint n o e f h g = f refl
-no_rest (Block block) n o e f h g = no (sym e)
-no_rest (Page page) n o e f h g = no (sym e)
-no_rest (Poke offset byte) n o e f h g = miss Rest 18 tt o
-no_rest Other n o e f h g = omega arith
+no_rest (Format l d) n x y z u w e f h g = x l d refl
+no_rest (Open byte) n x y z u w e f h g = y byte refl
+no_rest (OpenSized bytes) n x y z u w e f h g = z bytes refl
+no_rest Cut n x y z u w e f h g = u refl
+no_rest (Begin clock) n x y z u w e f h g = f refl
+no_rest (Write number key) n x y z u w e f h g = f refl
+no_rest (Erase number key) n x y z u w e f h g = f refl
+no_rest (Read number key) n x y z u w e f h g = no (sym e)
+no_rest (Commit number clock) n x y z u w e f h g = f refl
+no_rest (Abort number) n x y z u w e f h g = f refl
+no_rest (Hand flight from to began ended) n x y z u w e f h g = f refl
+no_rest (AsOf key time) n x y z u w e f h g = no (sym e)
+no_rest (Changes key t1 t2 bytes) n x y z u w e f h g = no (sym e)
+no_rest StoreLog n x y z u w e f h g = f refl
+no_rest (StorePage page) n x y z u w e f h g = f refl
+no_rest Checkpoint n x y z u w e f h g = f refl
+no_rest (Block block) n x y z u w e f h g = no (sym e)
+no_rest (Page page) n x y z u w e f h g = no (sym e)
+no_rest (Poke offset byte) n x y z u w e f h g = w offset byte refl
+no_rest Other n x y z u w e f h g = omega arith
 
 -- a cache of the right length
 pub open_right : (t : Standing) (m c : List ℕ) (s : State) (n byte : ℕ) (x : Turn) → 2 ≤ stage_of t → n ≡ right_length t.pages → x ≡ opening 79 (room_of t m c s) (replicate n byte)

@@ -1,10 +1,10 @@
 -- A digit behind a number: the number stays below 2^64 just if it did before or the digit has room.
 use mathlib.Core.Path.{◌≡◌, refl, sym, ◌∙◌}
-use mathlib.Core.Bool.{Bool, true, false, not}
+use mathlib.Core.Bool.{Bool, true, false}
 use Prim.Native.Nat.{ℕ, ◌+◌, ◌*◌, ◌^◌, ◌≤◌, ◌<◌}
 use native.Mathlib.Omega.{arith}
 use lib.Dec.{ltb, leb}
-use borrow.Author.Tests.{ltb-true, leb-true, leb-false, not-false, lt-ltb, le-ltb}
+use borrow.Author.Tests.{ltb-true, leb-true, leb-false, lt-ltb, le-ltb}
 use Rattle.script.specs.declared.line.Line.{Line}
 use Rattle.script.specs.Words.{is_in}
 use Rattle.script.specs.Reader.{stays_number}
@@ -32,9 +32,9 @@ room_high n d h g =
     let k : 1844674407370955161 < n = omega arith in sym (le-ltb (10 * n + d) (2 ^ 64) (omega arith))
 
 -- a word that stays a number was one, and has room
-module _ (l : Line) (d : ℕ) (b : Bool) (e : b ≡ stays_number l d) (t : not b ≡ false) where
+module _ (l : Line) (d : ℕ) (b : Bool) (e : b ≡ stays_number l d) (t : b ≡ true) where
   stays : stays_number l d ≡ true
-  stays = sym e ∙ not-false b t
+  stays = sym e ∙ t
 
   pub stays_is : l.number ≡ true
   unfolding stays_number

@@ -10,8 +10,6 @@ use lib.ListN.{length, take, drop, set, replicate, length-take, length-replicate
 use lib.Seq.{length-take-le, take_at, take-set-lt, set_out}
 use lib.Dec.{eqb}
 use borrow.Author.Tests.{lt-ltb, le-ltb, eq-eqb, ne_eqb, eqb-true, le-leb}
-use types.Run.{OneOf, miss}
-use denote.Enum.Declared.{tag_of}
 use Rattle.fields.specs.Block.{zeros, medium_length, cache_length}
 use Rattle.fields.proofs.Choose.{and_0, bool_case, no}
 use Rattle.store.specs.declared.Answer.{Answer}
@@ -28,7 +26,6 @@ use Rattle.handover.specs.Hand.{hand_ends, hand_of}
 use Rattle.script.specs.declared.call.Call.{Call}
 use Rattle.script.specs.declared.call.Call.TheVariants.{Format, Open, OpenSized, Cut, Begin, Write, Erase, Read, Commit, Abort, Hand, AsOf, Changes, StoreLog, StorePage, Checkpoint, Block, Page, Poke, Other}
 use Rattle.script.specs.declared.call.Asked.{Asked}
-use Rattle.script.specs.contracts.call.Call.{the_type}
 use Rattle.rooms.specs.declared.parts.Standing.{Standing}
 use Rattle.answers.specs.Text.{answer_text, handed_text}
 use Rattle.rooms.specs.Room.{Room, shut, ready, Turn, plan_of, fresh_length, formatted, right_length, opened, opening, cut, poked, outcome_of, called, calling, handed, handing, moves, turn_by, turn_of}
@@ -167,11 +164,8 @@ make_left t m c s k v a st pm pc vm vc h lk em ec hm hc lm lc e =
 
 -- ---- a handover
 
--- the lines that are none
-abbrev Others : List ℕ
-Others = 0 ∷ 1 ∷ 2 ∷ 3 ∷ 4 ∷ 5 ∷ 6 ∷ 7 ∷ 8 ∷ 9 ∷ 11 ∷ 12 ∷ 13 ∷ 14 ∷ 15 ∷ 16 ∷ 17 ∷ 18 ∷ 19 ∷ []
-
-pub not_hand : (k : Call) → OneOf Others (tag_of the_type k) → eqb (plan_of k).letter 72 ≡ false
+-- any other line
+pub not_hand : (k : Call) → ((a b c d e : ℕ) → k ≡ Hand a b c d e → ⊥) → eqb (plan_of k).letter 72 ≡ false
 unfolding plan_of
 not_hand (Format l d) o = refl
 not_hand (Open byte) o = refl
@@ -183,7 +177,7 @@ not_hand (Erase number key) o = refl
 not_hand (Read number key) o = refl
 not_hand (Commit number clock) o = refl
 not_hand (Abort number) o = refl
-not_hand (Hand flight from to began ended) o = absurd (miss Others 10 tt o)
+not_hand (Hand flight from to began ended) o = absurd (o flight from to began ended refl)
 not_hand (AsOf key time) o = refl
 not_hand (Changes key t1 t2 bytes) o = refl
 not_hand StoreLog o = refl

@@ -8,11 +8,7 @@ use Rattle.answers.proofs.text.put_list.Goals as goal
 
 pub put_changes-a-requires : goal.put_changes-a-requires
 put_changes-a-requires c =
-    let h = c.requires.by_index _ c.in-Listed.is in
-    record {
-      count_in_bounds = h;
-      count_in_bounds_2 = omega arith;
-    }
+    let h = c.requires.by_index _ c.in-Listed.is in record { count_in_bounds = h; count_in_bounds_2 = omega arith }
 
 pub overflow_mul-at : goal.overflow_mul-at
 overflow_mul-at c = let h = c.requires.by_index _ c.in-Listed.is in omega arith
@@ -41,5 +37,5 @@ pub returns-in_default : goal.returns-in_default
 returns-in_default c =
     record {
       upper_bound = omega arith;
-      out_after = sym (rw (list_none c.args.answer c.args.buffer.now c.in-Listed.in-Listed-own.keys2) (append-nil _));
+      out_after = sym (rw (list_none c.args.answer c.args.buffer.now c.in_default.not-Listed) (append-nil _));
     }

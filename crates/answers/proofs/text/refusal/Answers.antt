@@ -8,4 +8,4 @@ unfolding answer_number
 returns-in-Refused c = simp c.in-Refused.is c.number_of.ensures
 
 pub returns-in_default : goal.returns-in_default
-returns-in_default c = no_refusal c.args.answer c.in-Refused.in-Refused-own.keys2
+returns-in_default c = no_refusal c.args.answer c.in_default.not-Refused

@@ -94,7 +94,5 @@ returns-in-Page c =
 
 pub returns-in_default : goal.returns-in_default
 returns-in_default c =
-    record {
-      upper_bound = (absurd (look_rest c.args.asked.call c.in-Read.in-Read-own.keys6 c.requires.call_value)).0;
-      prints = (absurd (look_rest c.args.asked.call c.in-Read.in-Read-own.keys6 c.requires.call_value)).1;
-    }
+    let k = c.in_default in
+    absurd (look_rest c.args.asked.call k.not-Read k.not-AsOf k.not-Changes k.not-Block k.not-Page c.requires.call_value)

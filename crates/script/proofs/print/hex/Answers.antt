@@ -22,7 +22,7 @@ loop-i-preserved c = (
   omega arith,
   omega arith,
   c.out-in-loop-i-1.given ∙ (c.out-1.given ∙ c.loop-i.invariant.2),
-  hex_turn _ _ _ (take c.args.n c.args.out.now) c.args.text.now c.loop-i.i _ _ c.loop-i-test.true c.loop-i.invariant.3 (c.byte-high.ensures.text, (c.byte-high.ensures.told, c.byte-high.ensures.utf8)) (c.byte-low.ensures.text, (c.byte-low.ensures.told, c.byte-low.ensures.utf8)) c.digit.ensures c.digit-in-loop-i.ensures,
+  hex_turn _ _ _ (take c.args.n c.args.out.now) c.args.text.now c.loop-i.i _ _ c.loop-i-test.true c.loop-i.invariant.3 c.byte-high.ensures.out_after c.byte-low.ensures.out_after c.digit.ensures c.digit-in-loop-i.ensures,
 )
 
 pub shape_of-out : goal.shape_of-out

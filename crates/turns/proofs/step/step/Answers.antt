@@ -43,7 +43,8 @@ hand-answer-requires c =
 
 pub returns-in-Hand : goal.returns-in-Hand
 returns-in-Hand c =
-    let k = c.args in let e = hand_turn k.asked (room_of k.t k.medium.now k.cache.now (state_of k.words.now k.tail.now)) _ _ _ _ _ _ c.in-Hand.is c.hand-answer.ensures in
+    let k = c.args in
+    let e = hand_turn k.asked (room_of k.t k.medium.now k.cache.now (state_of k.words.now k.tail.now)) _ _ _ _ _ _ c.in-Hand.is c.hand-answer.ensures in
     record {
       n_bound = omega arith;
       out_after = c.put_handed-end.ensures.out_after ∙ ap (λ (u : Turn). take k.n k.out.now ++ u.text) e;
@@ -52,14 +53,14 @@ returns-in-Hand c =
 
 pub turn-turned-requires : goal.turn-turned-requires
 turn-turned-requires c =
-    let q = c.requires.p_value in let e = ap (λ (x : Plan). eqb x.letter 72) q ∙ not_hand c.args.asked.call c.in-Hand.in-Hand-own.keys2 in
+    let q = c.requires.p_value in
     record {
       medium_len = c.requires.medium_len;
       cache_len = c.requires.cache_len;
       buffer_len = c.requires.buffer_len;
       p_value = q;
       looks_value = c.if-p.false;
-      letter_value = e;
+      letter_value = ap (λ (x : Plan). eqb x.letter 72) q ∙ not_hand c.args.asked.call c.in_default.not-Hand;
       stage_bound = c.requires.stage_bound;
     }
 

@@ -2,4 +2,4 @@
 use Rattle.turns.proofs.turn.open_with.Goals as goal
 
 pub returns : goal.returns
-returns c = rw c.fill.ensures at c.before.before.«open».ensures
+returns c = rw c.fill.ensures at c.«open».ensures

@@ -59,7 +59,7 @@ returns-in-Format c =
 pub returns-in-Open : goal.returns-in-Open
 unfolding turn_of turn_by plan_of
 returns-in-Open c =
-    simp (c.requires.p_value, c.in-Open.is) (open_right c.args.t c.args.medium.now c.args.cache.now ((state_of c.args.words.now c.args.tail.now)) _ _ _ (plan_stage _ _ _ _ c.requires.p_value c.in-Open.is c.requires.stage_bound) c.right_length-n.ensures.value (c.before.before.before.before.«open».ensures 79))
+    simp (c.requires.p_value, c.in-Open.is) (open_right c.args.t c.args.medium.now c.args.cache.now ((state_of c.args.words.now c.args.tail.now)) _ _ _ (plan_stage _ _ _ _ c.requires.p_value c.in-Open.is c.requires.stage_bound) c.right_length-n.ensures.value (c.open.ensures 79))
 
 pub returns-in-OpenSized : goal.returns-in-OpenSized
 unfolding turn_of turn_by plan_of
@@ -77,4 +77,5 @@ returns-in-Poke c =
 
 pub returns-in_default : goal.returns-in_default
 returns-in_default c =
-    absurd (no_rest c.args.asked.call (stage_of c.args.t) c.in-Format.in-Format-own.keys6 (ap (λ (q : Plan). q.looks) (sym c.requires.p_value) ∙ c.requires.looks_value) (λ z. c.if-p-eq3.false (ap (λ (q : Plan). q.stage) c.requires.p_value ∙ z)) (plan_stage _ _ _ _ c.requires.p_value refl c.requires.stage_bound) (stage_most c.args.t))
+    let k = c.in_default in
+    absurd (no_rest c.args.asked.call (stage_of c.args.t) k.not-Format k.not-Open k.not-OpenSized k.not-Cut k.not-Poke (ap (λ (q : Plan). q.looks) (sym c.requires.p_value) ∙ c.requires.looks_value) (λ z. c.if-p-eq3.false (ap (λ (q : Plan). q.stage) c.requires.p_value ∙ z)) (plan_stage _ _ _ _ c.requires.p_value refl c.requires.stage_bound) (stage_most c.args.t))
