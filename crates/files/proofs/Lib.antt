@@ -1,0 +1,4 @@
+pub mod CodeLaws
+pub mod Lines
+pub mod Signs
+pub mod FolderLaws
