@@ -1,5 +1,7 @@
 -- What goes wrong outside: the exit codes and their messages.
-use Rattle.std.specs.Prelude.{ℕ, Bool, false, cond, not, List, [], ◌∷◌, eqb, ltb, ℤ, pos, negsuc}
+use Rattle.std.specs.Prelude.{ℕ, Bool, false, cond, not, List, [], ◌∷◌, eqb, ltb, ℤ, pos, negsuc, Option, Some, None}
+use Rattle.std.specs.Fd.{file_raw_fd}
+use Rattle.std.specs.declared.fs.File.{File}
 use Rattle.files.specs.declared.Stored.{Stored}
 use Rattle.files.specs.declared.Stored.TheVariants.{Stored as kept, Unwritten, Unsynced}
 
@@ -8,6 +10,11 @@ use Rattle.files.specs.declared.Stored.TheVariants.{Stored as kept, Unwritten, U
 unfoldable pub error_code : ℤ → ℕ
 error_code (pos k) = cond (eqb k 2) 0 (cond (eqb k 21) 4 5)
 error_code (negsuc k) = 5
+
+-- striproom, "A missing file": the descriptor of an open file, a negative number where the file is missing
+unfoldable pub descriptor : Option File → ℤ
+descriptor (Some file) = file_raw_fd file
+descriptor None = negsuc 0
 
 -- striproom, code 3: "the file is missing, and a line other than an accepted `F` comes first": such a line, with the file's
 -- descriptor, which is negative where it is missing

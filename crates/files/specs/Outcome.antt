@@ -1,10 +1,15 @@
--- What the answers of the C library's calls on a file mean.
-use Rattle.std.specs.Prelude.{ℕ, zero, suc, ◌≤◌, Bool, false, cond, eqb, leb, ℤ, pos, negsuc}
+-- What the answers of the system's calls on a file mean.
+use Rattle.std.specs.Prelude.{ℕ, zero, suc, ◌≡◌, ◌≤◌, Bool, false, cond, eqb, leb, ℤ, pos, negsuc}
 use Rattle.std.specs.Int.Bits.{bit_and}
 use Rattle.files.specs.declared.Loaded.{Loaded}
 use Rattle.files.specs.declared.Loaded.TheVariants.{Bytes, TooLong, Failed}
 use Rattle.files.specs.declared.Stored.{Stored}
 use Rattle.files.specs.declared.Stored.TheVariants.{Stored as kept, Unsynced}
+
+-- striproom, codes 4, 8 and 9: what a call that succeeds or fails answers: 0, or -1
+abbrev pub Status : ℤ → Type 0
+Status (pos k) = k ≡ 0
+Status (negsuc k) = k ≡ 0
 
 -- striproom, code 4: "a directory, a pipe, a device": the answer of `fstat` and the mode that it filled in, of which the bits
 -- 61440 tell the kind of file, and 32768 among them a regular one

@@ -2,7 +2,10 @@
 ghost use Rattle.std.specs.Prelude.{◌≡◌, ◌≤◌, length};
 ghost use Rattle.files.specs.Folder.{folder_length};
 
-use crate::{Stored, synced};
+use crate::{Stored, named, status_of, synced};
+use std::fs::File;
+use std::io;
+use std::rt::Files;
 
 // How many bytes of a file's name are its folder's, the slash among them; none where it names no folder.
 fn length(name: &[u8]) -> usize
@@ -20,21 +23,18 @@ fn length(name: &[u8]) -> usize
 }
 
 // Opens the folder.
-fn open(name: &[u8]) -> i32 {
+fn open(files: &impl Files<File = File>, name: &[u8]) -> io::Result<File> {
     let n = length(name);
     if n == 0 {
-        return os::open_read(b".");
+        return named::open_read(files, b".");
     }
-    os::open_read(&name[..n])
+    named::open_read(files, &name[..n])
 }
 
 // Waits until the names of its files are stored. Of a folder that may not be opened nobody can say so.
-pub fn sync(name: &[u8]) -> Stored {
-    let fd = open(name);
-    if fd < 0 {
-        return Stored::Unsynced;
+pub fn sync(files: &impl Files<File = File>, name: &[u8]) -> Stored {
+    match open(files, name) {
+        Ok(folder) => synced(status_of(folder.sync_all())),
+        Err(_) => Stored::Unsynced,
     }
-    let status = libc::fsync(fd);
-    libc::close(fd);
-    synced(status)
 }

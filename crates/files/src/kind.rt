@@ -1,74 +1,71 @@
 // What a descriptor is on, and which ones a file may have.
 ghost use Rattle.std.specs.Prelude.{◌≡◌};
-ghost use Rattle.libc.specs.Io.{Status};
-ghost use Rattle.files.specs.Codes.{is_free};
-ghost use Rattle.files.specs.Outcome.{says_regular};
+ghost use Rattle.files.specs.Codes.{descriptor, is_free};
+ghost use Rattle.files.specs.Outcome.{Status, says_regular};
 
-use libc::types::{stat, timespec};
+use std::fs::File;
+use std::os::fd::AsRawFd;
+use std::os::unix::fs::MetadataExt;
 
-// What the C library says of a file: its answer, and the file's mode where the answer is 0.
+// The bits of a mode that tell the kind of file, and those of a regular one.
+const S_IFMT: u32 = 0o170000;
+
+const S_IFREG: u32 = 0o100000;
+
+// What the system says of a file: 0 or -1, and the file's mode where it is 0.
 #[derive(Clone, Copy)]
 struct Seen {
     status: i32,
     mode: u32,
 }
 
-fn no_time() -> timespec {
-    timespec {
-        tv_sec: 0,
-        tv_nsec: 0,
-    }
-}
-
-// Nothing said of a file yet.
-fn unseen() -> stat {
-    let time = no_time();
-    let unused = [0i64; 3];
-    stat {
-        st_dev: 0,
-        st_ino: 0,
-        st_nlink: 0,
-        st_mode: 0,
-        st_uid: 0,
-        st_gid: 0,
-        __pad: 0,
-        st_rdev: 0,
-        st_size: 0,
-        st_blksize: 0,
-        st_blocks: 0,
-        st_atim: time,
-        st_mtim: time,
-        st_ctim: time,
-        __unused: unused,
-    }
-}
-
-// Asks the C library, which fills s.
-fn look(fd: i32, mut s: stat) -> Seen
+// Nothing said of a file.
+fn unseen() -> Seen
     ensures { Status result.status }
 {
-    let status = libc::fstat(fd, &mut s);
-    let mode = s.st_mode;
     Seen {
-        status: status,
-        mode: mode,
+        status: -1,
+        mode: 0,
     }
 }
 
-// Does what the C library says mean a regular file? Of a mode it says nothing where it failed.
+// Asks the system.
+fn look(file: &File) -> Seen
+    ensures { Status result.status }
+{
+    match file.metadata() {
+        Ok(said) => Seen {
+            status: 0,
+            mode: said.mode(),
+        },
+        Err(_) => unseen(),
+    }
+}
+
+// Does what the system says mean a regular file? Of a mode it says nothing where it failed.
 fn is_said(status: i32, mode: u32) -> bool
     ensures { result ≡ says_regular status mode }
 {
     if status != 0 {
         return false;
     }
-    mode & libc::S_IFMT == libc::S_IFREG
+    mode & S_IFMT == S_IFREG
 }
 
 // Is it a regular file?
-pub fn is_regular(fd: i32) -> bool {
-    let seen = look(fd, unseen());
+pub fn is_regular(file: &File) -> bool {
+    let seen = look(file);
     is_said(seen.status, seen.mode)
+}
+
+// The file's descriptor, -1 where it is missing.
+pub fn descriptor(file: &Option<File>) -> i32
+    ensures { result ≡ descriptor file.now }
+{
+    match file {
+        Some(file) => file.as_raw_fd(),
+        None => -1,
+    }
 }
 
 // May the file have this descriptor? The first three are those of the standard streams and `to` that of the exit code: one

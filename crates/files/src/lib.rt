@@ -1,19 +1,23 @@
-// A medium in a file: the C library's calls on a descriptor, each made once. Their contracts tell what a call may answer, not
+// A medium in a file: the system's calls on an open file, each made once. Their contracts tell what a call may answer, not
 // which bytes it reads or writes or what the disk then holds. So the statements here are about the answers: which outcome
 // each of them leads to.
 #![tactic(auto)]
 
 pub mod folder;
 mod kind;
+pub mod named;
 pub mod outcome;
 mod say;
 
 ghost use Rattle.std.specs.Prelude.{◌≡◌, length};
 ghost use Rattle.files.specs.Outcome.{is_whole, length_of, Within, synced_of};
 
-pub use kind::{is_free, is_regular};
-use libc::SEEK_END;
+pub use kind::{descriptor, is_free, is_regular};
 pub use say::{code, complain};
+use std::fs::File;
+use std::io;
+use std::io::{Seek, SeekFrom};
+use std::os::unix::fs::FileExt;
 
 // What came of reading a file: so many bytes, or there are more than the buffer has, or the reading failed or ended early.
 #[derive(Clone, Copy)]
@@ -30,6 +34,14 @@ pub enum Stored {
     Stored,
     Unwritten,
     Unsynced,
+}
+
+// A call's answer as the system gives it: how many bytes were moved, or -1.
+fn moved(answer: io::Result<usize>) -> isize {
+    match answer {
+        Ok(n) => n.cast_signed(),
+        Err(_) => -1,
+    }
 }
 
 // Did a call that was handed n bytes move them all?
@@ -56,15 +68,24 @@ fn length_at(end: i64, most: usize) -> Loaded
     Loaded::TooLong
 }
 
+// Where the file ends, or -1.
+fn end_of(file: &File) -> i64 {
+    let mut same = file;
+    match same.seek(SeekFrom::End(0)) {
+        Ok(end) => end.cast_signed(),
+        Err(_) => -1,
+    }
+}
+
 // Reads the whole file into the front of the medium, by one read.
-pub fn load(fd: i32, medium: &mut [u8]) -> Loaded
+pub fn load(file: &File, medium: &mut [u8]) -> Loaded
     ensures { Within result (length medium.old) }
 {
-    let end = libc::lseek(fd, 0, SEEK_END);
+    let end = end_of(file);
     let there = length_at(end, medium.len());
     match there {
         Loaded::Bytes(n) => {
-            let got = libc::pread(fd, &mut medium[..n], 0);
+            let got = moved(file.read_at(&mut medium[..n], 0));
             if is_whole(got, n) {
                 return Loaded::Bytes(n);
             }
@@ -72,6 +93,14 @@ pub fn load(fd: i32, medium: &mut [u8]) -> Loaded
         }
         Loaded::TooLong => Loaded::TooLong,
         Loaded::Failed => Loaded::Failed,
+    }
+}
+
+// A call's answer as the system gives it: 0, or -1 where it failed.
+fn status_of(answer: io::Result<()>) -> i32 {
+    match answer {
+        Ok(()) => 0,
+        Err(_) => -1,
     }
 }
 
@@ -86,40 +115,40 @@ fn synced(status: i32) -> Stored
 }
 
 // Writes the bytes to their place by one write, and waits until they are stored.
-pub fn store(fd: i32, bytes: &[u8], at: i64) -> Stored {
-    let got = libc::pwrite(fd, bytes, at);
+pub fn store(file: &File, bytes: &[u8], at: i64) -> Stored {
+    let got = moved(file.write_at(bytes, at.cast_unsigned()));
     if !is_whole(got, bytes.len()) {
         return Stored::Unwritten;
     }
-    synced(libc::fdatasync(fd))
+    synced(status_of(file.sync_data()))
 }
 
 // Sets the file's length, once its first block is zeros: a file that no opening accepts, whatever stood there before.
-fn blank(fd: i32, n: i64) -> Stored {
+fn blank(file: &File, n: i64) -> Stored {
     let zeros = [0u8; 512];
-    let got = libc::pwrite(fd, &zeros, 0);
+    let got = moved(file.write_at(&zeros, 0));
     if !is_whole(got, 512) {
         return Stored::Unwritten;
     }
-    if libc::ftruncate(fd, n) != 0 {
+    if status_of(file.set_len(n.cast_unsigned())) != 0 {
         return Stored::Unwritten;
     }
-    synced(libc::fdatasync(fd))
+    synced(status_of(file.sync_data()))
 }
 
 // Makes the file hold the medium, its first block last: as long as that is zeros, no opening accepts the file. A medium has
 // a first block, so fewer bytes are not written.
-pub fn make(fd: i32, medium: &[u8]) -> Stored {
+pub fn make(file: &File, medium: &[u8]) -> Stored {
     if medium.len() < 512 {
         return Stored::Unwritten;
     }
-    let began = blank(fd, medium.len() as i64);
+    let began = blank(file, medium.len() as i64);
     let Stored::Stored = began else {
         return began;
     };
-    let rest = store(fd, &medium[512..], 512);
+    let rest = store(file, &medium[512..], 512);
     let Stored::Stored = rest else {
         return rest;
     };
-    store(fd, &medium[..512], 0)
+    store(file, &medium[..512], 0)
 }

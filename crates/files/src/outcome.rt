@@ -1,21 +1,40 @@
 // What goes wrong outside, by exit code: 0 where nothing did.
-ghost use Rattle.std.specs.Prelude.{◌≡◌, ◌≤◌, length, take};
+ghost use Rattle.std.specs.Prelude.{◌≡◌, ◌≤◌, length, take, IfSome, None};
+ghost use Rattle.std.specs.IoError.{raw_os_error};
 ghost use Rattle.files.specs.Codes.{error_code, missing_code, stored_code, message_of};
 
 use crate::{Stored, say};
 use script::print;
+use std::io;
+use std::io::Print;
+
+// The errors of the system that a missing file and a directory give.
+const ENOENT: i32 = 2;
+
+const EISDIR: i32 = 21;
 
 // The opening of a file failed. That it is missing is no error yet: a first line may make it.
 pub fn of_error(error: i32) -> u8
     ensures { result ≡ error_code error }
 {
-    if error == libc::ENOENT {
+    if error == ENOENT {
         return 0;
     }
-    if error == libc::EISDIR {
+    if error == EISDIR {
         return 4;
     }
     5
+}
+
+// The same of the error itself. One without a number is not the system's: the name is no text.
+pub fn of_failed(error: io::Error) -> u8
+    ensures known { IfSome (raw_os_error error) (λ number. result ≡ error_code number) }
+    ensures unknown { raw_os_error error ≡ None → result ≡ 5 }
+{
+    match error.raw_os_error() {
+        Some(number) => of_error(number),
+        None => 5,
+    }
 }
 
 pub fn of_stored(stored: Stored) -> u8
@@ -61,8 +80,8 @@ fn message(out: &mut [u8], code: u8) -> usize
 }
 
 // Says what an exit code means, on standard error.
-pub fn say(name: &[u8], code: u8) {
+pub fn say(err: &impl Print, name: &[u8], code: u8) {
     let mut out = [0u8; 64];
     let n = message(&mut out, code);
-    say::complain(name, &out[..n]);
+    say::complain(err, name, &out[..n]);
 }

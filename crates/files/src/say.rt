@@ -2,8 +2,8 @@
 ghost use Rattle.std.specs.Prelude.{◌≡◌, ◌+◌, ◌≤◌, length, take};
 ghost use Rattle.files.specs.Line.{complaint};
 
-use libc::STDERR_FILENO;
 use script::print;
+use std::io::Print;
 
 // Puts the line that says what is wrong with a file into the output.
 fn line(out: &mut [u8], name: &[u8], what: &[u8]) -> usize
@@ -19,8 +19,8 @@ fn line(out: &mut [u8], name: &[u8], what: &[u8]) -> usize
 }
 
 // Says what is wrong with a file, in one line on standard error and by one write, so that lines of two programs do not mix.
-// A longer line than the buffer holds is not said.
-pub fn complain(name: &[u8], what: &[u8]) {
+// A longer line than the buffer holds is not said. Where standard error takes no line, nobody can be told so.
+pub fn complain(err: &impl Print, name: &[u8], what: &[u8]) {
     let mut out = [0u8; 8192];
     if name.len() > 4096 {
         return;
@@ -29,7 +29,7 @@ pub fn complain(name: &[u8], what: &[u8]) {
         return;
     }
     let n = line(&mut out, name, what);
-    io::write_all(STDERR_FILENO, &out[..n]);
+    let _ = err.write_all(&out[..n]);
 }
 
 // Writes an exit code, in decimal, to a descriptor.

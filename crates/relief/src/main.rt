@@ -7,15 +7,17 @@ mod free;
 
 ghost use Rattle.std.specs.Prelude.{◌≡◌, length};
 
-use libc::{STDIN_FILENO, STDOUT_FILENO};
+use std::io::{Print, Read};
 
 // Reads as many bytes as the buffer has; false where the input ends before.
-fn read_all(bytes: &mut [u8]) -> bool {
-    io::read_full(STDIN_FILENO, bytes) == bytes.len()
+fn read_all(input: &mut impl Read, bytes: &mut [u8]) -> bool {
+    input.read_exact(bytes).is_ok()
 }
 
 // Reads a room, frees its log and writes it; false where the run ends.
 fn play(
+    input: &mut impl Read,
+    output: &impl Print,
     words: &mut [u64; 448],
     tail: &mut [u8; 512],
     medium: &mut [u8],
@@ -27,7 +29,7 @@ fn play(
     requires out_len { length out.old ≡ 91664 }
 {
     let mut head = [0u8; 4112];
-    if !read_all(&mut head) {
+    if !read_all(input, &mut head) {
         return false;
     }
     let sizes = form::read_sizes(&head);
@@ -37,18 +39,19 @@ fn play(
     form::take_state(words, tail, &head);
     let m = sizes.medium;
     let c = sizes.cache;
-    if !read_all(&mut medium[..m]) {
+    if !read_all(input, &mut medium[..m]) {
         return false;
     }
-    if !read_all(&mut cache[..c]) {
+    if !read_all(input, &mut cache[..c]) {
         return false;
     }
     let n = free::freed_room(words, tail, &mut medium[..m], &mut cache[..c], out);
-    io::write_all(STDOUT_FILENO, &out[..n])
+    output.write_all(&out[..n]).is_ok()
 }
 
 // The buffers are as long as the largest sizes ask, and as the lines of 70 calls with the room behind them.
-fn main() {
+fn main(rt: HostRuntime) {
+    let mut input = rt.stdin();
     let mut words = [0u64; 448];
     let mut tail = [0u8; 512];
     let mut medium = [0u8; 50688];
@@ -57,7 +60,15 @@ fn main() {
     // A proved loop has to end: it counts its turns down, from a number that no run uses up.
     let mut turns = u64::MAX;
     while turns > 0 {
-        if !play(&mut words, &mut tail, &mut medium, &mut cache, &mut out) {
+        if !play(
+            &mut input,
+            &rt,
+            &mut words,
+            &mut tail,
+            &mut medium,
+            &mut cache,
+            &mut out,
+        ) {
             return;
         }
         turns -= 1;

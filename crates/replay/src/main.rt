@@ -11,12 +11,13 @@ ghost use Rattle.rooms.specs.Parts.{room_of};
 ghost use Rattle.rooms.specs.Steps.{does};
 
 use crate::play::Run;
-use libc::{STDIN_FILENO, STDOUT_FILENO};
 use rooms::parts::Standing;
 use script::line;
+use std::io::{Print, Read};
 
-// Plays bytes and writes out what they print; not all of them where they print much.
+// Plays bytes and writes out what they print; not all of them where they print much. A write that fails changes nothing.
 fn play_out(
+    output: &impl Print,
     run: Run,
     bytes: &[u8],
     words: &mut [u64; 448],
@@ -40,12 +41,13 @@ fn play_out(
         line, standing, words, tail, bytes, medium, cache, buffer, out,
     );
     let n = next.n;
-    io::write_all(STDOUT_FILENO, &out[..n]);
+    let _ = output.write_all(&out[..n]);
     next
 }
 
 // Plays all the bytes.
 fn play_all(
+    output: &impl Print,
     run: Run,
     bytes: &[u8],
     words: &mut [u64; 448],
@@ -66,7 +68,7 @@ fn play_all(
         if !r.on {
             return r;
         }
-        let next = play_out(r, &bytes[i..], words, tail, medium, cache, buffer, out);
+        let next = play_out(output, r, &bytes[i..], words, tail, medium, cache, buffer, out);
         i += next.next;
         r = next;
     }
@@ -75,6 +77,7 @@ fn play_all(
 
 // The end of the input, which ends a line that was begun.
 fn finish(
+    output: &impl Print,
     run: Run,
     words: &mut [u64; 448],
     tail: &mut [u8; 512],
@@ -97,13 +100,15 @@ fn finish(
         same.n = 0;
         return same;
     }
-    let mut last = play_out(run, b"\n", words, tail, medium, cache, buffer, out);
+    let mut last = play_out(output, run, b"\n", words, tail, medium, cache, buffer, out);
     last.on = false;
     last
 }
 
 // Reads once and plays what came.
 fn read_some(
+    input: &mut impl Read,
+    output: &impl Print,
     run: Run,
     words: &mut [u64; 448],
     tail: &mut [u8; 512],
@@ -117,17 +122,26 @@ fn read_some(
     requires buffer_len { length buffer.old ≡ 40000 }
     requires out_len { length out.old ≡ 200000 }
 {
-    let mut bytes = io::large_buffer();
-    let got = libc::read(STDIN_FILENO, &mut bytes);
-    if got <= 0 {
-        return finish(run, words, tail, medium, cache, buffer, out);
+    let mut bytes = [0u8; 65536];
+    match input.read(&mut bytes) {
+        Ok(0) | Err(_) => finish(output, run, words, tail, medium, cache, buffer, out),
+        Ok(n) => play_all(
+            output,
+            run,
+            &bytes[..n],
+            words,
+            tail,
+            medium,
+            cache,
+            buffer,
+            out,
+        ),
     }
-    let n = io::count(got, &bytes);
-    play_all(run, &bytes[..n], words, tail, medium, cache, buffer, out)
 }
 
 // The buffers are as long as the largest sizes ask, 32 log blocks and 64 pages, and as the longest answer buffer.
-fn main() {
+fn main(rt: HostRuntime) {
+    let mut input = rt.stdin();
     let mut words = [0u64; 448];
     let mut tail = [0u8; 512];
     let mut medium = [0u8; 50688];
@@ -154,6 +168,8 @@ fn main() {
             return;
         }
         let next = read_some(
+            &mut input,
+            &rt,
             run,
             &mut words,
             &mut tail,

@@ -2,29 +2,39 @@
 // the same refusal. What it reads and prints is in docs/SHORTEN.md.
 #![tactic(auto)]
 
-use libc::{STDERR_FILENO, STDIN_FILENO, STDOUT_FILENO};
+ghost use Rattle.std.specs.Prelude.{◌≤◌, length};
+
+use std::io::{Eprint, Print, Read};
+
+// Reads until the buffer is full or the input ends; a read that fails counts as its end.
+fn read_full(input: &mut impl Read, bytes: &mut [u8]) -> usize
+    ensures { result ≤ length bytes.new }
+{
+    let mut n: usize = 0;
+    while n < bytes.len() {
+        match input.read(&mut bytes[n..]) {
+            Ok(0) | Err(_) => return n,
+            Ok(got) => n += got,
+        }
+    }
+    n
+}
 
 // One byte more than the longest input is read: a full buffer is an input that is too long. A line without a newline at
 // the end of the input is printed with one.
-fn main() {
+fn main(rt: HostRuntime) {
     let mut bytes = [0u8; 65536];
     let mut out = [0u8; 65536];
-    let n = io::read_full(STDIN_FILENO, &mut bytes);
+    let n = read_full(&mut rt.stdin(), &mut bytes);
     if n == 65536 {
-        io::write_all(
-            STDERR_FILENO,
-            b"shorten: the input has more than 65535 bytes\n",
-        );
+        let _ = rt.eprintln("shorten: the input has more than 65535 bytes");
         return;
     }
     let short = shortest::shorten::shorten(&bytes[..n], &mut out);
     if short.long {
-        io::write_all(
-            STDERR_FILENO,
-            b"shorten: the script has more than 12 lines\n",
-        );
+        let _ = rt.eprintln("shorten: the script has more than 12 lines");
         return;
     }
     let count = short.n;
-    io::write_all(STDOUT_FILENO, &out[..count]);
+    let _ = rt.write_all(&out[..count]);
 }

@@ -8,10 +8,11 @@ ghost use Rattle.book.specs.Steps.{world, does};
 
 use book::play;
 use book::play::Run;
-use libc::{STDIN_FILENO, STDOUT_FILENO};
+use std::io::{Print, Read};
 
 // Plays the bytes and writes out what they print.
 fn play_out(
+    output: &impl Print,
     run: Run,
     bytes: &[u8],
     words: &mut [u64; 448],
@@ -26,12 +27,13 @@ fn play_out(
     let line = run.line;
     let next = play::play(line, words, tail, bytes, medium, cache, out);
     let n = next.n;
-    io::write_all(STDOUT_FILENO, &out[..n]);
+    let _ = output.write_all(&out[..n]);
     next
 }
 
 // The end of the input, which ends a line that was begun.
 fn finish(
+    output: &impl Print,
     run: Run,
     words: &mut [u64; 448],
     tail: &mut [u8; 512],
@@ -50,13 +52,15 @@ fn finish(
         same.n = 0;
         return same;
     }
-    let mut last = play_out(run, b"\n", words, tail, medium, cache, out);
+    let mut last = play_out(output, run, b"\n", words, tail, medium, cache, out);
     last.on = false;
     last
 }
 
 // Reads once and takes what came.
 fn read_some(
+    input: &mut impl Read,
+    output: &impl Print,
     run: Run,
     words: &mut [u64; 448],
     tail: &mut [u8; 512],
@@ -66,17 +70,16 @@ fn read_some(
 ) -> Run
     requires { length out.old ≡ 180224 }
 {
-    let mut bytes = io::buffer();
-    let got = libc::read(STDIN_FILENO, &mut bytes);
-    if got <= 0 {
-        return finish(run, words, tail, medium, cache, out);
+    let mut bytes = [0u8; 4096];
+    match input.read(&mut bytes) {
+        Ok(0) | Err(_) => finish(output, run, words, tail, medium, cache, out),
+        Ok(n) => play_out(output, run, &bytes[..n], words, tail, medium, cache, out),
     }
-    let n = io::count(got, &bytes);
-    play_out(run, &bytes[..n], words, tail, medium, cache, out)
 }
 
 // 4 log blocks and 2 pages: a medium of 9 blocks and a cache of 2. A byte of input prints at most 44.
-fn main() {
+fn main(rt: HostRuntime) {
+    let mut input = rt.stdin();
     let mut words = [0u64; 448];
     let mut tail = [0u8; 512];
     let mut medium = [0u8; 4608];
@@ -96,6 +99,8 @@ fn main() {
             return;
         }
         let next = read_some(
+            &mut input,
+            &rt,
             run,
             &mut words,
             &mut tail,

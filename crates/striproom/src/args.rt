@@ -2,7 +2,8 @@
 ghost use Rattle.std.specs.Prelude.{◌≡◌, ◌<◌};
 ghost use Rattle.striproom.specs.Arguments.{one_digit, two_digits, descriptor_of, is_right};
 
-use libc::STDERR_FILENO;
+use std::env::{Env, FillError};
+use std::io::Print;
 
 // A descriptor of one digit; 1 where it is none from 3 on.
 fn one_digit(a: u8) -> u8
@@ -49,17 +50,40 @@ fn descriptor(word: &[u8]) -> u8
     1
 }
 
+// Is there an argument i? The program's own name is argument 0.
+fn is_given(rt: &impl Env, i: usize) -> bool {
+    let mut byte = [0u8; 1];
+    match rt.arg(i, &mut byte) {
+        Ok(_) | Err(FillError::TooLong) => true,
+        Err(FillError::NotPresent) => false,
+    }
+}
+
+// How many arguments there are, the program's own name among them; four stands for more, too.
+pub fn count(rt: &impl Env) -> usize {
+    let mut n: usize = 0;
+    while n < 4 {
+        if !is_given(rt, n) {
+            return n;
+        }
+        n += 1;
+    }
+    n
+}
+
 // Where the exit code goes: 0 for nowhere, 1 where the second argument is no descriptor.
-pub fn code_to(count: usize) -> u8
+pub fn code_to(rt: &impl Env, count: usize) -> u8
     ensures { count < 3 → result ≡ 0 }
 {
     if count < 3 {
         return 0;
     }
-    // A word of more than two bytes is no descriptor, so the third byte need not be read whole.
-    let mut word = [0u8; 3];
-    let n = os::arg(2, &mut word);
-    descriptor(&word[..n])
+    // A word of more than two bytes is no descriptor, so a longer one need not be read.
+    let mut word = [0u8; 2];
+    match rt.arg(2, &mut word) {
+        Ok(n) => descriptor(&word[..n]),
+        Err(_) => 1,
+    }
 }
 
 // Is there a file with a name, and at most a descriptor beside it?
@@ -78,30 +102,17 @@ pub fn is_right(count: usize, n: usize, to: u8) -> bool
     to != 1
 }
 
-// How to use the program.
-pub fn usage() {
-    io::write_all(STDERR_FILENO, b"usage: striproom FILE\n");
-    io::write_all(
-        STDERR_FILENO,
-        b"Plays a script from standard input on the medium in FILE, and prints each line's answer.\n",
+// How to use the program, said on standard error.
+pub fn usage(err: &impl Print) {
+    let _ = err.println("usage: striproom FILE");
+    let _ = err.println(
+        "Plays a script from standard input on the medium in FILE, and prints each line's answer.",
     );
-    io::write_all(
-        STDERR_FILENO,
-        b"  F 4 2      makes FILE, or formats it: 4 log blocks, 2 pages\n",
-    );
-    io::write_all(STDERR_FILENO, b"  O 0        opens the medium\n");
-    io::write_all(
-        STDERR_FILENO,
-        b"  B 1        begins transaction 1 at clock 1\n",
-    );
-    io::write_all(
-        STDERR_FILENO,
-        b"  W 1 7 00112233445566778899aabbccddeeff   writes record 7 in it\n",
-    );
-    io::write_all(STDERR_FILENO, b"  C 1 2      commits it at clock 2\n");
-    io::write_all(STDERR_FILENO, b"  Q 7 2      reads record 7 as of time 2\n");
-    io::write_all(
-        STDERR_FILENO,
-        b"All lines: docs/REPLAY.md. Exit codes: docs/STRIPROOM.md.\n",
-    );
+    let _ = err.println("  F 4 2      makes FILE, or formats it: 4 log blocks, 2 pages");
+    let _ = err.println("  O 0        opens the medium");
+    let _ = err.println("  B 1        begins transaction 1 at clock 1");
+    let _ = err.println("  W 1 7 00112233445566778899aabbccddeeff   writes record 7 in it");
+    let _ = err.println("  C 1 2      commits it at clock 2");
+    let _ = err.println("  Q 7 2      reads record 7 as of time 2");
+    let _ = err.println("All lines: docs/REPLAY.md. Exit codes: docs/STRIPROOM.md.");
 }

@@ -10,12 +10,16 @@ ghost use Rattle.std.specs.Prelude.{◌≡◌, false, ◌≤◌, length};
 ghost use Rattle.striproom.specs.File.{first_of};
 
 use crate::play::Run;
-use libc::STDIN_FILENO;
 use rooms::parts::Standing;
 use script::line;
+use std::env::{Env, FillError};
+use std::fs::File;
+use std::io::{Print, Read};
+use std::rt::Files;
 
 // Plays all the bytes.
 fn play_all(
+    rt: &(impl Files<File = File> + Print),
     run: Run,
     name: &[u8],
     to: u8,
@@ -39,6 +43,7 @@ fn play_all(
             return r;
         }
         let next = play::play(
+            rt,
             r,
             name,
             to,
@@ -58,6 +63,7 @@ fn play_all(
 
 // The end of the input, which ends a line that was begun.
 fn finish(
+    rt: &(impl Files<File = File> + Print),
     run: Run,
     name: &[u8],
     to: u8,
@@ -81,7 +87,7 @@ fn finish(
         return same;
     }
     let mut last = play::play(
-        run, name, to, b"\n", words, tail, medium, cache, buffer, out,
+        rt, run, name, to, b"\n", words, tail, medium, cache, buffer, out,
     );
     last.on = false;
     last
@@ -89,6 +95,8 @@ fn finish(
 
 // Reads once and plays what came.
 fn read_some(
+    input: &mut impl Read,
+    rt: &(impl Files<File = File> + Print),
     run: Run,
     name: &[u8],
     to: u8,
@@ -104,24 +112,25 @@ fn read_some(
     requires buffer_len { length buffer.old ≡ 40000 }
     requires out_len { length out.old ≡ 94000 }
 {
-    let mut bytes = io::large_buffer();
-    let got = libc::read(STDIN_FILENO, &mut bytes);
-    if got <= 0 {
-        return finish(run, name, to, words, tail, medium, cache, buffer, out);
+    let mut bytes = [0u8; 65536];
+    match input.read(&mut bytes) {
+        Ok(0) | Err(_) => finish(
+            rt, run, name, to, words, tail, medium, cache, buffer, out,
+        ),
+        Ok(n) => play_all(
+            rt,
+            run,
+            name,
+            to,
+            &bytes[..n],
+            words,
+            tail,
+            medium,
+            cache,
+            buffer,
+            out,
+        ),
     }
-    let n = io::count(got, &bytes);
-    play_all(
-        run,
-        name,
-        to,
-        &bytes[..n],
-        words,
-        tail,
-        medium,
-        cache,
-        buffer,
-        out,
-    )
 }
 
 // How the room stands before the first line: without a medium where the file is missing.
@@ -142,19 +151,24 @@ fn first(fd: i32, medium: &[u8], bytes: usize) -> Standing
 
 // Plays the input on the file, and answers the exit code. The buffers are as long as the largest sizes ask, 32 log blocks
 // and 64 pages, and as the longest answer buffer.
-fn run(name: &[u8], to: u8) -> u8 {
+fn run(
+    input: &mut impl Read,
+    rt: &(impl Files<File = File> + Print),
+    name: &[u8],
+    to: u8,
+) -> u8 {
     let mut words = [0u64; 448];
     let mut tail = [0u8; 512];
     let mut medium = [0u8; 50688];
     let mut cache = [0u8; 32768];
     let mut buffer = [0u8; 40000];
     let mut out = [0u8; 94000];
-    let opened = room::open(name, to, &mut medium);
+    let opened = room::open(rt, name, to, &mut medium);
     if opened.code != 0 {
         return opened.code;
     }
-    let standing = first(opened.fd, &medium, opened.bytes);
-    let mut r = play::starts(line::empty(), standing, opened.fd);
+    let standing = first(files::descriptor(&opened.file), &medium, opened.bytes);
+    let mut r = play::starts(line::empty(), standing, opened.file);
     // A proved loop has to end: it counts its turns down, from a number that no run uses up.
     let mut turns = u64::MAX;
     while turns > 0 {
@@ -162,6 +176,8 @@ fn run(name: &[u8], to: u8) -> u8 {
             return r.code;
         }
         let next = read_some(
+            input,
+            rt,
             r,
             name,
             to,
@@ -179,14 +195,14 @@ fn run(name: &[u8], to: u8) -> u8 {
 }
 
 // Says what went wrong, and writes the exit code where it is asked for.
-fn report(name: &[u8], to: u8, code: u8) {
+fn report(err: &impl Print, name: &[u8], to: u8, code: u8) {
     if code == 0 {
         return;
     }
     if code == 2 {
-        args::usage();
+        args::usage(err);
     } else {
-        files::outcome::say(name, code);
+        files::outcome::say(err, name, code);
     }
     if to < 3 {
         return;
@@ -194,19 +210,23 @@ fn report(name: &[u8], to: u8, code: u8) {
     files::code(to as i32, code);
 }
 
-fn main() {
-    let count = os::arg_count();
-    let to = args::code_to(count);
-    let mut name = io::buffer();
-    let n = os::arg(1, &mut name);
-    if os::errno() == libc::ENAMETOOLONG {
-        report(&name, to, 5);
-        return;
-    }
+fn main(rt: HostRuntime) {
+    let err = rt.stderr();
+    let count = args::count(&rt);
+    let to = args::code_to(&rt, count);
+    let mut name = [0u8; 4096];
+    let n = match rt.arg(1, &mut name) {
+        Ok(n) => n,
+        Err(FillError::NotPresent) => 0,
+        Err(FillError::TooLong) => {
+            report(&err, &name, to, 5);
+            return;
+        }
+    };
     if !args::is_right(count, n, to) {
-        report(&name[..n], to, 2);
+        report(&err, &name[..n], to, 2);
         return;
     }
-    let code = run(&name[..n], to);
-    report(&name[..n], to, code);
+    let code = run(&mut rt.stdin(), &rt, &name[..n], to);
+    report(&err, &name[..n], to, code);
 }

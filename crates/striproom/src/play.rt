@@ -5,7 +5,7 @@ ghost use Rattle.script.specs.Run.{stand, play_of};
 ghost use Rattle.rooms.specs.Room.{plan_of, turn_of};
 ghost use Rattle.rooms.specs.Parts.{stage_of, room_of};
 ghost use Rattle.rooms.specs.Steps.{does};
-ghost use Rattle.files.specs.Codes.{missing_code};
+ghost use Rattle.files.specs.Codes.{descriptor, missing_code};
 ghost use Rattle.disk.specs.Stored.{is_format};
 ghost use Rattle.striproom.specs.File.{Apart};
 ghost use Rattle.striproom.specs.Play.{Answered, Leads};
@@ -13,42 +13,44 @@ ghost use Rattle.striproom.specs.Play.{Answered, Leads};
 use crate::room;
 use disk::step;
 use disk::step::Played;
-use files::{folder, outcome};
-use libc::STDOUT_FILENO;
+use files::{Stored, folder, outcome};
 use rooms::parts::Standing;
 use rooms::plan::Plan;
 use rooms::{parts, plan};
 use script::call::{Asked, Call};
 use script::line::Line;
 use script::{call, line};
+use std::fs::File;
+use std::io::Print;
+use std::rt::Files;
 
-// Where a run stands: the line begun, the room, the file's descriptor (-1: it is missing), whether the run goes on, the
-// exit code, and how many bytes were taken.
-#[derive(Clone, Copy)]
+// Where a run stands: the line begun, the room, the file (none: it is missing), whether the run goes on, the exit code,
+// and how many bytes were taken.
+#[derive(Drop)]
 pub struct Run {
     pub line: Line,
     pub standing: Standing,
-    pub fd: i32,
+    pub file: Option<File>,
     pub on: bool,
     pub code: u8,
     pub next: usize,
 }
 
-// The file's descriptor, and the exit code of what went wrong.
-#[derive(Clone, Copy)]
+// The file, and the exit code of what went wrong.
+#[derive(Drop)]
 pub struct Kept {
-    pub fd: i32,
+    pub file: Option<File>,
     pub code: u8,
 }
 
 // The start of a run.
-pub fn starts(line: Line, standing: Standing, fd: i32) -> Run
-    ensures { result ≡ record { line = line; standing = standing; fd = fd; on = true; code = 0; next = 0 } }
+pub fn starts(line: Line, standing: Standing, file: Option<File>) -> Run
+    ensures { result ≡ record { line = line; standing = standing; file = file; on = true; code = 0; next = 0 } }
 {
     Run {
         line: line,
         standing: standing,
-        fd: fd,
+        file: file,
         on: true,
         code: 0,
         next: 0,
@@ -57,7 +59,7 @@ pub fn starts(line: Line, standing: Standing, fd: i32) -> Run
 
 // The run ends with this code.
 fn stops(run: Run, code: u8) -> Run
-    ensures { result ≡ record { line = run.line; standing = run.standing; fd = run.fd; on = false; code = code; next = run.next } }
+    ensures { result ≡ record { line = run.line; standing = run.standing; file = run.file; on = false; code = code; next = run.next } }
 {
     let mut r = run;
     r.on = false;
@@ -65,8 +67,8 @@ fn stops(run: Run, code: u8) -> Run
     r
 }
 
-// Stores the bytes that a line changed, if any did.
-fn keep_part(fd: i32, medium: &[u8], changed: bool, at: usize, len: usize) -> u8
+// Stores the bytes that a line changed, if any did. Nothing is written where there is no file.
+fn keep_part(file: &Option<File>, medium: &[u8], changed: bool, at: usize, len: usize) -> u8
     requires medium_len { length medium.now ≡ 50688 }
     requires len_bound { at + len ≤ 50688 }
     ensures { changed ≡ false → result ≡ 0 }
@@ -74,64 +76,95 @@ fn keep_part(fd: i32, medium: &[u8], changed: bool, at: usize, len: usize) -> u8
     if !changed {
         return 0;
     }
-    outcome::of_stored(files::store(fd, &medium[at..at + len], at as i64))
+    match file {
+        Some(file) => outcome::of_stored(files::store(file, &medium[at..at + len], at as i64)),
+        None => outcome::of_stored(Stored::Unwritten),
+    }
+}
+
+// Makes the file hold the medium. Nothing is written where there is no file.
+fn make(file: &Option<File>, medium: &[u8]) -> Stored {
+    match file {
+        Some(file) => files::make(file, medium),
+        None => Stored::Unwritten,
+    }
 }
 
 // Stores a formatted medium, and before it the file's name in its folder: else a power cut could take a new file whole. A
 // refused formatting leaves the file as it is; without a file it is an error.
-fn keep_whole(name: &[u8], to: u8, fd: i32, t: Standing, medium: &[u8]) -> Kept
+fn keep_whole(
+    rt: &impl Files<File = File>,
+    name: &[u8],
+    to: u8,
+    file: Option<File>,
+    t: Standing,
+    medium: &[u8],
+) -> Kept
     requires { length medium.now ≡ 50688 }
-    ensures value { t.stage < 2 → result ≡ record { fd = fd; code = missing_code fd } }
-    ensures apart { Apart fd to → result.code ≡ 0 → Apart result.fd to }
+    ensures value { t.stage < 2 → result ≡ record { file = file; code = missing_code (descriptor file) } }
+    ensures apart { Apart (descriptor file) to → result.code ≡ 0 → Apart (descriptor result.file) to }
 {
     if t.stage < 2 {
+        let code = outcome::of_missing(files::descriptor(&file));
         return Kept {
-            fd: fd,
-            code: outcome::of_missing(fd),
+            file: file,
+            code: code,
         };
     }
-    let file = room::have(name, to, fd);
-    if file.code != 0 {
+    let had = room::have(rt, name, to, file);
+    if had.code != 0 {
         return Kept {
-            fd: file.fd,
-            code: file.code,
+            file: had.file,
+            code: had.code,
         };
     }
-    let code = outcome::of_stored(folder::sync(name));
+    let code = outcome::of_stored(folder::sync(rt, name));
     if code != 0 {
         return Kept {
-            fd: file.fd,
+            file: had.file,
             code: code,
         };
     }
     let n = parts::medium_part(t);
-    let stored = files::make(file.fd, &medium[..n]);
+    let stored = make(&had.file, &medium[..n]);
     Kept {
-        fd: file.fd,
+        file: had.file,
         code: outcome::of_stored(stored),
     }
 }
 
 // Stores what a line left.
-fn keep(call: Call, played: Played, name: &[u8], to: u8, fd: i32, medium: &[u8]) -> Kept
+fn keep(
+    rt: &impl Files<File = File>,
+    call: Call,
+    played: Played,
+    name: &[u8],
+    to: u8,
+    file: Option<File>,
+    medium: &[u8],
+) -> Kept
     requires medium_len { length medium.now ≡ 50688 }
     requires len_bound { played.at + played.len ≤ 50688 }
-    ensures value { is_format call ≡ false → played.changed ≡ false → result ≡ record { fd = fd; code = 0 } }
-    ensures apart { Apart fd to → result.code ≡ 0 → Apart result.fd to }
+    ensures value { is_format call ≡ false → played.changed ≡ false → result ≡ record { file = file; code = 0 } }
+    ensures apart { Apart (descriptor file) to → result.code ≡ 0 → Apart (descriptor result.file) to }
 {
     let t = played.standing;
     match call {
-        Call::Format(_, _) => keep_whole(name, to, fd, t, medium),
-        _ => Kept {
-            fd: fd,
-            code: keep_part(fd, medium, played.changed, played.at, played.len),
-        },
+        Call::Format(_, _) => keep_whole(rt, name, to, file, t, medium),
+        _ => {
+            let code = keep_part(&file, medium, played.changed, played.at, played.len);
+            Kept {
+                file: file,
+                code: code,
+            }
+        }
     }
 }
 
 // Plays a line that the room plays. Its answer is written out where all that it changed is stored, and the run ends where
 // either fails.
 fn turn(
+    rt: &(impl Files<File = File> + Print),
     run: Run,
     asked: Asked,
     p: Plan,
@@ -152,28 +185,41 @@ fn turn(
     requires stage_bound { p.stage ≤ stage_of run.standing }
     ensures next_value { result.next ≡ run.next }
     ensures line_value { result.code ≡ 0 → (result.line ≡ run.line) × (result.on ≡ run.on) × Answered (turn_of asked (room_of run.standing medium.old cache.old (state_of words.old tail.old))) (room_of result.standing medium.new cache.new (state_of words.new tail.new)) out.new }
-    ensures apart { Apart run.fd to → result.code ≡ 0 → Apart result.fd to }
+    ensures apart { Apart (descriptor run.file) to → result.code ≡ 0 → Apart (descriptor result.file) to }
 {
-    let before = run.standing;
+    let Run {
+        line,
+        standing: before,
+        file,
+        on,
+        code,
+        next,
+    } = run;
     let played = step::play(asked, p, before, words, tail, medium, cache, buffer, out, 0);
-    let call = asked.call;
-    let kept = keep(call, played, name, to, run.fd, medium);
-    if kept.code != 0 {
-        return stops(run, kept.code);
+    let kept = keep(rt, asked.call, played, name, to, file, medium);
+    let stored = kept.code;
+    let mut r = Run {
+        line: line,
+        standing: before,
+        file: kept.file,
+        on: on,
+        code: code,
+        next: next,
+    };
+    if stored != 0 {
+        return stops(r, stored);
     }
     let n = played.n;
-    if !io::write_all(STDOUT_FILENO, &out[..n]) {
-        return stops(run, 8);
+    if rt.write_all(&out[..n]).is_err() {
+        return stops(r, 8);
     }
-    let after = played.standing;
-    let mut r = run;
-    r.standing = after;
-    r.fd = kept.fd;
+    r.standing = played.standing;
     r
 }
 
 // Takes bytes up to the end of a line, and plays the line.
 pub fn play(
+    rt: &(impl Files<File = File> + Print),
     run: Run,
     name: &[u8],
     to: u8,
@@ -192,28 +238,26 @@ pub fn play(
     requires bytes_nonzero { 0 < length bytes.now }
     ensures next_nonzero { (0 < result.next) × (result.next ≤ length bytes.now) }
     ensures leads { run.on ≡ true → result.code ≡ 0 → Leads (play_of does (stand run.line (room_of run.standing medium.old cache.old (state_of words.old tail.old)) true []) (take result.next bytes.now)) result.line (room_of result.standing medium.new cache.new (state_of words.new tail.new)) result.on out.new }
-    ensures apart { Apart run.fd to → result.code ≡ 0 → Apart result.fd to }
+    ensures apart { Apart (descriptor run.file) to → result.code ≡ 0 → Apart (descriptor result.file) to }
 {
-    let begun = run.line;
-    let taken = line::take(begun, bytes, 0);
-    let longer = taken.line;
     let mut r = run;
+    let taken = line::take(r.line, bytes, 0);
+    let longer = taken.line;
     if !taken.ended {
         r.line = longer;
         r.next = bytes.len();
         return r;
     }
     r.next = taken.next;
-    let empty = line::empty();
-    r.line = empty;
+    r.line = line::empty();
     let asked = call::meaning(longer);
-    let asks = asked.call;
-    let p = plan::of(asks);
-    let t = run.standing;
+    let p = plan::of(asked.call);
+    let t = r.standing;
     if parts::reached(t) < p.stage {
-        return stops(r, outcome::of_missing(run.fd));
+        let code = outcome::of_missing(files::descriptor(&r.file));
+        return stops(r, code);
     }
     turn(
-        r, asked, p, name, to, words, tail, medium, cache, buffer, out,
+        rt, r, asked, p, name, to, words, tail, medium, cache, buffer, out,
     )
 }

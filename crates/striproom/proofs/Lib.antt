@@ -1,3 +1,0 @@
-pub mod FileLaws
-pub mod PlayLaws
-pub mod Reading
