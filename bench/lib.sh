@@ -2,10 +2,10 @@
 
 oracle=oracle/target/release/oracle
 # Each may be given with arguments, as in REPLAY='other/program run'.
-read -ra stripbook <<<"${STRIPBOOK:-target/bin/stripbook}"
-read -ra replay <<<"${REPLAY:-target/bin/replay}"
-read -ra striproom <<<"${STRIPROOM:-target/bin/striproom}"
-read -ra shorten <<<"${SHORTEN:-target/bin/shorten}"
+read -ra stripbook <<<"${STRIPBOOK:-crates/stripbook/out/stripbook}"
+read -ra replay <<<"${REPLAY:-crates/replay/out/replay}"
+read -ra striproom <<<"${STRIPROOM:-crates/striproom/out/striproom}"
+read -ra shorten <<<"${SHORTEN:-crates/shorten/out/shorten}"
 
 work=$(mktemp -d)
 trap 'rm -rf "$work"' EXIT
