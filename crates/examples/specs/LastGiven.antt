@@ -84,7 +84,7 @@ Differ = given_ran 2 1 (formatted 2 1) two_reads ≡ record {
 
 -- ---- by the question of #102
 
--- neither of these reads is answered (`readUnstored` in Repeats). With the log stored before the first of them both
+-- neither of these reads is answered (`read_unstored` in Repeats). With the log stored before the first of them both
 -- are, and alike, for the later commit gets a later time
 abbrev pub survives : Row
 survives = record {
