@@ -30,7 +30,7 @@ loop-i-preserved c =
     let h = c.loop-i.invariant in
     let u = simp (length-take, length-drop) at c.put_line-next.ensures.upper_bound in
     let e = c.line_end-end.ensures.value in
-    let p = (c.put_line-next.ensures.upper_bound, c.put_line-next.ensures.out_after) in (
+    let p = c.put_line-next.ensures.upper_bound in (
       omega arith,
       h.1,
       c.out-1.given ∙ h.2,

@@ -11,7 +11,7 @@ loop-i-init c =
     let a = c.args in
     let f : length a.t1 ≡ 12 = search rules in
     let l : length a.t2 ≡ 12 = search rules in
-    let s = play_start a.t1 a.t2 _ _ c.format.ensures c.before.«open».ensures in
+    let s = play_start a.t1 a.t2 _ _ c.format.ensures c.«open».ensures in
     (omega arith, f, l, search rules, search rules, s)
 
 pub loop-i-preserved : goal.loop-i-preserved
