@@ -1,14 +1,14 @@
 -- A line of numbers alone: its form closes with the last of them, so that the numbers of the form are those of the words.
 -- No letter of the script takes four numbers or more, and another byte takes none.
 use mathlib.Core.Path.{◌≡◌, refl, sym, ap, ◌∙◌}
-use mathlib.Core.Bool.{Bool, true, false, not}
+use mathlib.Core.Bool.{Bool, true, false}
 use mathlib.Core.Option.{Option, none, some}
 use mathlib.Core.List.{List, [], ◌∷◌, ◌++◌}
 use Prim.Native.Nat.{ℕ, suc, ◌≤◌, ◌<◌}
 use native.Mathlib.Omega.{arith}
 use lib.ListN.{length}
 use lib.Dec.{eqb}
-use borrow.Author.Tests.{eqb-true, eqb-false, lt-ltb, not-true, not-false}
+use borrow.Author.Tests.{eqb-true, eqb-false, lt-ltb}
 use Rattle.script.specs.declared.line.Line.{Line}
 use Rattle.script.specs.Words.{words_of, is_in, number_of, joined, numbers_of}
 use Rattle.script.specs.Form.{word_of, Form, other, bare, ending, behind, after_letter, is_letter, by_words as form_by, limited, form_of}
@@ -142,15 +142,15 @@ module _ (l : Line) where
 
   -- past the first questions
   module _ (b : l.bad ≡ false) (h : l.letter ≡ 0 → ⊥) (e : l.count ≡ 0 → ⊥) (r : Bool) (g : r ≡ is_number l) where
-    pub word_call : not r ≡ true → meaning_of l ≡ Other
+    pub word_call : r ≡ false → meaning_of l ≡ Other
     unfolding meaning_of form_call last_word
-    word_call t = simp (seen_words l b h e, ← g, not-true r t)
+    word_call t = simp (seen_words l b h e, ← g, t)
 
-    pub number_call : not r ≡ false → (ns : List ℕ) → done_of l [] ≡ ns → meaning_of l ≡ call_of l.letter (ns ++ (l.last ∷ []))
+    pub number_call : r ≡ true → (ns : List ℕ) → done_of l [] ≡ ns → meaning_of l ≡ call_of l.letter (ns ++ (l.last ∷ []))
     unfolding meaning_of form_call last_word
-    number_call t ns d = simp (seen_words l b h e, ← g, not-false r t, d)
+    number_call t ns d = simp (seen_words l b h e, ← g, t, d)
 
-    pub many_call : not r ≡ false → 4 ≤ l.count → meaning_of l ≡ Other
+    pub many_call : r ≡ true → 4 ≤ l.count → meaning_of l ≡ Other
     many_call t k =
         bool_case (eqb l.count 4)
         (λ n.

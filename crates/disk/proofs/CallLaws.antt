@@ -26,8 +26,11 @@ use Rattle.disk.proofs.AlikeLaws.{Alike, alike_same, alike_is, alike_splice}
 
 pub alike_put : {m n : List ℕ} {k : ℕ} → Stores m k n → Alike m k n
 unfolding put
-alike_put {m} {n} {k} nothing = alike_same m k
-alike_put {m} {n} {k} (block b e) = alike_splice m k (512 * k) b (omega arith) (omega arith)
+alike_put {m = m} s = go s
+  where
+    go : {k : ℕ} {n : List ℕ} → Stores m k n → Alike m k n
+    go {k = k} nothing = alike_same m k
+    go {k = k} (block b e) = alike_splice m k (512 * k) b (omega arith) (omega arith)
 
 -- ---- a call on a store that does not fit is refused
 

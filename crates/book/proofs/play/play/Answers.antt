@@ -76,7 +76,7 @@ loop-i-preserved-then-letter-eq81 c =
       v.2,
       c.out-1.given ∙ v.3,
       omega arith,
-      step_query c.args.bytes.now c.loop-i.line c.loop-i.i c.take-taken.result c.loop-i-test.true c.take-taken.ensures (c.if-not-taken.false) _ _ _ _ c.meaning-asked.result c.letter-letter.result c.empty-line.result c.meaning-asked.ensures c.letter-letter.ensures c.empty-line.ensures _ _ _ c.if-letter-eq81.true c.query-reading.ensures c.put-n.ensures.out_after
+      step_query c.args.bytes.now c.loop-i.line c.loop-i.i c.take-taken.result c.loop-i-test.true c.take-taken.ensures (not-false c.take-taken.result.ended c.if-not-taken.false) _ _ _ _ c.meaning-asked.result c.letter-letter.result c.empty-line.result c.meaning-asked.ensures c.letter-letter.ensures c.empty-line.ensures _ _ _ c.if-letter-eq81.true c.query-reading.ensures c.put-n.ensures.out_after
           ∙ v.5,
     )
 
@@ -106,7 +106,7 @@ loop-i-preserved c =
       c.cache-1.given ∙ v.2,
       c.out-else-letter-eq81-1.given ∙ v.3,
       omega arith,
-      step_change c.args.bytes.now c.loop-i.line c.loop-i.i c.take-taken.result c.loop-i-test.true c.take-taken.ensures (c.if-not-taken.false) _ _ _ _ c.meaning-asked.result c.letter-letter.result c.empty-line.result c.meaning-asked.ensures c.letter-letter.ensures c.empty-line.ensures _ _ _ _ _ c.if-letter-eq0.false c.if-letter-eq81.false c.change-answer.ensures c.put-n-else-letter-eq81.ensures.out_after
+      step_change c.args.bytes.now c.loop-i.line c.loop-i.i c.take-taken.result c.loop-i-test.true c.take-taken.ensures (not-false c.take-taken.result.ended c.if-not-taken.false) _ _ _ _ c.meaning-asked.result c.letter-letter.result c.empty-line.result c.meaning-asked.ensures c.letter-letter.ensures c.empty-line.ensures _ _ _ _ _ c.if-letter-eq0.false c.if-letter-eq81.false c.change-answer.ensures c.put-n-else-letter-eq81.ensures.out_after
           ∙ v.5,
     )
 

@@ -11,14 +11,17 @@ differ-requires c =
 
 pub returns : goal.returns
 returns c =
-    let k = c.args in let s = state_of k.words.now k.tail.now in
-    let e = (c.step-stepped.ensures.n_bound, (c.step-stepped.ensures.out_after, c.step-stepped.ensures.tail_after)) in let o = c.of.ensures in let v = c.keep.ensures in let b = c.differ.ensures in let h = c.medium-1.given ∙ c.requires.medium_len in
+    let k = c.args in
+    let s = state_of k.words.now k.tail.now in
+    let e = c.step-stepped.ensures in
+    let x = c.extent_of-e.ensures in
+    let h = c.medium-1.given ∙ c.requires.medium_len in
     record {
-      n_bound = c.step-stepped.ensures.n_bound;
-      out_after = c.step-stepped.ensures.out_after;
-      tail_after = c.step-stepped.ensures.tail_after;
+      n_bound = e.n_bound;
+      out_after = e.out_after;
+      tail_after = e.tail_after;
       len_bound = omega arith;
-      whole = λ f. line_whole k.asked k.t _ k.medium.now k.cache.now s _ _ _ c.requires.medium_len h e.1.1 f _ _ _ _ _ _ c.medium_part.ensures.value o c.extent_of-e.ensures.at_value.0 c.extent_of-e.ensures.at_value.1 c.extent_of-e.ensures.len_bound v b;
-      changed_value = λ f. line_changed k.asked k.t _ k.medium.now k.cache.now s _ _ _ c.requires.medium_len h e.1.1 f _ _ _ _ _ _ c.medium_part.ensures.value o c.extent_of-e.ensures.at_value.0 c.extent_of-e.ensures.at_value.1 c.extent_of-e.ensures.len_bound v b;
-      len_after = λ f. line_stored k.asked k.t _ k.medium.now k.cache.now s _ _ _ c.requires.medium_len h e.1.1 f _ _ _ _ _ _ c.medium_part.ensures.value o c.extent_of-e.ensures.at_value.0 c.extent_of-e.ensures.at_value.1 c.extent_of-e.ensures.len_bound v b;
+      whole = λ f. line_whole k.asked k.t _ k.medium.now k.cache.now s _ _ _ c.requires.medium_len h e.tail_after f _ _ _ _ _ _ c.medium_part.ensures.value c.of.ensures x.at_value.0 x.at_value.1 x.len_bound.0 c.keep.ensures c.differ.ensures;
+      changed_value = λ f. line_changed k.asked k.t _ k.medium.now k.cache.now s _ _ _ c.requires.medium_len h e.tail_after f _ _ _ _ _ _ c.medium_part.ensures.value c.of.ensures x.at_value.0 x.at_value.1 x.len_bound.0 c.keep.ensures c.differ.ensures;
+      len_after = λ f. line_stored k.asked k.t _ k.medium.now k.cache.now s _ _ _ c.requires.medium_len h e.tail_after f _ _ _ _ _ _ c.medium_part.ensures.value c.of.ensures x.at_value.0 x.at_value.1 x.len_bound.0 c.keep.ensures c.differ.ensures;
     }

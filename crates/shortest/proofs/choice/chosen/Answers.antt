@@ -1,13 +1,13 @@
 -- Invariant: the lines so far are chosen as in choice j, and the choice among those that are left is choice `rest` of
 -- the lines behind them.
 use mathlib.Core.Path.{◌≡◌, refl, sym, ap, ◌∙◌}
-use mathlib.Core.Logic.{⊎_elim}
 use Prim.Native.Nat.{◌+◌, ◌-◌, ◌^◌}
 use native.Mathlib.Omega.{arith}
 use lib.ListN.{length, drop, length-set}
 use Rattle.shortest.specs.Choice.{chosen_of}
 use Rattle.shortest.proofs.ChoiceLaws.{halved, even, chosen_in, chosen_out, next_in, next_out, last_in}
 use Rattle.shortest.proofs.choice.chosen.Goals as goal
+use Rattle.shortest.proofs.choice.chosen.Goals.{then-rest-half, else-rest-half}
 
 pub loop-i-init : goal.loop-i-init
 loop-i-init c =
@@ -28,24 +28,24 @@ loop-i-preserved c =
     let l = c.loop-i-test.true in
     let g = halved m i n l h.2 in
     let v = even m i n l h.2 in
-    ⊎_elim
-    (λ w. (
-      omega arith,
-      ap length w.1 ∙ simp length-set h.1,
-      g,
-      omega arith,
-      ap (drop (i + 1)) w.1 ∙ next_in m i n r f l p h.1 h.2 h.4,
-      rw (w.1, w.2) (chosen_in m i n r f l p h.1 h.2 h.4 w.0.taken) ∙ h.5,
-    ))
-    (λ w. (
-      omega arith,
-      ap length w.1 ∙ h.1,
-      g,
-      omega arith,
-      ap (drop (i + 1)) w.1 ∙ next_out m i n r f l p h.1 h.2 h.4,
-      rw (w.1, w.2) (chosen_out m i n r f l p h.1 h.2 h.4 w.0.left) ∙ h.5,
-    ))
-    c.if-rest-half.branch
+    elim c.if-rest-half.branch [
+      | then-rest-half w ↦ (
+        omega arith,
+        ap length w.flags-is ∙ simp length-set h.1,
+        g,
+        omega arith,
+        ap (drop (i + 1)) w.flags-is ∙ next_in m i n r f l p h.1 h.2 h.4,
+        rw (w.flags-is, w.rest-is) (chosen_in m i n r f l p h.1 h.2 h.4 w.if-rest-half.true) ∙ h.5,
+      )
+      | else-rest-half w ↦ (
+        omega arith,
+        ap length w.flags-is ∙ h.1,
+        g,
+        omega arith,
+        ap (drop (i + 1)) w.flags-is ∙ next_out m i n r f l p h.1 h.2 h.4,
+        rw (w.flags-is, w.rest-is) (chosen_out m i n r f l p h.1 h.2 h.4 w.if-rest-half.false) ∙ h.5,
+      )
+    ]
 
 pub returns : goal.returns
 returns c =

@@ -9,7 +9,7 @@ use Rattle.shortest.proofs.lines.put.Goals as goal
 
 pub loop-i-init : goal.loop-i-init
 loop-i-init c =
-    let f : length c.args.t3 ≡ 12 = search rules in
+    let f : length c.args.flags ≡ 12 = search rules in
     (omega arith, f, refl, omega arith, omega arith, refl)
 
 pub shape_of-out-then-bytes-at : goal.shape_of-out-then-bytes-at
@@ -21,7 +21,7 @@ returns-then-bytes-at c =
     let h = c.loop-i.invariant in
     record {
       upper_bound = omega arith;
-      out_after = put_short a.t3 a.bytes.now _ _ c.loop-i.i c.loop-i.at c.if-bytes-at.true h.5;
+      out_after = put_short a.flags a.bytes.now _ _ c.loop-i.i c.loop-i.at c.if-bytes-at.true h.5;
     }
 
 pub loop-i-preserved : goal.loop-i-preserved
@@ -30,13 +30,13 @@ loop-i-preserved c =
     let h = c.loop-i.invariant in
     let u = simp (length-take, length-drop) at c.put_line-next.ensures.upper_bound in
     let e = c.line_end-end.ensures.value in
-    let p = (c.put_line-next.ensures.upper_bound, c.put_line-next.ensures.out_after) in (
+    let p = c.put_line-next.ensures.upper_bound in (
       omega arith,
       h.1,
       c.out-1.given ∙ h.2,
       omega arith,
       omega arith,
-      put_turn a.t3 a.bytes.now _ c.loop-i.i c.loop-i.at c.line_end-end.result (omega arith)
+      put_turn a.flags a.bytes.now _ c.loop-i.i c.loop-i.at c.line_end-end.result (omega arith)
           c.if-bytes-at.false e _ (take c.loop-i.n c.loop-i.out) _ refl c.put_line-next.ensures.out_after h.5,
     )
 
@@ -49,5 +49,5 @@ returns c =
     let h = c.loop-i.invariant in
     record {
       upper_bound = omega arith;
-      out_after = put_all a.t3 a.bytes.now _ _ c.loop-i.i c.loop-i.at (omega arith) h.5;
+      out_after = put_all a.flags a.bytes.now _ _ c.loop-i.i c.loop-i.at (omega arith) h.5;
     }

@@ -9,9 +9,9 @@ use Rattle.shortest.proofs.play.play.Goals as goal
 pub loop-i-init : goal.loop-i-init
 loop-i-init c =
     let a = c.args in
-    let f : length a.t1 ≡ 12 = search rules in
-    let l : length a.t2 ≡ 12 = search rules in
-    let s = play_start a.t1 a.t2 _ _ c.format.ensures c.before.«open».ensures in
+    let f : length a.flags ≡ 12 = search rules in
+    let l : length a.lines ≡ 12 = search rules in
+    let s = play_start a.flags a.lines _ _ c.format.ensures c.«open».ensures in
     (omega arith, f, l, search rules, search rules, s)
 
 pub loop-i-preserved : goal.loop-i-preserved
@@ -24,11 +24,11 @@ loop-i-preserved c =
       h.2,
       c.medium-in-loop-i-2-1.given,
       c.cache-in-loop-i-2-1.given,
-      play_turn a.t1 a.t2 c.loop-i.i _ (omega arith) (omega arith) _ _ _ _ _ refl
+      play_turn a.flags a.lines c.loop-i.i _ (omega arith) (omega arith) _ _ _ _ _ refl
           c.make_if-next.ensures ∙ h.5,
     )
 
 pub returns : goal.returns
 returns c =
     let a = c.args in
-    let h = c.loop-i.invariant in play_end a.t1 _ c.loop-i.i _ _ _ (omega arith) h.5
+    let h = c.loop-i.invariant in play_end a.flags _ c.loop-i.i _ _ _ (omega arith) h.5

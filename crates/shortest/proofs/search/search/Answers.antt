@@ -15,8 +15,8 @@ overflow_add-j c = let p = few c.args.m c.requires in omega arith
 pub loop-j-preserved : goal.loop-j-preserved
 loop-j-preserved c =
     let t = c.loop-j-test.true in
-    let e = (c.better-next.ensures.upper_bound, c.better-next.ensures.value) in
-    (e.0, best_turn _ _ _ _ c.loop-j.j c.choices-span.result _ t e.1 c.loop-j.invariant.1)
+    let e = c.better-next.ensures in
+    (e.upper_bound, best_turn _ _ _ _ c.loop-j.j c.choices-span.result _ t e.value c.loop-j.invariant.1)
 
 pub returns : goal.returns
 returns c =

@@ -30,6 +30,6 @@ returns c =
     let h = c.keep-script.ensures in
     record {
       n_in_bounds = c.put-count.ensures.upper_bound;
-      long_value = sym (long_not _ k.result h l);
-      out_after = prints_are _ k.result h c.shortest-flags.result _ n l c.shortest-flags.ensures c.put-count.ensures.out_after;
+      long_value = sym (long_not _ c.keep-script.result h l);
+      out_after = prints_are _ c.keep-script.result h c.shortest-flags.result _ n l c.shortest-flags.ensures c.put-count.ensures.out_after;
     }
