@@ -8,13 +8,12 @@ use mathlib.Core.List.{List, [], ◌∷◌}
 use lib.ListN.{get_or}
 use lib.Dec.{eqb}
 use borrow.Author.Tests.{eq-eqb, ne_eqb}
-use types.Run.{OneOf, miss}
-use denote.Enum.Declared.{tag_of}
+use Rattle.layout.specs.declared.TxNumber.{TxNumber}
+use Rattle.layout.specs.declared.CommitTime.{CommitTime}
 use Rattle.store.specs.declared.Answer.{Answer}
 use Rattle.store.specs.declared.Answer.TheVariants.{Refused, Done, Begun, Written, Committed, Opened, Missing, Erased, Present, Listed}
 use Rattle.store.specs.declared.Refusal.{Refusal}
 use Rattle.store.specs.Answer.{Outcome, answer_value, leaves}
-use Rattle.store.specs.contracts.Answer.{the_type}
 use Rattle.handover.specs.declared.Transfer.{Transfer}
 use Rattle.handover.specs.declared.HandAnswer.TheVariants.{Handed}
 use Rattle.handover.specs.Hand.{HandOutcome, hand_ends, refusal_in, is_present, may_hand, reads, after_begin, after_read, after_commit}
@@ -45,8 +44,8 @@ unfolding may_hand
 owner_left a strip h p e z = simp (p, eq-eqb _ _ e, ne_eqb _ _ z)
 
 -- an answer that is no refusal
-pub not_refused : (a : Answer) → OneOf (1 ∷ 2 ∷ 3 ∷ 4 ∷ 5 ∷ 6 ∷ 7 ∷ 8 ∷ 9 ∷ []) (tag_of the_type a) → refusal_in a ≡ none
-not_refused (Refused r) o = absurd (miss (1 ∷ 2 ∷ 3 ∷ 4 ∷ 5 ∷ 6 ∷ 7 ∷ 8 ∷ 9 ∷ []) 0 tt o)
+pub not_refused : (a : Answer) → ((r : Refusal) → a ≡ Refused r → ⊥) → refusal_in a ≡ none
+not_refused (Refused r) o = absurd (o r refl)
 not_refused Done o = refl
 not_refused (Begun n) o = refl
 not_refused (Written k) o = refl
@@ -58,7 +57,7 @@ not_refused Present o = refl
 not_refused (Listed k) o = refl
 
 -- an answer that is not that a strip is there
-pub not_present : (a : Answer) → OneOf (0 ∷ 1 ∷ 2 ∷ 3 ∷ 4 ∷ 5 ∷ 6 ∷ 7 ∷ 9 ∷ []) (tag_of the_type a) → is_present a ≡ false
+pub not_present : (a : Answer) → (a ≡ Present → ⊥) → is_present a ≡ false
 not_present (Refused r) o = refl
 not_present Done o = refl
 not_present (Begun n) o = refl
@@ -67,19 +66,20 @@ not_present (Committed t) o = refl
 not_present (Opened t) o = refl
 not_present Missing o = refl
 not_present Erased o = refl
-not_present Present o = absurd (miss (0 ∷ 1 ∷ 2 ∷ 3 ∷ 4 ∷ 5 ∷ 6 ∷ 7 ∷ 9 ∷ []) 8 tt o)
+not_present Present o = absurd (o refl)
 not_present (Listed k) o = refl
 
 -- an answer with no number
-pub no_value : (a : Answer) → OneOf (0 ∷ 1 ∷ 6 ∷ 7 ∷ 8 ∷ []) (tag_of the_type a) → 0 ≡ answer_value a
+pub no_value : (a : Answer) → ((n : TxNumber) → a ≡ Begun n → ⊥) → ((k : ℕ) → a ≡ Written k → ⊥) → ((t : CommitTime) → a ≡ Committed t → ⊥)
+    → ((t : CommitTime) → a ≡ Opened t → ⊥) → ((k : ℕ) → a ≡ Listed k → ⊥) → 0 ≡ answer_value a
 unfolding answer_value
-no_value (Refused r) o = refl
-no_value Done o = refl
-no_value (Begun n) o = absurd (miss (0 ∷ 1 ∷ 6 ∷ 7 ∷ 8 ∷ []) 2 tt o)
-no_value (Written k) o = absurd (miss (0 ∷ 1 ∷ 6 ∷ 7 ∷ 8 ∷ []) 3 tt o)
-no_value (Committed t) o = absurd (miss (0 ∷ 1 ∷ 6 ∷ 7 ∷ 8 ∷ []) 4 tt o)
-no_value (Opened t) o = absurd (miss (0 ∷ 1 ∷ 6 ∷ 7 ∷ 8 ∷ []) 5 tt o)
-no_value Missing o = refl
-no_value Erased o = refl
-no_value Present o = refl
-no_value (Listed k) o = absurd (miss (0 ∷ 1 ∷ 6 ∷ 7 ∷ 8 ∷ []) 9 tt o)
+no_value (Refused r) b w c o l = refl
+no_value Done b w c o l = refl
+no_value (Begun n) b w c o l = absurd (b n refl)
+no_value (Written k) b w c o l = absurd (w k refl)
+no_value (Committed t) b w c o l = absurd (c t refl)
+no_value (Opened t) b w c o l = absurd (o t refl)
+no_value Missing b w c o l = refl
+no_value Erased b w c o l = refl
+no_value Present b w c o l = refl
+no_value (Listed k) b w c o l = absurd (l k refl)

@@ -15,4 +15,4 @@ returns-in-Refused c =
 pub returns-in_default : goal.returns-in_default
 unfolding after_write
 returns-in_default c =
-    handed_at _ _ _ c.value_in.ensures ∙ by_answer (λ (r : Option Refusal) (o : Outcome). after_commit r o c.args.number) _ _ c.commit-answer.ensures (not_refused c.commit-answer.result c.in-Refused.in-Refused-own.keys2)
+    handed_at _ _ _ c.value_in.ensures ∙ by_answer (λ (r : Option Refusal) (o : Outcome). after_commit r o c.args.number) _ _ c.commit-answer.ensures (not_refused c.commit-answer.result c.in_default.not-Refused)

@@ -15,4 +15,4 @@ returns-in-Refused c =
 pub returns-in_default : goal.returns-in_default
 unfolding hand_of
 returns-in_default c =
-    c.read.ensures ∙ under_number _ _ _ c.value_in.ensures ∙ by_answer (λ (r : Option Refusal) (o : Outcome). after_begin r o c.args.asked) _ _ c.begin-answer.ensures (not_refused c.begin-answer.result c.in-Refused.in-Refused-own.keys2)
+    c.read.ensures ∙ under_number _ _ _ c.value_in.ensures ∙ by_answer (λ (r : Option Refusal) (o : Outcome). after_begin r o c.args.asked) _ _ c.begin-answer.ensures (not_refused c.begin-answer.result c.in_default.not-Refused)

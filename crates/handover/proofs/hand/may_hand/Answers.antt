@@ -6,7 +6,7 @@ use Rattle.handover.proofs.hand.may_hand.Goals as goal
 
 pub returns-in_default : goal.returns-in_default
 unfolding may_hand
-returns-in_default c = simp (not_present c.args.reading.answer c.in-Present.in-Present-own.keys2)
+returns-in_default c = simp (not_present c.args.reading.answer c.in_default.not-Present)
 
 pub returns-then-strip-asked : goal.returns-then-strip-asked
 unfolding may_hand

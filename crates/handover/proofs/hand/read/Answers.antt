@@ -15,4 +15,4 @@ returns-in-Refused c =
 pub returns-in_default : goal.returns-in_default
 unfolding after_begin after_read answer_value
 returns-in_default c =
-    let a = c.args in c.check.ensures ∙ by_answer (λ (r : Option Refusal) (o : Outcome). after_read r o a.number a.asked) _ _ c.current_read-reading.ensures (not_refused c.current_read-reading.result.answer c.in-Refused.in-Refused-own.keys2)
+    let a = c.args in c.check.ensures ∙ by_answer (λ (r : Option Refusal) (o : Outcome). after_read r o a.number a.asked) _ _ c.current_read-reading.ensures (not_refused c.current_read-reading.result.answer c.in_default.not-Refused)

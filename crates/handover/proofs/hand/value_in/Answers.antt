@@ -24,4 +24,4 @@ unfolding answer_value
 returns-in-Listed c = simp c.in-Listed.is
 
 pub returns-in_default : goal.returns-in_default
-returns-in_default c = no_value c.args.answer c.in-Begun.in-Begun-own.keys6
+returns-in_default c = no_value c.args.answer c.in_default.not-Begun c.in_default.not-Written c.in_default.not-Committed c.in_default.not-Opened c.in_default.not-Listed

@@ -15,4 +15,4 @@ returns-in-Refused c =
 pub returns-in_default : goal.returns-in_default
 unfolding after_check after_write
 returns-in_default c =
-    let a = c.args in c.commit.ensures ∙ by_answer (λ (r : Option Refusal) (o : Outcome). after_write r o a.number a.asked) _ _ c.write-answer.ensures (not_refused c.write-answer.result c.in-Refused.in-Refused-own.keys2)
+    let a = c.args in c.commit.ensures ∙ by_answer (λ (r : Option Refusal) (o : Outcome). after_write r o a.number a.asked) _ _ c.write-answer.ensures (not_refused c.write-answer.result c.in_default.not-Refused)
