@@ -1,5 +1,5 @@
 -- The loop that applies the logged versions: what is left of the log, applied to the present cache, gives the whole. Each turn
--- is one clause of `redo` and `redoOk`; assumes nothing.
+-- is one clause of `redo` and `redo_ok`; assumes nothing.
 use mathlib.Core.Path.{◌≡◌, refl, sym, ap, ◌∙◌}
 use mathlib.Core.Bool.{Bool, true, false, ◌&&◌}
 use Prim.Native.Nat.{ℕ, ◌+◌, ◌*◌, ◌/◌, ◌%◌, ◌≤◌, ◌<◌}

@@ -1,5 +1,5 @@
 -- The next call out of a full log: where state and buffers fit, the pages that are left are those whose store is not refused, and
--- each answer is a case of `reliefOf`.
+-- each answer is a case of `relief_of`.
 use mathlib.Core.Path.{◌≡◌, sym, ◌∙◌}
 use mathlib.Core.Bool.{Bool, true, false, not, and-true}
 use mathlib.Core.List.{List}

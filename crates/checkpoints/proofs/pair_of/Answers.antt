@@ -1,4 +1,4 @@
--- The tests are those by which the place's life is read from its words, and that of `pairBelow`. Assumes nothing.
+-- The tests are those by which the place's life is read from its words, and that of `pair_below`. Assumes nothing.
 use mathlib.Core.Path.{sym, ◌∙◌}
 use Rattle.checkpoints.proofs.PairsLaws.{pair_none, pair_some}
 use Rattle.checkpoints.proofs.pair_of.Goals as goal

@@ -1,4 +1,4 @@
--- Each arm of the match is a case of `checkpointStep`, as the phase is read from the number matched. Assumes nothing.
+-- Each arm of the match is a case of `checkpoint_step`, as the phase is read from the number matched. Assumes nothing.
 use borrow.Author.Tests.{ne_eqb}
 use Rattle.store.specs.Checkpoint.{table_block, checkpoint_step}
 use Rattle.memory.specs.Memory.{phase_by, state_by, state_of}

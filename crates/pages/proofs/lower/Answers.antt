@@ -1,4 +1,4 @@
--- The test is that of `lowerBy`, and one place is set. Assumes nothing.
+-- The test is that of `lower_by`, and one place is set. Assumes nothing.
 use mathlib.Core.Path.{◌∙◌}
 use borrow.Author.Tests.{lt-ltb, le-ltb}
 use Rattle.store.specs.State.{with_place}

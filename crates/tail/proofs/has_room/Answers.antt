@@ -1,4 +1,4 @@
--- It is the test of `tailFits`, and the used bytes are a number of two bytes. Assumes nothing.
+-- It is the test of `tail_fits`, and the used bytes are a number of two bytes. Assumes nothing.
 use native.Mathlib.Omega.{arith}
 use Rattle.store.specs.Tail.{tail_fits}
 use Rattle.tail.proofs.TailLaws.{used_below}

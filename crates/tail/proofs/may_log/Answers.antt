@@ -1,4 +1,4 @@
--- The code asks in differences what `mayLog` asks in sums. Assumes nothing.
+-- The code asks in differences what `may_log` asks in sums. Assumes nothing.
 use mathlib.Core.Path.{◌≡◌, sym, ◌∙◌}
 use mathlib.Core.Bool.{false}
 use native.Mathlib.Omega.{arith}

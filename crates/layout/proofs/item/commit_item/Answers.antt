@@ -1,4 +1,4 @@
--- `item::commit_item` meets its contract: the code asks what `commitItem` asks, in the same order.
+-- `item::commit_item` meets its contract: the code asks what `commit_item` asks, in the same order.
 use borrow.Author.Tests.{ne_eqb, eq-eqb, le-leb, lt-leb}
 use Rattle.layout.specs.Item.{commit_item}
 use Rattle.layout.proofs.item.commit_item.Goals as goal

@@ -1,4 +1,4 @@
--- `item::number_item` meets its contract: the code asks what `numberItem` asks, and reads the first bytes of the body.
+-- `item::number_item` meets its contract: the code asks what `number_item` asks, and reads the first bytes of the body.
 use native.Mathlib.Omega.{arith}
 use lib.ListN.{length-take}
 use borrow.Author.Tests.{ne_eqb, eq-eqb, le-leb, lt-leb}

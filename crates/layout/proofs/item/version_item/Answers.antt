@@ -1,4 +1,4 @@
--- `item::version_item` meets its contract: the code asks what `versionItem` asks, in the same order.
+-- `item::version_item` meets its contract: the code asks what `version_item` asks, in the same order.
 use native.Mathlib.Omega.{arith}
 use borrow.Author.Tests.{ne_eqb, eq-eqb, le-leb, lt-leb}
 use Rattle.layout.specs.Item.{version_item}

@@ -1,4 +1,4 @@
--- `journal::in_form` meets its contract: the code asks what `usedForm` asks, in the same order.
+-- `journal::in_form` meets its contract: the code asks what `used_form` asks, in the same order.
 use borrow.Author.Tests.{le-leb, lt-leb}
 use Rattle.layout.specs.Journal.{used_form}
 use Rattle.fields.proofs.PartLaws.{lent_rest}

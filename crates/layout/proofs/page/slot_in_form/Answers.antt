@@ -1,4 +1,4 @@
--- `page::slot_in_form` meets its contract: the test is that of `slotFormAt`, and the lent part is the slot.
+-- `page::slot_in_form` meets its contract: the test is that of `slot_form_at`, and the lent part is the slot.
 use native.Mathlib.Nat.{add-sub_cancel_left}
 use native.Mathlib.Omega.{arith}
 use borrow.Author.Tests.{lt-ltb, le-ltb}

@@ -1,4 +1,4 @@
--- `slot::in_form` meets its contract: its tests are those of `slotForm`, in the same order.
+-- `slot::in_form` meets its contract: its tests are those of `slot_form`, in the same order.
 use mathlib.Core.Path.{◌≡◌}
 use mathlib.Core.Bool.{true, ◌||◌}
 use lib.Dec.{eqb}

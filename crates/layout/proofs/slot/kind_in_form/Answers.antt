@@ -1,4 +1,4 @@
--- `slot::kind_in_form` meets its contract: its tests are those of `kindForm`, in the same order.
+-- `slot::kind_in_form` meets its contract: its tests are those of `kind_form`, in the same order.
 use borrow.Author.Tests.{eq-eqb, ne_eqb}
 use Rattle.layout.specs.Slot.{kind_form}
 use Rattle.layout.proofs.slot.kind_in_form.Goals as goal

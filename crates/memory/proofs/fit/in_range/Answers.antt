@@ -1,4 +1,4 @@
--- `in_range` meets its contract: its tests are those of `inRange`.
+-- `in_range` meets its contract: its tests are those of `in_range`.
 use borrow.Author.Tests.{le-leb, lt-leb}
 use Rattle.store.specs.State.{in_range}
 use Rattle.memory.proofs.fit.in_range.Goals as goal
