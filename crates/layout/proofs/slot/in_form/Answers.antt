@@ -3,7 +3,7 @@ use mathlib.Core.Path.{◌≡◌}
 use mathlib.Core.Bool.{true, ◌||◌}
 use lib.Dec.{eqb}
 use lib.ListN.{get_or}
-use borrow.Author.Tests.{eq-eqb, ne_eqb, le-leb, lt-leb, not-false}
+use borrow.Author.Tests.{eq-eqb, ne_eqb, le-leb, lt-leb}
 use Rattle.layout.specs.Slot.{slot_form}
 use Rattle.layout.proofs.slot.in_form.Goals as goal
 use Rattle.layout.proofs.slot.in_form.Goals.{else-slot-ne1-via-then-slot-ne1+else-slot-ne2, else-slot-ne1-via-else-slot-ne1}
