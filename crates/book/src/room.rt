@@ -8,7 +8,7 @@ ghost use Rattle.store.specs.declared.Answer.TheVariants.{Done};
 ghost use Rattle.memory.specs.Memory.{state_of};
 ghost use Rattle.book.specs.Room.{result_of, line_text, result_text, letter_of};
 ghost use Rattle.book.specs.Play.{change_of, query_of};
-ghost use Rattle.book.specs.Show.{result as Show·result, shown_of};
+ghost use Rattle.book.specs.Show.{shown_result, shown_of};
 
 use crate::call::Call;
 use script::print;
@@ -64,7 +64,7 @@ pub fn show(answer: Answer, byte: u8) -> Shown
 fn put_result(out: &mut [u8], n: usize, s: Shown) -> usize
     requires { n + 20 ≤ length out.old }
     ensures upper_bound { result ≤ n + 20 }
-    ensures out_after { take result out.new ≡ take n out.old ++ result_text (Show·result s) }
+    ensures out_after { take result out.new ≡ take n out.old ++ result_text (shown_result s) }
 {
     if s.some {
         return print::number(out, n, s.result);

@@ -1,7 +1,6 @@
 -- Invariant: what is still to come, played from here, gives what the whole does from the start. A line prints at most 44
 -- bytes and has one byte at least.
 use mathlib.Core.Path.{refl, sym, ap, ◌∙◌}
-use mathlib.Core.Bool.{true}
 use Prim.Native.Nat.{◌<◌, ◌≤◌}
 use native.Mathlib.Omega.{arith}
 use lib.ListN.{length, drop_of_length-le}
