@@ -10,14 +10,14 @@ use Rattle.replay.proofs.finish.Goals as goal
 
 pub returns-then-line-eq0 : goal.returns-then-line-eq0
 unfolding finished
-returns-then-line-eq0 c =
+returns-then-line-eq0 g c =
     record {
       on_value = refl;
       out_after = simp (eq-eqb _ _ c.if-line-eq0.true);
     }
 
 pub play_out-last-requires : goal.play_out-last-requires
-play_out-last-requires c =
+play_out-last-requires g c =
     record {
       medium_len = c.requires.medium_len;
       cache_len = c.requires.cache_len;
@@ -27,19 +27,19 @@ play_out-last-requires c =
     }
 
 pub shape_of-medium : goal.shape_of-medium
-shape_of-medium c = c.medium-1.given
+shape_of-medium g c = c.medium-1.given
 
 pub shape_of-cache : goal.shape_of-cache
-shape_of-cache c = c.cache-1.given
+shape_of-cache g c = c.cache-1.given
 
 pub shape_of-buffer : goal.shape_of-buffer
-shape_of-buffer c = c.buffer-1.given
+shape_of-buffer g c = c.buffer-1.given
 
 pub shape_of-out : goal.shape_of-out
-shape_of-out c = c.out-1.given
+shape_of-out g c = c.out-1.given
 
 pub returns : goal.returns
-returns c =
+returns g c =
     record {
       on_value = refl;
       out_after = end_line does _ _ _ c.if-line-eq0.false (last_byte _ _ _ c.play_out-last.ensures.next_nonzero c.play_out-last.ensures.out_after);

@@ -4,7 +4,7 @@ use lib.ListN.{length-take}
 use Rattle.replay.proofs.play_out.Goals as goal
 
 pub play-next-requires : goal.play-next-requires
-play-next-requires c =
+play-next-requires g c =
     record {
       medium_len = c.requires.medium_len;
       cache_len = c.requires.cache_len;
@@ -14,26 +14,26 @@ play-next-requires c =
     }
 
 pub slice_bounds-write_all-end : goal.slice_bounds-write_all-end
-slice_bounds-write_all-end c = omega (arith, c.play-next.ensures.n_bound, c.out-1.given, c.requires.out_len)
+slice_bounds-write_all-end g c = omega (arith, c.play-next.ensures.n_bound, c.out-1.given, c.requires.out_len)
 
 pub slice_bounds-write_all-end-2 : goal.slice_bounds-write_all-end-2
-slice_bounds-write_all-end-2 c =
+slice_bounds-write_all-end-2 g c =
     simp length-take (omega (arith, c.play-next.ensures.n_bound, c.out-1.given, c.requires.out_len))
 
 pub shape_of-medium : goal.shape_of-medium
-shape_of-medium c = c.medium-1.given
+shape_of-medium g c = c.medium-1.given
 
 pub shape_of-cache : goal.shape_of-cache
-shape_of-cache c = c.cache-1.given
+shape_of-cache g c = c.cache-1.given
 
 pub shape_of-buffer : goal.shape_of-buffer
-shape_of-buffer c = c.buffer-1.given
+shape_of-buffer g c = c.buffer-1.given
 
 pub shape_of-out : goal.shape_of-out
-shape_of-out c = c.out-1.given
+shape_of-out g c = c.out-1.given
 
 pub returns : goal.returns
-returns c =
+returns g c =
     record {
       next_nonzero = c.play-next.ensures.next_nonzero;
       out_after = c.play-next.ensures.out_after;

@@ -8,14 +8,14 @@ use Rattle.stripbook.proofs.finish.Goals as goal
 
 pub returns-then-line-eq0 : goal.returns-then-line-eq0
 unfolding finished
-returns-then-line-eq0 c =
+returns-then-line-eq0 g c =
     record {
       on_value = refl;
       out_after = simp (eq-eqb _ _ c.if-line-eq0.true);
     }
 
 pub returns : goal.returns
-returns c =
+returns g c =
     record {
       on_value = refl;
       out_after = end_line does _ _ _ c.if-line-eq0.false c.play_out-last.ensures;

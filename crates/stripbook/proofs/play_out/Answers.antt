@@ -4,4 +4,4 @@ use lib.ListN.{length-take}
 use Rattle.stripbook.proofs.play_out.Goals as goal
 
 pub slice_bounds-write_all-end-2 : goal.slice_bounds-write_all-end-2
-slice_bounds-write_all-end-2 c = simp length-take (omega arith)
+slice_bounds-write_all-end-2 g c = simp length-take (omega arith)

@@ -31,9 +31,9 @@ shape_of-out-then-n-gt100000 c = c.loop-i.invariant.4 ∙ sym c.requires.out_len
 pub returns-then-n-gt100000 : goal.returns-then-n-gt100000
 returns-then-n-gt100000 c =
     record {
-      n_bound = (rw c.stands.ensures (omega (arith, c.loop-i.invariant.5), ((omega (arith, c.loop-i.invariant.6, c.if-n-gt100000.true), c.loop-i.invariant.0), c.loop-i.invariant.7))).0;
-      next_nonzero = (rw c.stands.ensures (omega (arith, c.loop-i.invariant.5), ((omega (arith, c.loop-i.invariant.6, c.if-n-gt100000.true), c.loop-i.invariant.0), c.loop-i.invariant.7))).1.0;
-      out_after = (rw c.stands.ensures (omega (arith, c.loop-i.invariant.5), ((omega (arith, c.loop-i.invariant.6, c.if-n-gt100000.true), c.loop-i.invariant.0), c.loop-i.invariant.7))).1.1;
+      n_bound = rw c.stands.ensures (omega (arith, c.loop-i.invariant.5));
+      next_nonzero = rw c.stands.ensures (omega (arith, c.loop-i.invariant.6, c.if-n-gt100000.true), c.loop-i.invariant.0);
+      out_after = rw c.stands.ensures (c.loop-i.invariant.7);
     }
 
 pub take-taken-requires : goal.take-taken-requires
@@ -54,9 +54,9 @@ shape_of-out-then-not-taken c = c.loop-i.invariant.4 ∙ sym c.requires.out_len
 pub returns-then-not-taken : goal.returns-then-not-taken
 returns-then-not-taken c =
     record {
-      n_bound = (rw c.stands-then-not-taken.ensures (omega (arith, c.loop-i.invariant.5), ((c.requires.bytes_nonzero, omega arith), play_stop (stand c.args.begun (room_of c.args.standing c.args.medium.now c.args.cache.now ((state_of c.args.words.now c.args.tail.now))) true []) c.args.bytes.now _ _ _ c.loop-i.i c.take-taken.result c.loop-i-test.true c.take-taken.ensures c.loop-i.invariant.7 (not-true c.take-taken.result.ended c.if-not-taken.true)))).0;
-      next_nonzero = (rw c.stands-then-not-taken.ensures (omega (arith, c.loop-i.invariant.5), ((c.requires.bytes_nonzero, omega arith), play_stop (stand c.args.begun (room_of c.args.standing c.args.medium.now c.args.cache.now ((state_of c.args.words.now c.args.tail.now))) true []) c.args.bytes.now _ _ _ c.loop-i.i c.take-taken.result c.loop-i-test.true c.take-taken.ensures c.loop-i.invariant.7 (not-true c.take-taken.result.ended c.if-not-taken.true)))).1.0;
-      out_after = (rw c.stands-then-not-taken.ensures (omega (arith, c.loop-i.invariant.5), ((c.requires.bytes_nonzero, omega arith), play_stop (stand c.args.begun (room_of c.args.standing c.args.medium.now c.args.cache.now ((state_of c.args.words.now c.args.tail.now))) true []) c.args.bytes.now _ _ _ c.loop-i.i c.take-taken.result c.loop-i-test.true c.take-taken.ensures c.loop-i.invariant.7 (not-true c.take-taken.result.ended c.if-not-taken.true)))).1.1;
+      n_bound = rw c.stands-then-not-taken.ensures (omega (arith, c.loop-i.invariant.5));
+      next_nonzero = rw c.stands-then-not-taken.ensures (c.requires.bytes_nonzero, omega arith);
+      out_after = rw c.stands-then-not-taken.ensures (play_stop (stand c.args.begun (room_of c.args.standing c.args.medium.now c.args.cache.now ((state_of c.args.words.now c.args.tail.now))) true []) c.args.bytes.now _ _ _ c.loop-i.i c.take-taken.result c.loop-i-test.true c.take-taken.ensures c.loop-i.invariant.7 (not-true c.take-taken.result.ended c.if-not-taken.true));
     }
 
 pub shape_of-medium-then-reached-p : goal.shape_of-medium-then-reached-p
@@ -75,9 +75,9 @@ pub returns-then-reached-p : goal.returns-then-reached-p
 returns-then-reached-p c =
     let w = step_on c.args.bytes.now _ c.loop-i.i c.take-taken.result c.loop-i-test.true c.take-taken.ensures in
     record {
-      n_bound = (rw c.stands-then-reached-p.ensures (omega (arith, c.loop-i.invariant.5), ((omega (arith, w.0), w.1), play_over (stand c.args.begun (room_of c.args.standing c.args.medium.now c.args.cache.now ((state_of c.args.words.now c.args.tail.now))) true []) c.args.bytes.now _ _ _ c.loop-i.i c.take-taken.result c.loop-i-test.true c.take-taken.ensures c.loop-i.invariant.7 (not-false c.take-taken.result.ended c.if-not-taken.false) c.meaning-asked.result c.empty-line.result c.meaning-asked.ensures c.empty-line.ensures (not_played c.meaning-asked.result c.of-p.result _ _ _ _ c.of-p.ensures (rw c.reached.ensures at c.if-reached-p.true))))).0;
-      next_nonzero = (rw c.stands-then-reached-p.ensures (omega (arith, c.loop-i.invariant.5), ((omega (arith, w.0), w.1), play_over (stand c.args.begun (room_of c.args.standing c.args.medium.now c.args.cache.now ((state_of c.args.words.now c.args.tail.now))) true []) c.args.bytes.now _ _ _ c.loop-i.i c.take-taken.result c.loop-i-test.true c.take-taken.ensures c.loop-i.invariant.7 (not-false c.take-taken.result.ended c.if-not-taken.false) c.meaning-asked.result c.empty-line.result c.meaning-asked.ensures c.empty-line.ensures (not_played c.meaning-asked.result c.of-p.result _ _ _ _ c.of-p.ensures (rw c.reached.ensures at c.if-reached-p.true))))).1.0;
-      out_after = (rw c.stands-then-reached-p.ensures (omega (arith, c.loop-i.invariant.5), ((omega (arith, w.0), w.1), play_over (stand c.args.begun (room_of c.args.standing c.args.medium.now c.args.cache.now ((state_of c.args.words.now c.args.tail.now))) true []) c.args.bytes.now _ _ _ c.loop-i.i c.take-taken.result c.loop-i-test.true c.take-taken.ensures c.loop-i.invariant.7 (not-false c.take-taken.result.ended c.if-not-taken.false) c.meaning-asked.result c.empty-line.result c.meaning-asked.ensures c.empty-line.ensures (not_played c.meaning-asked.result c.of-p.result _ _ _ _ c.of-p.ensures (rw c.reached.ensures at c.if-reached-p.true))))).1.1;
+      n_bound = rw c.stands-then-reached-p.ensures (omega (arith, c.loop-i.invariant.5));
+      next_nonzero = rw c.stands-then-reached-p.ensures (omega (arith, w.0), w.1);
+      out_after = rw c.stands-then-reached-p.ensures (play_over (stand c.args.begun (room_of c.args.standing c.args.medium.now c.args.cache.now ((state_of c.args.words.now c.args.tail.now))) true []) c.args.bytes.now _ _ _ c.loop-i.i c.take-taken.result c.loop-i-test.true c.take-taken.ensures c.loop-i.invariant.7 (not-false c.take-taken.result.ended c.if-not-taken.false) c.meaning-asked.result c.empty-line.result c.meaning-asked.ensures c.empty-line.ensures (not_played c.meaning-asked.result c.of-p.result _ _ _ _ c.of-p.ensures (rw c.reached.ensures at c.if-reached-p.true)));
     }
 
 pub step-stepped-requires : goal.step-stepped-requires
@@ -116,7 +116,7 @@ shape_of-out c = c.loop-i.invariant.4 ∙ sym c.requires.out_len
 pub returns : goal.returns
 returns c =
     record {
-      n_bound = (rw c.stands-2.ensures (omega (arith, c.loop-i.invariant.5), ((omega (arith, c.loop-i-test.false, c.requires.bytes_nonzero), c.loop-i.invariant.0), c.loop-i.invariant.7))).0;
-      next_nonzero = (rw c.stands-2.ensures (omega (arith, c.loop-i.invariant.5), ((omega (arith, c.loop-i-test.false, c.requires.bytes_nonzero), c.loop-i.invariant.0), c.loop-i.invariant.7))).1.0;
-      out_after = (rw c.stands-2.ensures (omega (arith, c.loop-i.invariant.5), ((omega (arith, c.loop-i-test.false, c.requires.bytes_nonzero), c.loop-i.invariant.0), c.loop-i.invariant.7))).1.1;
+      n_bound = rw c.stands-2.ensures (omega (arith, c.loop-i.invariant.5));
+      next_nonzero = rw c.stands-2.ensures (omega (arith, c.loop-i-test.false, c.requires.bytes_nonzero), c.loop-i.invariant.0);
+      out_after = rw c.stands-2.ensures (c.loop-i.invariant.7);
     }
