@@ -1,2 +1,4 @@
 // What the calls answer, put as text: answers, lists of changes, and blocks in hex.
+#![tactic(auto)]
+
 pub mod text;

@@ -6,7 +6,7 @@ use script::line;
 use script::line::Line;
 
 // A call, a cut, or a line of another form.
-#[derive(Drop)]
+#[derive(Clone, Copy)]
 pub enum Call {
     Begin(u64),
     Write(u64, u16, u8),

@@ -11,7 +11,7 @@ use script::line::Line;
 
 // Where a run stands behind a read: the line begun, whether the run goes on, and how many bytes of the output
 // are to be written.
-#[derive(Drop)]
+#[derive(Clone, Copy)]
 pub struct Run {
     pub line: Line,
     pub on: bool,

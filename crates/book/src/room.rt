@@ -15,7 +15,7 @@ use script::print;
 use store::{Answer, Reading};
 
 // What is printed behind the letter: 0 or the refusal, and a result, if there is one.
-#[derive(Drop)]
+#[derive(Clone, Copy)]
 pub struct Shown {
     pub refusal: u64,
     pub some: bool,

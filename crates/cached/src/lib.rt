@@ -1,4 +1,6 @@
 // A slot of the cache, by its number in the store.
+#![tactic(auto)]
+
 ghost use Rattle.std.specs.Prelude.{◌≡◌, suc, ◌+◌, ◌%◌, length};
 ghost use Rattle.store.specs.Chain.{cell_at, is_version};
 ghost use Rattle.cached.specs.Room.{Room};

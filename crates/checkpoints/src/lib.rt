@@ -1,4 +1,6 @@
 // The three stores of a checkpoint: which block is to be the oldest, the pair table's two blocks, the master.
+#![tactic(auto)]
+
 ghost use Rattle.std.specs.Prelude.{◌≡◌, List, ℕ, ◌+◌, ◌-◌, ◌*◌, ◌<◌, ◌≤◌, length, take, get_or, leb};
 ghost use Rattle.fields.specs.Part.{splice};
 ghost use Rattle.fields.specs.Block.{put};

@@ -13,7 +13,7 @@ use layout::item::{Item, VersionHead};
 use store::Timing;
 
 // Whether a block's records keep what is asked of them, and the last commit time up to them.
-#[derive(Drop)]
+#[derive(Clone, Copy)]
 pub struct Checked {
     pub ok: bool,
     pub last: Timing,

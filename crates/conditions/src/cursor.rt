@@ -10,7 +10,7 @@ use layout::EndPlace;
 use layout::item::{Area, Item, Pair, VersionHead};
 
 // Where the reading stands: the sequence of a block, an offset in it, and how many blocks are left with this one.
-#[derive(Drop)]
+#[derive(Clone, Copy)]
 pub struct Cursor {
     pub sequence: u64,
     pub at: u64,
@@ -19,7 +19,7 @@ pub struct Cursor {
 
 // What comes next: nothing; the next block; a version record, with the place of its value on the medium, its end place
 // and the cursor behind it; or a commit record.
-#[derive(Drop)]
+#[derive(Clone, Copy)]
 pub enum Step {
     Done,
     Skip(Cursor),

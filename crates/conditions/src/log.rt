@@ -8,7 +8,7 @@ use crate::cursor::{Cursor, Step};
 use layout::{CommitTime, EndPlace};
 
 // A commit record that was looked for, with its end place.
-#[derive(Drop)]
+#[derive(Clone, Copy)]
 pub enum Match {
     Found(CommitTime, EndPlace),
     Absent,

@@ -14,7 +14,7 @@ use layout::{EndPlace, TxNumber};
 use store::Found;
 
 // Whether all records keep what is asked of them; one more than the highest number, and the highest time.
-#[derive(Drop)]
+#[derive(Clone, Copy)]
 pub struct Tally {
     pub ok: bool,
     pub above: u64,

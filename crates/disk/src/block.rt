@@ -9,7 +9,7 @@ use memory::{BLOCKS, PAGES, PHASE};
 use script::call::Call;
 
 // The bytes of a medium that a line can change: where they begin, and how many there are.
-#[derive(Drop)]
+#[derive(Clone, Copy)]
 pub struct Extent {
     pub at: usize,
     pub len: usize,

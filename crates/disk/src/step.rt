@@ -15,7 +15,7 @@ use script::call::Asked;
 
 // How the room stands then, how many bytes of the output are taken, and whether bytes of the medium changed: those from
 // `at` on, `len` of them, and no others.
-#[derive(Drop)]
+#[derive(Clone, Copy)]
 pub struct Played {
     pub standing: Standing,
     pub n: usize,

@@ -7,7 +7,7 @@ ghost use Rattle.files.specs.Outcome.{says_regular};
 use libc::types::{stat, timespec};
 
 // What the C library says of a file: its answer, and the file's mode where the answer is 0.
-#[derive(Drop)]
+#[derive(Clone, Copy)]
 struct Seen {
     status: i32,
     mode: u32,

@@ -1,6 +1,8 @@
 // A medium in a file: the C library's calls on a descriptor, each made once. Their contracts tell what a call may answer, not
 // which bytes it reads or writes or what the disk then holds. So the statements here are about the answers: which outcome
 // each of them leads to.
+#![tactic(auto)]
+
 pub mod folder;
 mod kind;
 pub mod outcome;
@@ -14,7 +16,7 @@ use libc::SEEK_END;
 pub use say::{code, complain};
 
 // What came of reading a file: so many bytes, or there are more than the buffer has, or the reading failed or ended early.
-#[derive(Drop)]
+#[derive(Clone, Copy)]
 pub enum Loaded {
     Bytes(usize),
     TooLong,
@@ -23,7 +25,7 @@ pub enum Loaded {
 
 // What came of writing to a file: the bytes are stored, or were not all taken, or the system could not say that they are
 // stored.
-#[derive(Drop)]
+#[derive(Clone, Copy)]
 pub enum Stored {
     Stored,
     Unwritten,

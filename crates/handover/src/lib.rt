@@ -1,5 +1,7 @@
 // Handing a flight from one sector to another as one action, above the store: its code makes the store's public calls and
 // touches no byte of medium or cache. The definitions in specs/ say what it does.
+#![tactic(auto)]
+
 use layout::CommitTime;
 use store::Refusal;
 
@@ -7,7 +9,7 @@ pub mod hand;
 
 // What is asked for: the flight's record, the sector that has it and the one that takes it, and the clocks at begin and at
 // commit.
-#[derive(Drop)]
+#[derive(Clone, Copy)]
 pub struct Transfer {
     pub flight: u16,
     pub from: u8,
@@ -18,7 +20,7 @@ pub struct Transfer {
 
 // What a handover answers: a refusal of the store's, its own refusal 17, or the commit time; `hand_number` and `hand_value` of
 // specs/ give the numbers of each.
-#[derive(Drop)]
+#[derive(Clone, Copy)]
 pub enum HandAnswer {
     Denied(Refusal),
     NotOwner,

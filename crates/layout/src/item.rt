@@ -5,14 +5,14 @@ ghost use Rattle.layout.specs.Item.{bytes_of, tag_of, head_of, pair_of, item_of,
 use crate::{CommitTime, TxNumber};
 
 // How many bytes the record number takes in a version record: one under tag 1, two under tag 3.
-#[derive(Drop)]
+#[derive(Clone, Copy)]
 pub enum Width {
     One,
     Two,
 }
 
 // The fields of a version record but for its value, which stays where it lies. A key is a record number.
-#[derive(Drop)]
+#[derive(Clone, Copy)]
 pub struct VersionHead {
     pub width: Width,
     pub slot: u64,
@@ -23,20 +23,20 @@ pub struct VersionHead {
 }
 
 // A transaction and its commit time: a commit record, or a place of the pair table.
-#[derive(Drop)]
+#[derive(Clone, Copy)]
 pub struct Pair {
     pub number: TxNumber,
     pub time: CommitTime,
 }
 
 // What an item belongs to: the same tag means other things in the log and in the master.
-#[derive(Drop)]
+#[derive(Clone, Copy)]
 pub enum Area {
     Journal,
     Master,
 }
 
-#[derive(Drop)]
+#[derive(Clone, Copy)]
 pub enum Item {
     End,
     Version(VersionHead),

@@ -1,4 +1,6 @@
 // The bytes of the medium: fields, slots, pages, log records and blocks, the pair table and the master.
+#![tactic(auto)]
+
 pub mod item;
 pub mod journal;
 pub mod master;
@@ -8,13 +10,13 @@ pub mod slot;
 pub mod table;
 
 // A transaction's number.
-#[derive(Drop)]
+#[derive(Clone, Copy)]
 pub struct TxNumber(pub u64);
 
 // The time of a commit.
-#[derive(Drop)]
+#[derive(Clone, Copy)]
 pub struct CommitTime(pub u64);
 
 // The place in the log just behind a record: 512 × sequence plus the offset after it.
-#[derive(Drop)]
+#[derive(Clone, Copy)]
 pub struct EndPlace(pub u64);

@@ -10,7 +10,7 @@ use crate::{CommitTime, TxNumber};
 
 // The master's numbers: log blocks (L), pages (D), the oldest log block's sequence, the next transaction number and
 // the last stored commit time.
-#[derive(Drop)]
+#[derive(Clone, Copy)]
 pub struct Fields {
     pub blocks: u64,
     pub pages: u64,
@@ -19,14 +19,14 @@ pub struct Fields {
     pub last: CommitTime,
 }
 
-#[derive(Drop)]
+#[derive(Clone, Copy)]
 pub enum Found {
     Whole(Fields),
     Broken,
 }
 
 // A field's number, if the field is there.
-#[derive(Drop)]
+#[derive(Clone, Copy)]
 pub enum Value {
     Of(u64),
     Missing,

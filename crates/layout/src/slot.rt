@@ -5,7 +5,7 @@ ghost use Rattle.layout.specs.declared.slot.Slot.TheVariants.{Waiting};
 
 use crate::{CommitTime, TxNumber};
 
-#[derive(Drop)]
+#[derive(Clone, Copy)]
 pub enum Slot {
     Empty,
     Waiting(TxNumber),

@@ -1,4 +1,6 @@
 // The state as a caller lends it: 448 words, seven rows of 64, and the tail block.
+#![tactic(auto)]
+
 pub mod fit;
 
 ghost use Rattle.std.specs.Prelude.{◌≡◌, List, ℕ, ◌<◌, length};

@@ -17,7 +17,7 @@ use layout::master::Found;
 use memory::{BLOCKS, END, LAST, NEXT, PAGES, SAVED, SLOTS};
 
 // Whether a medium is well formed, and its last time.
-#[derive(Drop)]
+#[derive(Clone, Copy)]
 pub struct Opened {
     pub ok: bool,
     pub last: u64,
@@ -63,7 +63,7 @@ fn log_end(medium: &[u8], blocks: u64, oldest: u64, count: u64) -> u64
 }
 
 // The log of a medium whose master, blocks and pages are in form: where its records begin, and its end.
-#[derive(Drop)]
+#[derive(Clone, Copy)]
 pub enum LogFound {
     Good(Cursor, u64),
     Bad,

@@ -1,4 +1,6 @@
 // Storing a page: stamping its waiting versions, and counting their transactions down.
+#![tactic(auto)]
+
 ghost use Rattle.std.specs.Prelude.{◌≡◌, cond, not, List, ℕ, ◌<◌, length};
 ghost use Rattle.fields.specs.Equal.{eq_list};
 ghost use Rattle.layout.specs.Slot.{stamped};

@@ -16,7 +16,7 @@ pub fn reading(why: Refusal) -> Reading
 }
 
 // What the questions put to a call say: why it is refused, or the place of its transaction.
-#[derive(Drop)]
+#[derive(Clone, Copy)]
 pub enum Verdict {
     No(Refusal),
     Go(u64),

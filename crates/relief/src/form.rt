@@ -8,7 +8,7 @@ use fields::{block, field};
 use script::print;
 
 // How long medium and cache are, and whether the program takes such a room.
-#[derive(Drop)]
+#[derive(Clone, Copy)]
 pub struct Sizes {
     pub taken: bool,
     pub medium: usize,

@@ -1,5 +1,7 @@
 // Program `relief`: frees the log of each room that it reads from standard input, by asking which call comes next.
 // What it reads and prints is in docs/RELIEF.md.
+#![tactic(auto)]
+
 mod form;
 mod free;
 

@@ -1,5 +1,7 @@
 // Program `replay`: reads a script of calls from standard input, repeats the history of a room, and prints what each
 // line answers.
+#![tactic(auto)]
+
 mod play;
 
 ghost use Rattle.std.specs.Prelude.{◌≡◌, true, false, [], ◌≤◌, ◌<◌, length, take};

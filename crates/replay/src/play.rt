@@ -14,7 +14,7 @@ use turns::step;
 
 // Where a run stands: the line begun, the room, whether the run goes on, how many bytes of the output are
 // to be written, and how many bytes were taken.
-#[derive(Drop)]
+#[derive(Clone, Copy)]
 pub struct Run {
     pub line: Line,
     pub standing: Standing,

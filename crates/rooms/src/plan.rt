@@ -5,7 +5,7 @@ ghost use Rattle.rooms.specs.Room.{within_buffer, plan_of};
 use script::call::Call;
 
 // A line's letter, the stage of the room from which on it is played, and whether it leaves the room as it is.
-#[derive(Drop)]
+#[derive(Clone, Copy)]
 pub struct Plan {
     pub letter: u8,
     pub stage: u8,

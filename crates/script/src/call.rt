@@ -7,7 +7,7 @@ use crate::line;
 use crate::line::Line;
 
 // A call, a handover, a cut, or one of the lines that look at the bytes or put one; a write's value stands beside it.
-#[derive(Drop)]
+#[derive(Clone, Copy)]
 pub enum Call {
     Format(u64, u64),
     Open(u8),
@@ -32,7 +32,7 @@ pub enum Call {
 }
 
 // A call, and the value of a write; zeros beside other calls.
-#[derive(Drop)]
+#[derive(Clone, Copy)]
 pub struct Asked {
     pub call: Call,
     pub value: [u8; 16],

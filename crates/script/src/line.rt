@@ -8,7 +8,7 @@ ghost use Rattle.script.specs.Reader.{no_line, spoilt as Reader·spoilt, with_le
 // What was taken of a line: its letter (0: none yet), how many words were begun behind it, the four numbers before the
 // last word, the last word's number, whether the word is all digits and below 2^64, its hex digits counted (33: too many,
 // or another byte), the first sixteen of them and the others, and whether the line is of another form already.
-#[derive(Drop)]
+#[derive(Clone, Copy)]
 pub struct Line {
     pub letter: u8,
     pub count: u8,
@@ -258,7 +258,7 @@ fn with_byte(line: Line, b: u8) -> Line
 }
 
 // A line with the bytes that are its own, the place of the first byte behind them, and whether it ended, at a newline.
-#[derive(Drop)]
+#[derive(Clone, Copy)]
 pub struct Taken {
     pub line: Line,
     pub next: usize,

@@ -1,5 +1,7 @@
 // Program `shorten`: reads a script of `stripbook` from standard input and prints the fewest of its lines that end in
 // the same refusal. What it reads and prints is in docs/SHORTEN.md.
+#![tactic(auto)]
+
 use libc::{STDERR_FILENO, STDIN_FILENO, STDOUT_FILENO};
 
 // One byte more than the longest input is read: a full buffer is an input that is too long. A line without a newline at

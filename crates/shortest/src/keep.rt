@@ -6,13 +6,13 @@ use book::{call, room};
 use script::line;
 
 // The call of a line.
-#[derive(Drop)]
+#[derive(Clone, Copy)]
 pub struct Kept {
     pub call: Call,
 }
 
 // The calls of the first twelve lines, and how many lines there are; 13 for more than twelve.
-#[derive(Drop)]
+#[derive(Clone, Copy)]
 pub struct Script {
     pub lines: [Kept; 12],
     pub n: usize,

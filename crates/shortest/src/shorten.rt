@@ -7,7 +7,7 @@ ghost use Rattle.shortest.specs.Prints.{too_long, prints_of};
 use crate::{keep, lines, search};
 
 // How many bytes of the output are to be printed, and whether the script has more than twelve lines.
-#[derive(Drop)]
+#[derive(Clone, Copy)]
 pub struct Short {
     pub n: usize,
     pub long: bool,

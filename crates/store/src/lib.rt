@@ -1,4 +1,6 @@
 // The types of the store: its state, its answers and its refusals. The definitions in specs/ say what each call does.
+#![tactic(auto)]
+
 use layout::{CommitTime, EndPlace, TxNumber};
 
 // Record numbers are below this.
@@ -6,7 +8,7 @@ pub const RECORDS: u16 = 1024;
 
 // What a place for a live transaction holds: nothing; an active transaction with its clock at begin; or a committed
 // one with its time and the end place of its commit record (0: known from the pair table alone).
-#[derive(Drop)]
+#[derive(Clone, Copy)]
 pub enum Life {
     Free,
     Active(TxNumber, u64),
@@ -14,7 +16,7 @@ pub enum Life {
 }
 
 // A place, and how many versions of its transaction are not stamped on the medium.
-#[derive(Drop)]
+#[derive(Clone, Copy)]
 pub struct Place {
     pub life: Life,
     pub waiting: u64,
@@ -22,14 +24,14 @@ pub struct Place {
 
 // The checkpoint under way: none; or its table block 1 is stored; or block 2 too. With it the new oldest sequence and
 // the stored time that its first call fixed.
-#[derive(Drop)]
+#[derive(Clone, Copy)]
 pub enum Phase {
     Idle,
     FirstStored(u64, CommitTime),
     SecondStored(u64, CommitTime),
 }
 
-#[derive(Drop)]
+#[derive(Clone, Copy)]
 pub struct State {
     // L, the log blocks, and D, the pages.
     pub blocks: u64,
@@ -54,7 +56,7 @@ pub struct State {
 }
 
 // Why a call is refused; `refusal_number` of specs/ gives the number of each.
-#[derive(Drop)]
+#[derive(Clone, Copy)]
 pub enum Refusal {
     BadSizes,
     BadCache,
@@ -76,7 +78,7 @@ pub enum Refusal {
 }
 
 // What a call answers; `answer_number` and `answer_value` of specs/ give the numbers of each.
-#[derive(Drop)]
+#[derive(Clone, Copy)]
 pub enum Answer {
     Refused(Refusal),
     Done,
@@ -91,35 +93,35 @@ pub enum Answer {
 }
 
 // What a read answers, with the value beside it: zeros where there is none.
-#[derive(Drop)]
+#[derive(Clone, Copy)]
 pub struct Reading {
     pub answer: Answer,
     pub value: [u8; 16],
 }
 
 // A place or a slot that was looked for.
-#[derive(Drop)]
+#[derive(Clone, Copy)]
 pub enum Found {
     At(u64),
     Nothing,
 }
 
 // A version's commit time, if it has one.
-#[derive(Drop)]
+#[derive(Clone, Copy)]
 pub enum Timing {
     Timed(CommitTime),
     Untimed,
 }
 
 // A version that a search found, with its commit time.
-#[derive(Drop)]
+#[derive(Clone, Copy)]
 pub enum Best {
     Version(u64, CommitTime),
     Neither,
 }
 
 // The next call out of a full log, if one is left.
-#[derive(Drop)]
+#[derive(Clone, Copy)]
 pub enum Relief {
     StoreLog,
     StorePage(u64),

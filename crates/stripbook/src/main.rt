@@ -1,4 +1,6 @@
 // Program `stripbook`: reads a script of calls from standard input and prints what each answers.
+#![tactic(auto)]
+
 ghost use Rattle.std.specs.Prelude.{◌≡◌, true, false, [], ◌*◌, ◌≤◌, length, take};
 ghost use Rattle.script.specs.Run.{stand, play_of, finished};
 ghost use Rattle.memory.specs.Memory.{state_of};

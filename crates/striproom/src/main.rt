@@ -1,5 +1,7 @@
 // Program `striproom`: plays a script from standard input on the medium that a file holds. Each line's change is stored in
 // the file before its answer is written out.
+#![tactic(auto)]
+
 mod args;
 mod play;
 mod room;

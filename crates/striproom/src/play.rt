@@ -24,7 +24,7 @@ use script::{call, line};
 
 // Where a run stands: the line begun, the room, the file's descriptor (-1: it is missing), whether the run goes on, the
 // exit code, and how many bytes were taken.
-#[derive(Drop)]
+#[derive(Clone, Copy)]
 pub struct Run {
     pub line: Line,
     pub standing: Standing,
@@ -35,7 +35,7 @@ pub struct Run {
 }
 
 // The file's descriptor, and the exit code of what went wrong.
-#[derive(Drop)]
+#[derive(Clone, Copy)]
 pub struct Kept {
     pub fd: i32,
     pub code: u8,

@@ -6,7 +6,7 @@ ghost use Rattle.striproom.specs.File.{Apart};
 use files::{Loaded, outcome};
 
 // A file with its descriptor (-1: it is missing) and its length, or the exit code of what went wrong.
-#[derive(Drop)]
+#[derive(Clone, Copy)]
 pub struct Opened {
     pub fd: i32,
     pub bytes: usize,

@@ -1,4 +1,6 @@
 // The tail of the log: whether it may take a record, taking one, and storing the tail.
+#![tactic(auto)]
+
 ghost use Rattle.std.specs.Prelude.{◌≡◌, true, ◌+◌, ◌<◌, ◌≤◌, ◌^◌, length};
 ghost use Rattle.layout.specs.Item.{bytes_of};
 ghost use Rattle.layout.specs.Journal.{version, commit, sequence_of};

@@ -13,7 +13,7 @@ use rooms::plan::Plan;
 use script::call::{Asked, Call};
 
 // How the room stands then, and how many bytes of the output are taken.
-#[derive(Drop)]
+#[derive(Clone, Copy)]
 pub struct Stepped {
     pub standing: Standing,
     pub n: usize,

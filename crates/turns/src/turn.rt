@@ -19,7 +19,7 @@ use script::call::{Asked, Call};
 use store::Answer;
 
 // How the room stands then, and what the line answers.
-#[derive(Drop)]
+#[derive(Clone, Copy)]
 pub struct Turned {
     pub standing: Standing,
     pub answer: Answer,

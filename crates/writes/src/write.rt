@@ -16,7 +16,7 @@ use memory::{PAGES, SLOTS};
 use store::{Answer, Found, RECORDS, Refusal};
 
 // What the questions put to a write say: why it is refused, or the place of its transaction and the earlier slot.
-#[derive(Drop)]
+#[derive(Clone, Copy)]
 pub enum Passed {
     No(Refusal),
     Go(u64, u64),

@@ -1,0 +1,5 @@
+-- The cache that is opened is all zeros.
+use Rattle.book.proofs.room.cut.Goals as goal
+
+pub returns : goal.returns
+returns c = rw c.clear.ensures at c.before.before.«open».ensures

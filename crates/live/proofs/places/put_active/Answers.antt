@@ -1,0 +1,18 @@
+-- Four words of the place are set; its end place is not read. Assumes nothing.
+use native.Mathlib.Omega.{arith}
+use lib.ListN.{length-set}
+use Rattle.live.proofs.SetLaws.{state_active}
+use Rattle.live.proofs.places.put_active.Goals as goal
+
+pub bounds-words-i-2 : goal.bounds-words-i-2
+bounds-words-i-2 c = simp length-set (omega arith)
+
+pub bounds-words-i-3 : goal.bounds-words-i-3
+bounds-words-i-3 c = simp length-set (omega arith)
+
+pub bounds-words-i-4 : goal.bounds-words-i-4
+bounds-words-i-4 c = simp length-set (omega arith)
+
+pub returns : goal.returns
+returns c =
+    state_active c.args.words.now c.args.i c.requires.i_bound c.requires.words_len c.args.number.0 c.args.clock

@@ -1,0 +1,15 @@
+-- Each part stands behind the one before.
+use native.Mathlib.Omega.{arith}
+use lib.ListN.{take}
+use Rattle.answers.proofs.TextLaws.{behind_6}
+use Rattle.relief.specs.Free.{page_text}
+use Rattle.relief.proofs.free.put_page.Goals as goal
+
+pub returns : goal.returns
+unfolding page_text
+returns c =
+    record {
+      upper_bound = omega arith;
+      out_after = behind_6 (take c.args.n c.args.out.now) _ _ _ _ _ _ _ _ _ _ _ _ c.byte-a.ensures.out_after c.byte-b.ensures.out_after
+          c.number-c.ensures.out_after c.byte-d.ensures.out_after c.number-e.ensures.out_after c.byte.ensures.out_after;
+    }

@@ -1,0 +1,22 @@
+-- A line that was begun ends with the input.
+use mathlib.Core.Path.{refl}
+use borrow.Author.Tests.{eq-eqb}
+use Rattle.script.specs.Run.{finished}
+use Rattle.script.proofs.TakeLaws.{end_line}
+use Rattle.book.specs.Steps.{does}
+use Rattle.stripbook.proofs.finish.Goals as goal
+
+pub returns-then-line-eq0 : goal.returns-then-line-eq0
+unfolding finished
+returns-then-line-eq0 c =
+    record {
+      on_value = refl;
+      out_after = simp (eq-eqb _ _ c.if-line-eq0.true);
+    }
+
+pub returns : goal.returns
+returns c =
+    record {
+      on_value = refl;
+      out_after = end_line does _ _ _ c.if-line-eq0.false c.play_out-last.ensures;
+    }

@@ -1,0 +1,61 @@
+-- Each answer is the one that the definition gives once the questions before it are answered; the place is counted from
+-- the ring's, whose rest is all that matters. Assumes nothing.
+use mathlib.Core.Path.{◌≡◌, sym, ◌∙◌}
+use mathlib.Core.Bool.{true}
+use Prim.Native.Nat.{ℕ, ◌+◌, ◌-◌, ◌^◌, ◌%◌, ◌<◌}
+use native.Mathlib.Omega.{arith}
+use lib.ListN.{length, get_or}
+use borrow.Author.Tests.{lt-ltb, le-ltb}
+use Rattle.live.proofs.FirstLaws.{free_below}
+use Rattle.store.specs.Begin.{begin_of, begin_if}
+use Rattle.store.specs.Places.{ring_place}
+use Rattle.store.specs.State.{fits}
+use Rattle.memory.specs.Memory.{state_by, state_of}
+use borrow.Author.Rules.{rules}
+use Rattle.transactions.proofs.begin.begin.Goals as goal
+
+ring-place : (ring k : ℕ) → (ring % 64 + k) % 64 ≡ ring_place ring k
+unfolding ring_place
+ring-place ring k = omega arith
+
+pub returns-then-not-is_fit : goal.returns-then-not-is_fit
+unfolding begin_of begin_if
+returns-then-not-is_fit c = simp (← c.is_fit.ensures, c.if-not-is_fit.true)
+
+q1 : (c : goal.Then-number-ge18446744073709551615) → let a = c.args in fits (state_of a.words.now a.tail.now) (length a.medium.now) (length a.cache.now) ≡ true
+q1 c = sym c.is_fit.ensures ∙ c.if-not-is_fit.false
+
+pub returns-then-number-ge18446744073709551615 : goal.returns-then-number-ge18446744073709551615
+unfolding begin_of begin_if state_of state_by
+returns-then-number-ge18446744073709551615 c =
+    simp (q1 c, le-ltb (get_or c.args.words.now 3 0) (2 ^ 64 - 1) c.if-number-ge18446744073709551615.true)
+
+below : (c : goal.After-take_place-arg-1) → c.in-At.k < 64
+below c = free_below _ _ _ (sym c.find_free-f.ensures ∙ c.in-At.is)
+
+pub overflow_add-ring : goal.overflow_add-ring
+overflow_add-ring c = let h = below c in omega arith
+
+pub take_place-requires : goal.take_place-requires
+take_place-requires c =
+    let h = below c in
+    record {
+      words_len = search rules;
+      i_bound = (omega arith, c.if-number-ge18446744073709551615.false);
+    }
+
+q1_at_returns_in_Nothing : (c : goal.In-Nothing) → let a = c.args in fits (state_of a.words.now a.tail.now) (length a.medium.now) (length a.cache.now) ≡ true
+q1_at_returns_in_Nothing c = sym c.is_fit.ensures ∙ c.if-not-is_fit.false
+
+pub returns-in-Nothing : goal.returns-in-Nothing
+unfolding begin_of begin_if state_of state_by
+returns-in-Nothing c =
+    simp (q1_at_returns_in_Nothing c, lt-ltb (get_or c.args.words.now 3 0) (2 ^ 64 - 1) c.if-number-ge18446744073709551615.false, ← c.find_free-f.ensures, c.in-Nothing.is)
+
+q1_at_returns_in_At : (c : goal.After-take_place) → let a = c.args in fits (state_of a.words.now a.tail.now) (length a.medium.now) (length a.cache.now) ≡ true
+q1_at_returns_in_At c = sym c.is_fit.ensures ∙ c.if-not-is_fit.false
+
+pub returns-in-At : goal.returns-in-At
+unfolding begin_of begin_if state_of state_by
+returns-in-At c =
+    simp (q1_at_returns_in_At c, lt-ltb (get_or c.args.words.now 3 0) (2 ^ 64 - 1) c.if-number-ge18446744073709551615.false, ← c.find_free-f.ensures, c.in-At.is, c.take_place.ensures c.args.tail.now, ring-place)
