@@ -5,7 +5,7 @@ use oracle::bench::{self, filler, growth, sql, turns};
 use oracle::damage::{self, Tally};
 use oracle::disk::{command, program};
 use oracle::fuzz::{self, Reached};
-use oracle::history::profiles::{self, Profile, FULL, PROFILES};
+use oracle::history::profiles::{self, Profile, FULL, FULL_USERS, PROFILES, USERS};
 use oracle::history::scripts::{self, Options};
 use oracle::judge::Strictness;
 use oracle::relief::freed::{self, WayOut};
@@ -22,7 +22,7 @@ const USAGE: &str = "\
 oracle run                     runs a script from standard input and prints what it answers
 oracle stripbook               the same for the stripbook language
 oracle expect [--stripbook]    the output that a script must print
-oracle script --seed S --calls N [--profile NAME] [--no-checkpoint] [--plain]
+oracle script --seed S --calls N [--profile NAME] [--users] [--no-checkpoint] [--plain]
 oracle script --stripbook --seed S --calls N [--bad-end]
 oracle script --rooms --seed S --calls N
 oracle script --commits N      N rooms filled by commits that are each stored at once
@@ -30,9 +30,9 @@ oracle script --growth LETTER --log L --pages D --chain C --calls N
 oracle sql [--told]            a script's history as SQL for the shell of SQLite
 oracle sql --update|--insert LEVEL    its commits, a transaction each, with this synchronous
 oracle turns FOLDER ROOMS PROGRAM..    commits on a disk, by striproom and SQLite in turns
-oracle fuzz --seeds A-B [--calls N] [--profile NAME]
+oracle fuzz --seeds A-B [--calls N] [--profile NAME] [--users]
 oracle damage --seeds A-B
-oracle relief --seeds A-B [--calls N] [--profile NAME]    ways out of a full log
+oracle relief --seeds A-B [--calls N] [--profile NAME] [--users]    ways out of a full log
 oracle relief rooms --seeds A-B    rooms for the program relief
 oracle relief expect           what it must print for the rooms of standard input
 oracle relief same PROGRAM --seeds A-B    compares the program with that
@@ -76,6 +76,7 @@ impl Arguments {
     fn profile(&self, seed: u64) -> Result<&'static Profile, String> {
         match self.value("--profile") {
             // Damage is done to histories of every profile.
+            None | Some("damage") if self.has("--users") => Ok(profiles::with_users(seed)),
             None | Some("damage") => Ok(profiles::by_seed(seed)),
             Some(name) => profiles::by_name(name).ok_or(format!("no profile {name}")),
         }
@@ -259,9 +260,13 @@ fn tally_relief(arguments: &Arguments) -> Result<freed::Tally, String> {
             &WayOut::SOUND,
         )?);
         if arguments.value("--profile").is_none() {
+            let full = match arguments.has("--users") {
+                true => &FULL_USERS,
+                false => &FULL,
+            };
             all.add(&freed::run_seed::<Sound>(
                 seed,
-                &FULL,
+                full,
                 calls,
                 &WayOut::SOUND,
             )?);
@@ -297,6 +302,9 @@ fn run_media(words: &[String]) -> Result<(), String> {
 fn list_profiles() -> Result<(), String> {
     for (seed, profile) in PROFILES.iter().enumerate() {
         println!("{seed} {}", profile.name);
+    }
+    for (seed, profile) in USERS.iter().enumerate() {
+        println!("--users {seed} {}", profile.name);
     }
     Ok(())
 }

@@ -1,11 +1,12 @@
-//! Near misses of opening's ten conditions, each with the block of the first item at fault.
+//! Near misses of opening's conditions, each with the block of the first item at fault.
 
-use oracle::damage::crowd;
+use oracle::damage::{crowd, CROWDED};
 use oracle::script::machine::{Line, Machine};
 use oracle::store::layout::*;
 use oracle::store::open::{open, Fault};
 use oracle::store::rules::Sound;
 
+const SIZES: Sizes = Sizes::plain(3, 2);
 const LOG: usize = 4 * BLOCK;
 const PAGE: usize = 6 * BLOCK;
 const NEXT_PAGE: usize = 7 * BLOCK;
@@ -21,7 +22,7 @@ const RECORD: usize = 5;
 const KIND: usize = 7;
 const NUMBER: usize = 10;
 
-/// Three log blocks, two pages: number 1 stamped on page 0, number 2 committed in the log at 9,
+/// Number 1 stamped on page 0, number 2 committed in the log at 9,
 /// number 3 open; slots 2 and 3 are applied from the log.
 fn sound() -> Vec<u8> {
     let mut machine = Machine::<Sound>::default();
@@ -31,10 +32,7 @@ fn sound() -> Vec<u8> {
         value: [6; 16],
     };
     for line in [
-        Line::Format {
-            log_blocks: 3,
-            pages: 2,
-        },
+        Line::Format(SIZES),
         Line::Open { fill: 1 },
         Line::Begin { clock: 5 },
         write(1, 7),
@@ -42,6 +40,7 @@ fn sound() -> Vec<u8> {
         Line::Commit {
             number: 1,
             clock: 5,
+            user: 0,
         },
         Line::StoreLog,
         Line::StorePage { page: 0 },
@@ -50,6 +49,7 @@ fn sound() -> Vec<u8> {
         Line::Commit {
             number: 2,
             clock: 9,
+            user: 0,
         },
         Line::Begin { clock: 9 },
         write(3, 9),
@@ -81,12 +81,12 @@ fn opened(edits: &[Edit]) -> Result<u64, (u8, usize)> {
             }
         }
     }
-    verdict(&medium, 3, 2)
+    verdict(&medium, SIZES)
 }
 
-fn verdict(medium: &[u8], log_blocks: u64, pages: u64) -> Result<u64, (u8, usize)> {
-    let mut cache = vec![9; BLOCK * pages as usize];
-    match open::<Sound>(medium, &mut cache, log_blocks, pages) {
+fn verdict(medium: &[u8], sizes: Sizes) -> Result<u64, (u8, usize)> {
+    let mut cache = vec![9; sizes.cache_bytes()];
+    match open::<Sound>(medium, &mut cache, sizes) {
         Ok(state) => Ok(state.last_time),
         Err(Fault::Broken { condition, block }) => {
             assert!(all_zero(&cache));
@@ -235,11 +235,11 @@ fn pairs() {
 #[test]
 fn sixty_five_waiting_committed() {
     let mut machine = Machine::<Sound>::default();
-    crowd(&mut machine);
-    assert!(verdict(&machine.medium, 32, 64).is_ok());
+    crowd(&mut machine, CROWDED);
+    assert!(verdict(&machine.medium, CROWDED).is_ok());
     put64(&mut machine.medium, BLOCK, 1);
     put64(&mut machine.medium, BLOCK + 8, 1);
-    assert_eq!(verdict(&machine.medium, 32, 64), Err((10, 0)));
+    assert_eq!(verdict(&machine.medium, CROWDED), Err((10, 0)));
 }
 
 #[test]
@@ -255,10 +255,11 @@ fn sizes_and_cache_lengths() {
         (2, 2),
         (u64::MAX, 2),
     ] {
-        let refused = open::<Sound>(&medium, &mut cache, log_blocks, pages);
+        let sizes = Sizes::plain(log_blocks, pages);
+        let refused = open::<Sound>(&medium, &mut cache, sizes);
         assert_eq!(refused, Err(Fault::Sizes));
     }
-    let refused = open::<Sound>(&medium, &mut cache[1..], 3, 2);
+    let refused = open::<Sound>(&medium, &mut cache[1..], SIZES);
     assert_eq!(refused, Err(Fault::CacheLength));
     assert!(cache.iter().all(|&byte| byte == 9));
 }

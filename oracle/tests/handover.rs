@@ -2,6 +2,7 @@
 
 use oracle::script::machine::{Line, Machine, Reply};
 use oracle::script::{parse, put_line, run};
+use oracle::store::layout::Sizes;
 use oracle::store::rules::Sound;
 use oracle::store::state::*;
 
@@ -318,8 +319,7 @@ fn a_refused_one_may_store_a_block() {
 fn refusals_that_no_history_reaches() {
     let mut machine = Machine::<Sound>::default();
     let hand = parse(b"H 7 1 2 1 1").unwrap();
-    let (log_blocks, pages) = (2, 1);
-    machine.call(&Line::Format { log_blocks, pages });
+    machine.call(&Line::Format(Sizes::plain(2, 1)));
     assert_eq!(machine.call(&hand), Reply::Ended);
     machine.call(&Line::Open { fill: 0 });
     let room = machine.clone();
@@ -348,6 +348,8 @@ fn forms() {
         "H 255 255 255 0 18446744073709551615",
         "H 65535 1 2 1 1",
         "H 007 0 00 1 1",
+        "H 7 1 2 1 1 1",
+        "H 7 1 2 1 1 4294967295",
     ];
     for line in right {
         let mut again = Vec::new();
@@ -363,7 +365,9 @@ fn forms() {
         "H 7 256 2 1 1",
         "H 7 1 256 1 1",
         "H 7 1 2 1",
-        "H 7 1 2 1 1 1",
+        "H 7 1 2 1 1 1 1",
+        "H 7 1 2 1 1 4294967296",
+        "H 7 1 2 1 1 1 ",
         "H 7 1 2 1 18446744073709551616",
         "H 7 1 2 18446744073709551616 1",
         "H 7 1 2 1 1 ",

@@ -6,6 +6,7 @@ use oracle::history::profiles::by_seed;
 use oracle::judge::answered::Answered;
 use oracle::judge::Strictness;
 use oracle::script::machine::{Line, Machine};
+use oracle::store::layout::Sizes;
 use oracle::store::rules::*;
 
 const SEEDS: std::ops::Range<u64> = 0..75;
@@ -79,10 +80,7 @@ fn room(value: u8) -> Machine<Sound> {
     let mut machine = Machine::default();
     let (number, record, clock) = (1, 7, 10);
     for line in [
-        Line::Format {
-            log_blocks: 2,
-            pages: 1,
-        },
+        Line::Format(Sizes::plain(2, 1)),
         Line::Open { fill: 0 },
         Line::Begin { clock },
         Line::Write {
@@ -90,7 +88,11 @@ fn room(value: u8) -> Machine<Sound> {
             record,
             value: [value; 16],
         },
-        Line::Commit { number, clock },
+        Line::Commit {
+            number,
+            clock,
+            user: 0,
+        },
         Line::StoreLog,
     ] {
         machine.call(&line);

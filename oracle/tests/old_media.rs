@@ -4,6 +4,7 @@ use oracle::judge::Verdict;
 use oracle::media::going_on::go_on;
 use oracle::media::old::*;
 use oracle::media::{self, old};
+use oracle::script::machine::named_sizes;
 use oracle::store::layout::*;
 use oracle::store::rules::{Rules, Sound};
 use oracle::store::widths::{Before, KindAsHigh, TagOneRefused};
@@ -14,18 +15,12 @@ fn all_kept() -> Vec<Kept> {
     kept(&folder).unwrap()
 }
 
-/// The sizes that the master names.
-fn sizes(medium: &[u8]) -> (u64, u64) {
-    let named = |at| get16(medium, at).into();
-    (named(MASTER_LOG_BLOCKS), named(MASTER_PAGES))
-}
-
 #[test]
 fn kept_media_open_as_they_did() {
     let (mut accepted, mut refused, mut logged, mut uncommitted) = (0, 0, 0, 0);
     for kept in all_kept() {
         let Kept { name, medium, .. } = &kept;
-        assert!(is_old(medium, sizes(medium)), "{name}");
+        assert!(is_old(medium, named_sizes(medium)), "{name}");
         for answers in [
             play::<Sound>(medium, &kept.script),
             play::<Before>(medium, &kept.script),
@@ -37,7 +32,7 @@ fn kept_media_open_as_they_did() {
             true => accepted += 1,
             false => refused += u64::from(kept.slots == "O 3 -\n"),
         }
-        let versions = widths(medium, sizes(medium)).concat();
+        let versions = widths(medium, named_sizes(medium)).concat();
         logged += u64::from(!versions.is_empty());
         let mut slots = kept.slots.lines().skip(2);
         uncommitted += u64::from(slots.any(|slot| slot.split(' ').nth(3) == Some("-")));
@@ -83,10 +78,10 @@ fn kept_media_go_on() {
 /// In the log no tag 1 comes behind a tag 3, and none that was not there. Answers how many blocks have both.
 fn judge_tags(name: &str, before: &[u8], after: &[u8], taken: usize) -> usize {
     let of = |medium: &[u8], wanted| {
-        let all = widths(medium, sizes(medium)).concat();
+        let all = widths(medium, named_sizes(medium)).concat();
         all.into_iter().filter(|&width| width == wanted).count()
     };
-    let blocks = widths(after, sizes(after));
+    let blocks = widths(after, named_sizes(after));
     let all = blocks.concat();
     let first = all.iter().position(|&width| width == Width::Two);
     let behind = &all[first.unwrap_or(all.len())..];

@@ -9,10 +9,7 @@ use oracle::store::{chain, checkpoint, journal, pages};
 
 fn opened() -> (State, Vec<u8>, Vec<u8>) {
     let mut machine = Machine::<Sound>::default();
-    machine.call(&Line::Format {
-        log_blocks: 3,
-        pages: 2,
-    });
+    machine.call(&Line::Format(Sizes::plain(3, 2)));
     machine.call(&Line::Open { fill: 0 });
     let state = machine.state.take().unwrap();
     (state, machine.medium, machine.cache)
@@ -37,7 +34,7 @@ fn refused_as_misfit(state: &State, medium: &[u8], cache: &[u8]) {
     assert_eq!(written, Err(MISFIT));
     let erased = oracle::store::transactions::erase::<Sound>(s, m, c, (1, 1024));
     assert_eq!(erased, Err(MISFIT));
-    assert_eq!(commit::<Sound>(s, m, c, 1, 1), Err(MISFIT));
+    assert_eq!(commit::<Sound>(s, m, c, 1, (1, 1)), Err(MISFIT));
     assert_eq!(abort(s, m, c, 1), Err(MISFIT));
     assert_eq!(chain::current_read::<Sound>(s, m, c, 1, 1024), Err(MISFIT));
     assert_eq!(chain::as_of::<Sound>(s, m, c, 1024, 1), Err(MISFIT));
@@ -54,11 +51,13 @@ fn misfits() {
     let (state, medium, cache) = opened();
     refused_as_misfit(&state, &medium[1..], &cache);
     refused_as_misfit(&state, &medium, &cache[..BLOCK]);
-    let edits: [fn(&mut State); 9] = [
+    let edits: [fn(&mut State); 11] = [
         |state| state.log_blocks = 1,
         |state| state.log_blocks = 33,
         |state| state.pages = 0,
         |state| state.pages = 65,
+        |state| state.user_blocks = 1,
+        |state| state.user_blocks = 17,
         |state| state.next_slot = 31,
         |state| state.tail_used = 9,
         |state| state.tail_used = 513,

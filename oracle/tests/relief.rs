@@ -5,7 +5,7 @@ use oracle::history::profiles::{by_seed, FULL};
 use oracle::judge::Verdict;
 use oracle::random::Random;
 use oracle::relief::freed::{judge, run_seed, Freed, Tally, WayOut};
-use oracle::relief::room::{expect, lay, Next, Room, MOST_CALLS, WORDS};
+use oracle::relief::room::{expect, lay, Next, Room, LINES, MOST_CALLS, WORDS};
 use oracle::relief::rooms::rooms;
 use oracle::relief::same::{compare, compare_ends, Counts};
 use oracle::relief::{list, longest, most, next, ONE_MORE};
@@ -32,7 +32,7 @@ fn full_logs_get_room_in_every_phase() {
     println!("{all}\n{profiles:?}");
     let with_full = profiles.values().filter(|&&full| full > 0);
     assert!(with_full.count() >= 13);
-    assert!(all.full.iter().all(|&count| count > 20_000));
+    assert!(all.full[..3].iter().all(|&count| count > 20_000));
     assert!(all.cut_short > 10_000);
     // Nothing but one more checkpoint, and all that can be.
     assert_eq!((all.shortest, all.spare), (ONE_MORE, 0));
@@ -46,7 +46,8 @@ fn lists_as_long_as_can_be() {
         assert_eq!(calls.len(), 1 + pages as usize + 5);
         let freed = Freed {
             phase: 1,
-            stores: most(pages),
+            stores: most(machine.sizes),
+            user_blocks: 0,
             spare: 0,
             cut_short: false,
         };
@@ -63,8 +64,8 @@ fn lists_as_long_as_can_be() {
 /// A store whose log begins at this block, up to a write that is refused 8.
 fn filled(oldest: u64) -> (Machine<Sound>, Line) {
     let mut machine = Machine::default();
-    let (log_blocks, pages, number) = (2, 4, 1);
-    machine.call(&Line::Format { log_blocks, pages });
+    let number = 1;
+    machine.call(&Line::Format(Sizes::plain(2, 4)));
     put64(&mut machine.medium, MASTER_OLDEST, oldest);
     machine.call(&Line::Open { fill: 0 });
     machine.call(&Line::Begin { clock: 1 });
@@ -159,7 +160,7 @@ fn a_checkpoint_under_way_is_to_be_finished() {
 }
 
 fn all_pages<R: Rules>(machine: &Machine<R>) -> impl Iterator<Item = Line> {
-    (0..machine.pages).map(|page| Line::StorePage { page })
+    (0..machine.sizes.pages).map(|page| Line::StorePage { page })
 }
 
 #[test]
@@ -244,7 +245,15 @@ fn found_out(wrong: Next) -> Option<String> {
 fn asking_ends_in_any_room() {
     let mut foreign = 0;
     for mut sample in (0..20).flat_map(rooms) {
-        let most = most(sample.room.words[1].min(MAX_PAGES as u64));
+        let words = &sample.room.words;
+        let pages = words[1].min(MAX_PAGES as u64);
+        let sizes = Sizes {
+            user_blocks: words[LINES],
+            ..Sizes::plain(2, pages)
+        };
+        // 64 lines lie in at most three blocks, one of which two checkpoints may store.
+        let user_blocks = if sizes.user_blocks > 0 { 4 } else { 0 };
+        let most = (most(sizes) + user_blocks).min(MOST_CALLS);
         let mut out = Vec::new();
         let calls = sample.room.free(next::<Sound>, &mut out);
         assert!(calls <= most, "{}", sample.origin);

@@ -13,3 +13,4 @@ pub mod plain
 pub mod stable
 pub mod relief
 pub mod unstuck
+pub mod space

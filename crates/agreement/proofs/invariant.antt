@@ -3,3 +3,4 @@ pub mod MediumFacts
 pub mod StoredFacts
 pub mod PlaceFacts
 pub mod PlaceSet
+pub mod AreaFacts

@@ -3,11 +3,12 @@ pub mod Reading
 pub mod RedoLaws
 pub mod Redo
 pub mod Pigeons
+pub mod CheckLaws
+pub mod Lines
 pub mod WaitingLaws
 pub mod PairLaws
 pub mod TakeLaws
 pub mod Places
-pub mod CheckLaws
 pub mod FormHolds
 pub mod HistoryHolds
 pub mod PairsHold

@@ -1,3 +1,4 @@
+pub mod Users
 pub mod Sights
 pub mod WalkLaws
 pub mod ReadFacts

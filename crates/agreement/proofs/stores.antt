@@ -2,5 +2,9 @@ pub mod StoreLog
 pub mod SettleLaws
 pub mod StampLaws
 pub mod StorePage
+pub mod DueLaws
+pub mod LineLaws
+pub mod Relined
+pub mod LineStore
 pub mod TableStore
 pub mod Checkpoint

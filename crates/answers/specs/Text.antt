@@ -92,3 +92,12 @@ block_text bs k = cond (ltb k (length bs / 512)) (hex_of (blk bs k)) dash
 -- replay: "`M hex`", "`V hex`"
 unfoldable pub shown_text : ℕ → List ℕ → ℕ → List ℕ
 shown_text letter bs k = letter ∷ (32 ∷ (block_text bs k ++ (10 ∷ [])))
+
+-- replay, `U`: "the user of that commit time as the open store knows it", "closed: `U -`"
+unfoldable pub known_text : Bool → ℕ → List ℕ
+known_text true user = decimal user
+known_text false user = dash
+
+-- replay: "`U user`"
+unfoldable pub user_text : Bool → ℕ → List ℕ
+user_text known user = 85 ∷ (32 ∷ (known_text known user ++ (10 ∷ [])))

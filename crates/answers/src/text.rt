@@ -3,7 +3,7 @@ ghost use Rattle.std.specs.Prelude.{◌≡◌, ◌++◌, ℕ, ◌+◌, ◌*◌, 
 ghost use Rattle.store.specs.declared.Answer.TheVariants.{Listed};
 ghost use Rattle.store.specs.Answer.{answer_number};
 ghost use Rattle.handover.specs.Hand.{hand_number};
-ghost use Rattle.answers.specs.Text.{result_text, answer_text, handed_result, handed_text, change_text, changes_text, all_are, kept_text, list_text, block_text, shown_text};
+ghost use Rattle.answers.specs.Text.{result_text, answer_text, handed_result, handed_text, change_text, changes_text, all_are, kept_text, list_text, block_text, shown_text, known_text, user_text};
 
 use fields::block;
 use handover::HandAnswer;
@@ -196,5 +196,29 @@ pub fn put_shown(out: &mut [u8], n: usize, letter: u8, bytes: &[u8], k: u64) -> 
     let a = print::byte(out, n, letter);
     let b = print::byte(out, a, b' ');
     let c = put_block(out, b, bytes, k);
+    print::byte(out, c, b'\n')
+}
+
+// A user, or a dash where the store is not open.
+fn put_known(out: &mut [u8], n: usize, known: bool, user: u32) -> usize
+    requires { n + 20 ≤ length out.old }
+    ensures upper_bound { result ≤ n + 20 }
+    ensures out_after { take result out.new ≡ take n out.old ++ known_text known user }
+{
+    if known {
+        return print::number(out, n, user as u64);
+    }
+    print::byte(out, n, b'-')
+}
+
+// The line that shows a user.
+pub fn put_user(out: &mut [u8], n: usize, known: bool, user: u32) -> usize
+    requires { n + 23 ≤ length out.old }
+    ensures upper_bound { result ≤ n + 23 }
+    ensures out_after { take result out.new ≡ take n out.old ++ user_text known user }
+{
+    let a = print::byte(out, n, b'U');
+    let b = print::byte(out, a, b' ');
+    let c = put_known(out, b, known, user);
     print::byte(out, c, b'\n')
 }

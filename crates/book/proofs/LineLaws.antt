@@ -14,8 +14,8 @@ use Rattle.script.specs.Words.{words_of, is_in, number_of, joined, numbers_of}
 use Rattle.script.specs.Form.{word_of, Form, other, bare, ending, behind, after_letter, is_letter, by_words as form_by, limited, form_of}
 use Rattle.script.specs.Reader.{no_line, is_number, grown_by, done_of, last_word}
 use Rattle.fields.proofs.Choose.{bool_case, no}
-use Rattle.script.proofs.Meaning.{after_case, line_form}
-use Rattle.script.proofs.ReaderLaws.{done_4, done_5, seen_bad, seen_none, seen_bare, seen_words}
+use Rattle.script.proofs.Meaning.{after_case, line_form_law}
+use Rattle.script.proofs.ReaderLaws.{done_4, done_5, done_6, seen_bad, seen_none, seen_bare, seen_words}
 use Rattle.book.specs.declared.call.Call.TheVariants.{Other}
 use Rattle.book.specs.Line.{call_of, call_if, by_words, line_of, closed, form_call, meaning_of}
 
@@ -104,9 +104,10 @@ limited_call (ending k (a ∷ []) w) = refl
 limited_call (ending k (a ∷ (b ∷ [])) w) = refl
 limited_call (ending k (a ∷ (b ∷ (c ∷ []))) w) = refl
 limited_call (ending k (a ∷ (b ∷ (c ∷ (d ∷ [])))) w) = refl
-limited_call (ending k (a ∷ (b ∷ (c ∷ (d ∷ (e ∷ ns))))) w) =
-    let h : 4 < suc (suc (suc (suc (suc (length ns))))) = omega arith in
-    simp (lt-ltb _ _ h) (sym (many_closed k a b c d (e ∷ ns) w.number))
+limited_call (ending k (a ∷ (b ∷ (c ∷ (d ∷ (e ∷ []))))) w) = refl
+limited_call (ending k (a ∷ (b ∷ (c ∷ (d ∷ (e ∷ (f ∷ ns)))))) w) =
+    let h : 5 < suc (suc (suc (suc (suc (suc (length ns)))))) = omega arith in
+    simp (lt-ltb _ _ h) (sym (many_closed k a b c d (e ∷ (f ∷ ns)) w.number))
 
 not_call : (k : ℕ) (o : Option (List ℕ)) → is_letter k ≡ false → call_if k o ≡ Other
 not_call k none t = refl
@@ -125,7 +126,7 @@ words_call ((a ∷ (b ∷ w)) ∷ ws) = refl
 -- taken byte by byte, a line asks for what its words say
 pub line_call : (bs : List ℕ) → meaning_of (grown_by no_line bs) ≡ line_of bs
 unfolding meaning_of line_of form_of
-line_call bs = ap form_call (line_form bs) ∙ limited_call (form_by (words_of bs)) ∙ words_call (words_of bs)
+line_call bs = ap form_call (line_form_law bs) ∙ limited_call (form_by (words_of bs)) ∙ words_call (words_of bs)
 
 module _ (l : Line) where
   pub no_letter : l.letter ≡ 0 → meaning_of l ≡ Other
@@ -157,6 +158,12 @@ module _ (l : Line) where
         number_call t (l.fourth ∷ (l.third ∷ (l.second ∷ []))) (done_4 l (eqb-true l.count 4 n))
         ∙ four l.letter l.fourth l.third l.second l.last [])
         (λ n.
-        let m = eqb-false l.count 4 n in
-        number_call t (l.fifth ∷ (l.fourth ∷ (l.third ∷ (l.second ∷ [])))) (done_5 l (omega arith))
+        bool_case (eqb l.count 5)
+        (λ q.
+        number_call t (l.fifth ∷ (l.fourth ∷ (l.third ∷ (l.second ∷ [])))) (done_5 l (eqb-true l.count 5 q))
         ∙ four l.letter l.fifth l.fourth l.third l.second (l.last ∷ []))
+        (λ q.
+        let m = eqb-false l.count 4 n in
+        let p = eqb-false l.count 5 q in
+        number_call t (l.sixth ∷ (l.fifth ∷ (l.fourth ∷ (l.third ∷ (l.second ∷ []))))) (done_6 l (omega arith))
+        ∙ four l.letter l.sixth l.fifth l.fourth l.third (l.second ∷ (l.last ∷ []))))

@@ -20,9 +20,9 @@ use Rattle.book.specs.declared.call.Call.TheVariants.{Begin, Write, Commit, Quer
 unfoldable pub outcome_of : Call → State → List ℕ → List ℕ → Outcome
 outcome_of (Begin clock) s m c = begin_of s m c clock
 outcome_of (Write number key byte) s m c = write_of s m c number key (replicate 16 byte)
-outcome_of (Commit number clock) s m c = commit_of s m c number clock
+outcome_of (Commit number clock) s m c = commit_of s m c number clock 0
 outcome_of (Query key time) s m c = as_of_of s m c key time
-outcome_of Cut s m c = open_of m (zeros (length c)) 4 2
+outcome_of Cut s m c = open_of m (zeros (length c)) 4 2 0
 outcome_of Other s m c = leaves Done s m c
 
 -- 01: "a result (number, slot, time, byte, last time; `-` for none, no time, erased or refused)"

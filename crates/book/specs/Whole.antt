@@ -11,7 +11,7 @@ use Rattle.book.specs.Steps.{World, world, step_by}
 
 -- 01: "has L = 4, D = 2, formats, opens"
 unfoldable pub opened : Outcome
-opened = open_of (fresh_medium 4 2) (zeros (cache_length 2)) 4 2
+opened = open_of (fresh_medium 4 2 0) (zeros (cache_length 2)) 4 2 0
 
 -- 01: "has L = 4, D = 2, formats, opens": what the first line finds
 unfoldable pub start : World

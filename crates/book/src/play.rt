@@ -21,7 +21,7 @@ pub struct Run {
 // Takes the bytes of a read: at the end of each line its call is made.
 pub fn play(
     begun: Line,
-    words: &mut [u64; 448],
+    words: &mut [u64; 512],
     tail: &mut [u8; 512],
     bytes: &[u8],
     medium: &mut [u8],

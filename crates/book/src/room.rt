@@ -102,17 +102,17 @@ pub fn letter(call: Call) -> u8
 }
 
 // A power cut, and opening again: state and cache are lost.
-fn cut(words: &mut [u64; 448], tail: &mut [u8; 512], medium: &[u8], cache: &mut [u8]) -> Answer
-    ensures* { λ r. ⌜ leaves r (state_of words.new tail.new) medium.now cache.new ≡ open_of medium.now (zeros (length cache.old)) 4 2 ⌝ }
+fn cut(words: &mut [u64; 512], tail: &mut [u8; 512], medium: &[u8], cache: &mut [u8]) -> Answer
+    ensures* { λ r. ⌜ leaves r (state_of words.new tail.new) medium.now cache.new ≡ open_of medium.now (zeros (length cache.old)) 4 2 0 ⌝ }
 {
     fields::block::clear(cache);
-    media::open::open(medium, cache, words, tail, 4, 2)
+    media::open::open(medium, cache, words, tail, 4, 2, 0)
 }
 
 // Makes the call of a line that is no query.
 pub fn change(
     call: Call,
-    words: &mut [u64; 448],
+    words: &mut [u64; 512],
     tail: &mut [u8; 512],
     medium: &mut [u8],
     cache: &mut [u8],
@@ -125,7 +125,7 @@ pub fn change(
             writes::write::write(words, tail, medium, cache, number, key, [byte; 16])
         }
         Call::Commit(number, clock) => {
-            transactions::commit::commit(words, tail, medium, cache, number, clock)
+            transactions::commit::commit(words, tail, medium, cache, number, clock, 0)
         }
         Call::Query(_, _) => Answer::Done,
         Call::Cut => cut(words, tail, medium, cache),
@@ -145,7 +145,7 @@ fn nothing() -> Reading
 // Makes a query, which leaves the state as it is.
 pub fn query(
     call: Call,
-    words: &[u64; 448],
+    words: &[u64; 512],
     tail: &[u8; 512],
     medium: &[u8],
     cache: &[u8],

@@ -12,7 +12,7 @@ use layout::slot::Slot;
 use store::{Best, Found, Timing};
 
 // The time of a version: its stamp or its pair's time.
-pub fn version_time(words: &[u64; 448], slot: Slot) -> Timing
+pub fn version_time(words: &[u64; 512], slot: Slot) -> Timing
     ensures { result ≡ version_time (time_under (places_of words.now)) slot }
 {
     match slot {
@@ -59,7 +59,7 @@ fn later(first: Best, second: Best) -> Best
 }
 
 // The version with the greatest time not above t, following earlier slots from s; among equal times the highest slot.
-fn find_from(cache: &[u8], words: &[u64; 448], t: u64, s: u64) -> Best
+fn find_from(cache: &[u8], words: &[u64; 512], t: u64, s: u64) -> Best
     requires { Room (length cache.now) (suc s) }
     ensures { result ≡ best_from cache.now (time_under (places_of words.now)) t (suc s) s }
 {
@@ -81,7 +81,7 @@ fn find_from(cache: &[u8], words: &[u64; 448], t: u64, s: u64) -> Best
     }
 }
 
-pub fn find(head: Found, cache: &[u8], words: &[u64; 448], t: u64) -> Best
+pub fn find(head: Found, cache: &[u8], words: &[u64; 512], t: u64) -> Best
     requires { Head head (length cache.now) }
     ensures { result ≡ best_of head cache.now (time_under (places_of words.now)) t }
 {

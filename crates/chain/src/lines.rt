@@ -128,7 +128,7 @@ fn write(cache: &[u8], ranked: &[u64], n: usize, out: &mut [u8])
 pub fn list(
     head: Found,
     cache: &[u8],
-    words: &[u64; 448],
+    words: &[u64; 512],
     t1: u64,
     t2: u64,
     buffer: &mut [u8],

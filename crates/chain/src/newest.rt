@@ -38,7 +38,7 @@ pub fn find(cache: &[u8], key: u16, n: u64) -> Found
 }
 
 // Does a slot wait under another active number?
-fn holds_against(slot: Slot, words: &[u64; 448], n: u64) -> bool
+fn holds_against(slot: Slot, words: &[u64; 512], n: u64) -> bool
     ensures { result ≡ held_as slot (places_of words.now) n }
 {
     match slot {
@@ -58,7 +58,7 @@ fn holds_against(slot: Slot, words: &[u64; 448], n: u64) -> bool
 }
 
 // Does a record's newest version hold it against transaction n?
-pub fn is_held(newest: Found, cache: &[u8], words: &[u64; 448], n: u64) -> bool
+pub fn is_held(newest: Found, cache: &[u8], words: &[u64; 512], n: u64) -> bool
     requires { Head newest (length cache.now) }
     ensures { result ≡ held_at newest cache.now (places_of words.now) n }
 {

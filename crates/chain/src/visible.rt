@@ -9,7 +9,7 @@ use layout::slot::Slot;
 use store::Found;
 
 // Is a number committed? Then its pair has a time.
-fn is_committed(words: &[u64; 448], n: u64) -> bool
+fn is_committed(words: &[u64; 512], n: u64) -> bool
     ensures { result ≡ is_timed (time_under (places_of words.now) n) }
 {
     let f = live::places::find_committed(words, n);
@@ -20,7 +20,7 @@ fn is_committed(words: &[u64; 448], n: u64) -> bool
 }
 
 // Does transaction n see what the slot says?
-fn sees(slot: Slot, words: &[u64; 448], n: u64) -> bool
+fn sees(slot: Slot, words: &[u64; 512], n: u64) -> bool
     ensures { result ≡ visible slot (time_under (places_of words.now)) n }
 {
     match slot {
@@ -36,7 +36,7 @@ fn sees(slot: Slot, words: &[u64; 448], n: u64) -> bool
 }
 
 // The first version that n sees, following earlier slots from s.
-fn find_from(cache: &[u8], words: &[u64; 448], n: u64, s: u64) -> Found
+fn find_from(cache: &[u8], words: &[u64; 512], n: u64, s: u64) -> Found
     requires { Room (length cache.now) (suc s) }
     ensures { result ≡ visible_from cache.now (time_under (places_of words.now)) n (suc s) s }
 {
@@ -57,7 +57,7 @@ fn find_from(cache: &[u8], words: &[u64; 448], n: u64, s: u64) -> Found
     }
 }
 
-pub fn find(head: Found, cache: &[u8], words: &[u64; 448], n: u64) -> Found
+pub fn find(head: Found, cache: &[u8], words: &[u64; 512], n: u64) -> Found
     requires { Head head (length cache.now) }
     ensures { result ≡ visible_of head cache.now (time_under (places_of words.now)) n }
 {

@@ -1,5 +1,8 @@
-// The three stores of a checkpoint: which block is to be the oldest, the pair table's two blocks, the master.
+// The stores of a checkpoint: which block is to be the oldest, the blocks of user lines, the pair table's two blocks, the
+// master.
 #![tactic(auto)]
+
+pub mod lines;
 
 ghost use Rattle.std.specs.Prelude.{◌≡◌, List, ℕ, ◌+◌, ◌-◌, ◌*◌, ◌<◌, ◌≤◌, length, take, get_or, leb};
 ghost use Rattle.fields.specs.Part.{splice};
@@ -8,20 +11,20 @@ ghost use Rattle.fields.specs.Cells.{flat};
 ghost use Rattle.layout.specs.Table.{pair_bytes};
 ghost use Rattle.layout.specs.Master.{master_bytes};
 ghost use Rattle.store.specs.declared.Answer.TheVariants.{Done};
-ghost use Rattle.store.specs.declared.Phase.TheVariants.{FirstStored};
 ghost use Rattle.store.specs.Answer.{leaves};
 ghost use Rattle.store.specs.Places.{place_at};
 ghost use Rattle.store.specs.State.{with_phase};
-ghost use Rattle.store.specs.Checkpoint.{least_or, new_oldest, no_pair, pair_below, pairs_from, checkpoint_step};
+ghost use Rattle.store.specs.Checkpoint.{least_or, new_oldest, no_pair, pair_below, pairs_from, has_space, store_lines, checkpoint_step};
 ghost use Rattle.store.specs.Relief.{checkpoint_left};
 ghost use Rattle.memory.specs.Memory.{places_of, first_of, phase_by, state_of};
 ghost use Rattle.checkpoints.specs.Lesser.{lesser_of};
+ghost use Rattle.checkpoints.specs.Lines.{Sized};
 
 use layout::item::Pair;
 use layout::master::Fields;
 use layout::{CommitTime, TxNumber};
 use memory::{
-    BEGAN, BLOCKS, ENDS, FIRSTS, KINDS, NEXT, NUMBERS, OLDEST, PAGES, PHASE, SAVED, TIMES,
+    AREA, BEGAN, BLOCKS, ENDS, FIRSTS, KINDS, NEXT, NUMBERS, OLDEST, PAGES, PHASE, SAVED, TIMES,
 };
 
 // The lesser of two numbers, where 0 is none.
@@ -42,7 +45,7 @@ fn lesser(a: u64, b: u64) -> u64
 
 // The least of the first changes of the pages that is not 0, or another number if all are.
 fn least(words: &[u64], pages: u64, other: u64) -> u64
-    requires { (length words.now ≡ 448) × (pages ≤ 64) }
+    requires { (length words.now ≡ 512) × (pages ≤ 64) }
     ensures { result ≡ least_or other (take pages (first_of words.now)) }
 {
     let mut found: u64 = 0;
@@ -58,7 +61,7 @@ fn least(words: &[u64], pages: u64, other: u64) -> u64
 }
 
 // The new oldest sequence: the least block that first changed a page not stored since, or the tail.
-fn new_oldest(words: &[u64; 448], tail: &[u8; 512]) -> u64
+fn new_oldest(words: &[u64; 512], tail: &[u8; 512]) -> u64
     requires { get_or words.now 1 0 ≤ 64 }
     ensures { result ≡ new_oldest (state_of words.now tail.now) }
 {
@@ -88,7 +91,7 @@ fn no_pair() -> Pair
 
 // The pair that the table has for a place: that of a commit below the oldest block.
 fn pair_of(words: &[u64], i: usize, oldest: u64) -> Pair
-    requires words_len { length words.now ≡ 448 }
+    requires words_len { length words.now ≡ 512 }
     requires i_bound { i < 64 }
     ensures { result ≡ pair_below oldest (place_at (places_of words.now) i).life }
 {
@@ -105,7 +108,7 @@ fn pair_of(words: &[u64], i: usize, oldest: u64) -> Pair
 }
 
 // Lays the pairs of the places `from` up to `to` over the front of a block, each in the room of its place.
-fn lay_pairs(block: &mut [u8], words: &[u64; 448], oldest: u64, from: usize, to: usize)
+fn lay_pairs(block: &mut [u8], words: &[u64; 512], oldest: u64, from: usize, to: usize)
     requires block_len { length block.old ≡ 512 }
     requires from_le_to { (from ≤ to) × (to ≤ 64) × (to ≤ from + 32) }
     ensures { block.new ≡ splice block.old 0 (flat pair_bytes (pairs_from (places_of words.now) oldest from (to - from))) }
@@ -121,7 +124,7 @@ fn lay_pairs(block: &mut [u8], words: &[u64; 448], oldest: u64, from: usize, to:
 }
 
 // Stores block k of the medium with the places `from` up to `to` of the table.
-fn store_table(medium: &mut [u8], k: usize, words: &[u64; 448], oldest: u64, from: usize, to: usize)
+fn store_table(medium: &mut [u8], k: usize, words: &[u64; 512], oldest: u64, from: usize, to: usize)
     requires k_bound { (k ≤ 2) × (1536 ≤ length medium.old) }
     requires from_le_to { (from ≤ to) × (to ≤ 64) × (to ≤ from + 32) }
     ensures { medium.new ≡ put medium.old k (flat pair_bytes (pairs_from (places_of words.now) oldest from (to - from))) }
@@ -131,15 +134,16 @@ fn store_table(medium: &mut [u8], k: usize, words: &[u64; 448], oldest: u64, fro
 }
 
 // Stores the master with the oldest sequence and the time that the first call fixed, and the next number of this call.
-fn store_master(words: &[u64; 448], medium: &mut [u8])
+fn store_master(words: &[u64; 512], medium: &mut [u8])
     requires { 512 ≤ length medium.old }
-    ensures { medium.new ≡ put medium.old 0 (master_bytes (record { blocks = get_or words.now 0 0; pages = get_or words.now 1 0; oldest = get_or words.now 9 0; next = record { 0 = get_or words.now 3 0 }; last = record { 0 = get_or words.now 10 0 } })) }
+    ensures { medium.new ≡ put medium.old 0 (master_bytes (record { blocks = get_or words.now 0 0; pages = get_or words.now 1 0; area = get_or words.now 11 0; oldest = get_or words.now 9 0; next = record { 0 = get_or words.now 3 0 }; last = record { 0 = get_or words.now 10 0 } })) }
 {
     layout::master::write(
         &mut medium[0..512],
         Fields {
             blocks: words[BLOCKS],
             pages: words[PAGES],
+            area: words[AREA],
             oldest: words[OLDEST],
             next: TxNumber(words[NEXT]),
             last: CommitTime(words[BEGAN]),
@@ -147,40 +151,74 @@ fn store_master(words: &[u64; 448], medium: &mut [u8])
     );
 }
 
-// Notes that the first store is made, and fixes the oldest sequence and the time last stored for the others.
-fn begin(words: &mut [u64], oldest: u64)
-    requires { length words.old ≡ 448 }
-    ensures { (tail : List ℕ) → state_of words.new tail ≡ with_phase (state_of words.old tail) (FirstStored oldest (record { 0 = get_or words.old 5 0 })) }
+// Notes which store is made, and fixes the oldest sequence and the time last stored for the others.
+fn begin(words: &mut [u64], kind: u64, oldest: u64, began: u64)
+    requires { length words.old ≡ 512 }
+    ensures { (tail : List ℕ) → state_of words.new tail ≡ with_phase (state_of words.old tail) (phase_by kind oldest began) }
 {
-    words[PHASE] = 1;
+    words[PHASE] = kind;
     words[OLDEST] = oldest;
-    words[BEGAN] = words[SAVED];
+    words[BEGAN] = began;
 }
 
 // Notes how many of the stores are made; what the first call fixed stays.
 fn go_on(words: &mut [u64], kind: u64)
-    requires { length words.old ≡ 448 }
+    requires { length words.old ≡ 512 }
     ensures { (tail : List ℕ) → state_of words.new tail ≡ with_phase (state_of words.old tail) (phase_by kind (get_or words.old 9 0) (get_or words.old 10 0)) }
 {
     words[PHASE] = kind;
 }
 
-// Is a call left: is a checkpoint under way, or would one move the oldest block?
-pub fn is_left(words: &[u64; 448], tail: &[u8; 512], medium: &[u8]) -> bool
-    requires { (get_or words.now 1 0 ≤ 64) × (512 ≤ length medium.now) }
-    ensures { result ≡ checkpoint_left (state_of words.now tail.now) medium.now }
+// Has the area space for the missing line of every commit that is stored? Asked where no checkpoint is under way.
+pub fn has_space(words: &[u64; 512]) -> bool
+    requires { get_or words.now 11 0 ≤ 16 }
+    ensures { (tail : List ℕ) → result ≡ has_space (state_of words.now tail).phase (state_of words.now tail) }
 {
     let phase = words[PHASE];
     match phase {
         1 => true,
         2 => true,
-        _ => new_oldest(words, tail) != layout::master::oldest(medium),
+        3 => true,
+        _ => lines::have_space(words, words[SAVED]),
     }
 }
 
-// The next of the three stores. It writes one block, in place.
-pub fn step(words: &mut [u64; 448], tail: &[u8; 512], medium: &mut [u8])
-    requires { (get_or words.old 1 0 ≤ 64) × (1536 ≤ length medium.old) }
+// Is a call left: is a checkpoint under way, or has one space and would move the oldest block?
+pub fn is_left(words: &[u64; 512], tail: &[u8; 512], medium: &[u8]) -> bool
+    requires { (get_or words.now 1 0 ≤ 64) × (get_or words.now 11 0 ≤ 16) × (512 ≤ length medium.now) }
+    ensures { result ≡ checkpoint_left (state_of words.now tail.now) medium.now }
+{
+    let kind = words[PHASE];
+    match kind {
+        1 => true,
+        2 => true,
+        3 => true,
+        _ => {
+            if !lines::have_space(words, words[SAVED]) {
+                return false;
+            }
+            new_oldest(words, tail) != layout::master::oldest(medium)
+        }
+    }
+}
+
+// The area's next block if a line is due, else table block 1.
+fn store_lines(words: &mut [u64; 512], medium: &mut [u8], oldest: u64, began: u64)
+    requires { Sized words.old (length medium.old) }
+    ensures { (tail cache : List ℕ) → leaves Done (state_of words.new tail) medium.new cache ≡ store_lines oldest (record { 0 = began }) (state_of words.old tail) medium.old cache }
+{
+    if lines::are_due(words, began) {
+        lines::store(words, medium, began);
+        begin(words, 3, oldest, began);
+        return;
+    }
+    store_table(medium, 1, words, oldest, 0, 32);
+    begin(words, 1, oldest, began);
+}
+
+// The next of the stores. It writes one block, in place.
+pub fn step(words: &mut [u64; 512], tail: &[u8; 512], medium: &mut [u8])
+    requires { Sized words.old (length medium.old) }
     ensures { (cache : List ℕ) → leaves Done (state_of words.new tail.now) medium.new cache ≡ checkpoint_step (state_of words.old tail.now).phase (state_of words.old tail.now) medium.old cache }
 {
     let phase = words[PHASE];
@@ -194,10 +232,15 @@ pub fn step(words: &mut [u64; 448], tail: &[u8; 512], medium: &mut [u8])
             store_master(words, medium);
             go_on(words, 0);
         }
+        3 => {
+            let oldest = words[OLDEST];
+            let began = words[BEGAN];
+            store_lines(words, medium, oldest, began);
+        }
         _ => {
             let oldest = new_oldest(words, tail);
-            store_table(medium, 1, words, oldest, 0, 32);
-            begin(words, oldest);
+            let began = words[SAVED];
+            store_lines(words, medium, oldest, began);
         }
     }
 }

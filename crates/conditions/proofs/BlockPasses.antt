@@ -14,13 +14,13 @@ use borrow.Author.Tests.{lt-ltb, le-ltb, le-leb, lt-leb}
 use Rattle.fields.specs.Part.{part}
 use Rattle.fields.specs.Block.{blk, page_block_at}
 use Rattle.layout.specs.Page.{page_form, page_end}
-use Rattle.layout.specs.Item.{bytes_of, item_of, value_of}
+use Rattle.layout.specs.Item.{bytes_of, user_bytes_of, item_of, value_of}
 use Rattle.layout.specs.Slot.{key_form, kind_form}
 use Rattle.layout.specs.Journal.{Record, version, commit, Parsed, onward, used_of, body_of, parse, parse_more, parsed, used_form, record_form}
 use Rattle.layout.specs.declared.item.Area.TheVariants.{Journal}
 use Rattle.layout.specs.declared.item.Width.{Width}
 use Rattle.layout.specs.declared.item.VersionHead.{VersionHead}
-use Rattle.layout.specs.declared.item.Pair.{Pair}
+use Rattle.layout.specs.declared.item.CommitHead.{CommitHead}
 use Rattle.layout.specs.declared.item.Item.{Item}
 use Rattle.layout.specs.declared.item.Item.TheVariants.{End, Version, Commit, Number, Damaged}
 use Rattle.fields.proofs.Choose.{and_0, and_1}
@@ -130,14 +130,14 @@ module _ (b : List ℕ) (at : ℕ) (low : 10 ≤ at) (i : Item) (read : i ≡ it
   version_room : (h : VersionHead) → i ≡ Version h → 32 + bytes_of h.width ≤ length (drop (at - 10) (body_of b))
   version_room h e = let t : Told Journal (drop (at - 10) (body_of b)) (Version h) = rw e at told_here in omega (arith, t.0.room)
 
-  commit_room : (p : Pair) → i ≡ Commit p → 19 ≤ length (drop (at - 10) (body_of b))
-  commit_room p e = let t : Told Journal (drop (at - 10) (body_of b)) (Commit p) = rw e at told_here in t.0.room
+  commit_room : (p : CommitHead) → i ≡ Commit p → 19 + user_bytes_of p.form ≤ length (drop (at - 10) (body_of b))
+  commit_room p e = let t : Told Journal (drop (at - 10) (body_of b)) (Commit p) = rw e at told_here in omega (arith, t.0.room)
 
   pub version_in : (h : VersionHead) → length b ≤ 512 → i ≡ Version h → at + (32 + bytes_of h.width) ≤ 512
   version_in h n e = record_in b at (32 + bytes_of h.width) n low (version_room h e) (omega arith)
 
-  pub commit_in : (p : Pair) → length b ≤ 512 → i ≡ Commit p → at + 19 ≤ 512
-  commit_in p n e = record_in b at 19 n low (commit_room p e) (omega arith)
+  pub commit_in : (p : CommitHead) → length b ≤ 512 → i ≡ Commit p → at + (19 + user_bytes_of p.form) ≤ 512
+  commit_in p n e = record_in b at (19 + user_bytes_of p.form) n low (commit_room p e) (omega arith)
 
   pub left_version : (h : VersionHead) (end : ℕ) → i ≡ Version h → end ≡ at + (32 + bytes_of h.width)
       → left_of b at ≡ onward (version h (part b (end - 16) 16)) (left_of b end)
@@ -145,8 +145,8 @@ module _ (b : List ℕ) (at : ℕ) (low : 10 ≤ at) (i : Item) (read : i ≡ it
       let r = version_room h e in
       left_is ∙ rw (e, value_in b at end h.width low r q, left_behind b at (32 + bytes_of h.width) low (omega arith) r, ← q)
 
-  pub left_commit : (p : Pair) → i ≡ Commit p → left_of b at ≡ onward (commit p) (left_of b (at + 19))
-  left_commit p e = left_is ∙ rw (e, left_behind b at 19 low (omega arith) (commit_room p e))
+  pub left_commit : (p : CommitHead) (end : ℕ) → i ≡ Commit p → end ≡ at + (19 + user_bytes_of p.form) → left_of b at ≡ onward (commit p) (left_of b end)
+  left_commit p end e q = left_is ∙ rw (e, left_behind b at (19 + user_bytes_of p.form) low (omega arith) (commit_room p e), ← q)
 
 -- ---- the loop that judges a block's records
 
@@ -194,13 +194,14 @@ module _ (b : List ℕ) (at : ℕ) (from : 10 ≤ at) (i : Item) (read : i ≡ i
     pub version_stop : t ≡ false → false ≡ records_ok d start q.records && q.whole
     version_stop g = same_stop (version h (part b (end - 16) 16)) s (left_version b at from i read h end is-version is-end) t found g
 
-  pub commit_turn : (p : Pair) → i ≡ Commit p → t ≡ leb low p.time.0 → t ≡ true → Same d (p.time.0 + 1) (left_of b (at + 19)) start q
+  pub commit_turn : (p : CommitHead) (end : ℕ) → i ≡ Commit p → end ≡ at + (19 + user_bytes_of p.form) → t ≡ leb low p.time.0 → t ≡ true
+      → Same d (p.time.0 + 1) (left_of b end) start q
   unfolding record_form
-  commit_turn p e f g = same_turn (commit p) s (left_commit b at from i read p e) t f g
+  commit_turn p end e w f g = same_turn (commit p) s (left_commit b at from i read p end e w) t f g
 
-  pub commit_stop : (p : Pair) → i ≡ Commit p → t ≡ leb low p.time.0 → t ≡ false → false ≡ records_ok d start q.records && q.whole
+  pub commit_stop : (p : CommitHead) → i ≡ Commit p → t ≡ leb low p.time.0 → t ≡ false → false ≡ records_ok d start q.records && q.whole
   unfolding record_form
-  commit_stop p e f g = same_stop (commit p) s (left_commit b at from i read p e) t f g
+  commit_stop p e f g = same_stop (commit p) s (left_commit b at from i read p (at + (19 + user_bytes_of p.form)) e refl) t f g
 
 pub ltb_low : (a b : ℕ) → ltb a b ≡ leb (a + 1) b
 ltb_low a b = rw add-one

@@ -13,13 +13,13 @@ use lib.Dec.{eqb}
 use borrow.Author.Tests.{eq-eqb, ne_eqb}
 use Rattle.fields.specs.Part.{part}
 use Rattle.fields.specs.Block.{blk, log_block_at, end_place}
-use Rattle.layout.specs.Item.{bytes_of, item_of, value_of}
+use Rattle.layout.specs.Item.{bytes_of, user_bytes_of, item_of, value_of}
 use Rattle.layout.specs.Journal.{Record, version, commit, record_size, Parsed, sequence_of, body_of, parse, parse_more, parsed}
 use Rattle.layout.specs.declared.EndPlace.{EndPlace}
 use Rattle.layout.specs.declared.item.Area.TheVariants.{Journal}
 use Rattle.layout.specs.declared.item.Width.{Width}
 use Rattle.layout.specs.declared.item.VersionHead.{VersionHead}
-use Rattle.layout.specs.declared.item.Pair.{Pair}
+use Rattle.layout.specs.declared.item.CommitHead.{CommitHead}
 use Rattle.layout.specs.declared.item.Item.{Item}
 use Rattle.layout.specs.declared.item.Item.TheVariants.{End, Version, Commit, Number, Damaged}
 use Rattle.fields.proofs.Choose.{cond_elim}
@@ -66,9 +66,9 @@ module _ (m : List ℕ) (l : ℕ) (c : Cursor) (start : ℕ) (i : Item) (some_le
       left_is : c.left ≡ suc (c.left - 1)
       left_is = omega arith
 
-  pub makes_committed : (p : Pair) (e : EndPlace) → i ≡ Commit p → e ≡ record { 0 = end_place c.sequence (c.at + 19) }
-      → Committed p e (record { sequence = c.sequence; at = c.at + 19; left = c.left }) ≡ step_of m l c
-  makes_committed p e f g = sym (step_is ∙ rw (f, g, ← left_is))
+  pub makes_committed : (p : CommitHead) (n : ℕ) (e : EndPlace) → i ≡ Commit p → n ≡ user_bytes_of p.form → e ≡ record { 0 = end_place c.sequence (c.at + (19 + n)) }
+      → Committed p e (record { sequence = c.sequence; at = c.at + (19 + n); left = c.left }) ≡ step_of m l c
+  makes_committed p n e f q g = sym (step_is ∙ rw (f, g, ← left_is, q))
     where
       left_is : c.left ≡ suc (c.left - 1)
       left_is = omega arith
@@ -106,7 +106,7 @@ module _ (m : List ℕ) (l : ℕ) where
   item_shown s at k (Version x) f h t e =
       let r : 32 + bytes_of x.width ≤ length (drop (at - 10) (body_of (block_of m l s))) = omega (arith, t.0.room) in
       rw (e (32 + bytes_of x.width) (omega arith) r, value_at s at x.width h r)
-  item_shown s at k (Commit p) f h t e = rw (e 19 (omega arith) t.0.room)
+  item_shown s at k (Commit p) f h t e = rw (e (19 + user_bytes_of p.form) (omega arith) (omega (arith, t.0.room)))
   item_shown s at k (Number n v) f h t e = sym (rest_block (s + 1) k)
   item_shown s at k Damaged f h t e = sym (rest_block (s + 1) k)
 
@@ -148,7 +148,7 @@ Leads m c (Committed p e d) = Valid d × (measure d + 19 ≤ measure c)
 
 module _ (m : List ℕ) (l : ℕ) (ready : Ready l (length m)) where
   pub block_in : (s : ℕ) → 512 * log_block_at l s + 512 ≤ length m
-  block_in s = rw ready.medium (log_in_medium l ready.pages s (omega (arith, ready.low)))
+  block_in s = rw ready.medium (log_in_medium l ready.pages ready.area s (omega (arith, ready.low)))
 
   item_leads : (s at k : ℕ) (i : Item) → Valid (onward m l s at (suc k)) → Told Journal (drop (at - 10) (body_of (block_of m l s))) i
       → Leads m (onward m l s at (suc k)) (step_at m l i s at k)
@@ -180,7 +180,10 @@ module _ (m : List ℕ) (l : ℕ) (ready : Ready l (length m)) where
           let r : at + n ≤ 512 = room n (omega (arith, t.0.room)) (omega arith) in
           let w = within n (omega arith) r in
           (w.0, omega (arith, w.1), omega (arith, block_in s))
-      go (Commit p) t = within 19 (omega arith) (room 19 t.0.room (omega arith))
+      go (Commit p) t =
+          let n = 19 + user_bytes_of p.form in
+          let w = within n (omega arith) (room n (omega (arith, t.0.room)) (omega arith)) in
+          (w.0, omega (arith, w.1))
       go (Number n x) t = skip
       go Damaged t = skip
 
@@ -209,15 +212,15 @@ module _ (m : List ℕ) (l : ℕ) (ready : Ready l (length m)) where
       let w : Leads m c (Written h p e d) = rw g at (step_leads c v) in
       (record { valid = w.0; less = w.1; rest = rest_step m l c v.from ∙ rw g }, w.2)
 
-  pub step_committed : (c : Cursor) (r : Step) (p : Pair) (e : EndPlace) (d : Cursor) → Valid c → r ≡ step_of m l c → r ≡ Committed p e d
+  pub step_committed : (c : Cursor) (r : Step) (p : CommitHead) (e : EndPlace) (d : Cursor) → Valid c → r ≡ step_of m l c → r ≡ Committed p e d
       → Next m l c d (record { seq = c.sequence; end = e.0; rec = commit p } ∷ [])
   step_committed c r p e d v q f =
       let g : step_of m l c ≡ Committed p e d = sym q ∙ f in
       let w : Leads m c (Committed p e d) = rw g at (step_leads c v) in
       record { valid = w.0; less = omega (arith, w.1); rest = rest_step m l c v.from ∙ rw g }
 
-  -- a commit record takes 19 bytes
-  pub committed_far : (c : Cursor) (r : Step) (p : Pair) (e : EndPlace) (d : Cursor) → Valid c → r ≡ step_of m l c → r ≡ Committed p e d → measure d + 19 ≤ measure c
+  -- a commit record takes 19 bytes and more
+  pub committed_far : (c : Cursor) (r : Step) (p : CommitHead) (e : EndPlace) (d : Cursor) → Valid c → r ≡ step_of m l c → r ≡ Committed p e d → measure d + 19 ≤ measure c
   committed_far c r p e d v q f =
       let g : step_of m l c ≡ Committed p e d = sym q ∙ f in
       let w : Leads m c (Committed p e d) = rw g at (step_leads c v) in
@@ -278,7 +281,7 @@ rise_item : (s at : ℕ) (bs : List ℕ) (rest : List Placed) (i : Item) (f : �
 unfolding Rising place_from record_size end_place
 rise_item s at bs rest End f h t r e = rising_from (end_place s at) (end_place s 512) rest (omega arith) r
 rise_item s at bs rest (Version x) f h t r e = (omega arith, e (32 + bytes_of x.width) (omega (arith, t.0.room)))
-rise_item s at bs rest (Commit p) f h t r e = (omega arith, e 19 t.0.room)
+rise_item s at bs rest (Commit p) f h t r e = (omega arith, e (19 + user_bytes_of p.form) (omega (arith, t.0.room)))
 rise_item s at bs rest (Number n v) f h t r e = rising_from (end_place s at) (end_place s 512) rest (omega arith) r
 rise_item s at bs rest Damaged f h t r e = rising_from (end_place s at) (end_place s 512) rest (omega arith) r
 
@@ -327,7 +330,7 @@ unfolding Rising commit_under
 commit_below low n [] x xs y r e = let z : ◌≡◌ {A = ℕ} 0 1 = cc in absurd (omega arith)
 commit_below low n (z ∷ zs) x xs y r e = go z.rec e (λ f. commit_below z.end n zs x xs y r.1 f)
   where
-    either : (p : Pair) (b : Bool) → or_else (cond b (some (record { time = p.time.0; end = z.end })) none) (commit_under zs n) ≡ some y → (z.end ≡ y.end) ⊎ (commit_under zs n ≡ some y)
+    either : (p : CommitHead) (b : Bool) → or_else (cond b (some (record { time = p.time.0; end = z.end; user = p.user })) none) (commit_under zs n) ≡ some y → (z.end ≡ y.end) ⊎ (commit_under zs n ≡ some y)
     either p true f = inl (cc)
     either p false f = inr f
 

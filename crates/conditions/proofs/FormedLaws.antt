@@ -1,13 +1,13 @@
--- The code's passes are the definition's ten conditions: every item of a condition is a test of one item of the medium,
+-- The code's passes are the definition's conditions: every item of a condition is a test of one item of the medium,
 -- and the tests of an item are gathered where the code comes to it. By the definitions; assumes nothing.
 use mathlib.Core.Path.{◌≡◌, refl, sym, ap, ◌∙◌}
 use mathlib.Core.Bool.{Bool, true, false, cond, not, ◌&&◌, ◌||◌, and_assoc, and-true}
-use Prim.Native.Nat.{ℕ, zero, suc, ◌+◌, ◌-◌, ◌*◌, ◌≤◌, ◌^◌}
+use Prim.Native.Nat.{ℕ, zero, suc, ◌+◌, ◌-◌, ◌*◌, ◌/◌, ◌≤◌, ◌^◌}
 use native.Mathlib.Omega.{arith}
 use mathlib.Core.List.{List, [], ◌∷◌, ◌++◌}
 use lib.Dec.{eqb, leb, ltb}
 use borrow.Author.Tests.{le-leb, leb-true}
-use Rattle.fields.specs.Block.{blk, log_block_at, page_block_at}
+use Rattle.fields.specs.Block.{blk, log_block_at, page_block_at, area_block_at}
 use Rattle.layout.specs.Page.{page_form, page_end}
 use Rattle.layout.specs.Journal.{Record, used_form, record_form, parsed}
 use Rattle.layout.specs.Table.{table_pair, pair_form}
@@ -16,8 +16,8 @@ use Rattle.store.specs.Places.{first, is_at}
 use Rattle.store.specs.Chain.{cell_at}
 use Rattle.store.specs.OpenLog.{Placed, number_in, commit_under, next_on, block_of, read_count, read_log, log_end, next_number, last_time}
 use Rattle.store.specs.OpenRedo.{Redone, redo_one, next_in_page, redo_checks}
-use Rattle.store.specs.OpenConditions.{holds, all_hold, sizes_are, forms_of, record_fits, low_after, records_fit, low_after_all, log_checks, at_least_one, slot_at_least_one, once_in, once_checks, block_checks, fields_in_form, sequences_in_range, records_from, records_whole, ends_logged, numbers_left, new_in_table, pairs_once, full_before, pair_in_bounds, slot_true, history_true, from_one, few_waiting, redone, applied_next, conditions, well_formed}
-use Rattle.conditions.specs.Passes.{all_of, records_ok, redo_ok, record_ok, log_ok, place_ok, master_ok, blocks_ok, page_ok, slot_ok, table_and_slots, cache_ok, medium_ok, passes}
+use Rattle.store.specs.OpenConditions.{holds, all_hold, sizes_are, forms_of, record_fits, low_after, records_fit, low_after_all, log_checks, at_least_one, slot_at_least_one, once_in, once_checks, block_checks, fields_in_form, sequences_in_range, records_from, records_whole, ends_logged, numbers_left, new_in_table, pairs_once, full_before, pair_in_bounds, slot_true, history_true, from_one, few_live, unsigned, line_true, lines_true, redone, applied_next, conditions, well_formed}
+use Rattle.conditions.specs.Passes.{all_of, records_ok, redo_ok, record_ok, log_ok, place_ok, master_ok, blocks_ok, page_ok, slot_ok, table_and_slots, lines_ok, live_ok, cache_ok, medium_ok, passes}
 use Rattle.conditions.proofs.ChecksLaws.{and_left, and_cross, one_up, all_same, all_both, all_true, holds_append, holds_each, holds_table, holds_pages}
 
 -- ---- the log
@@ -32,17 +32,19 @@ unfolding holds redo_checks redo_ok
 redo_ok_law l d [] = refl
 redo_ok_law l d (x ∷ xs) = ap (◌&&◌ (next_in_page x.rec d.cache x.end)) (redo_ok_law l (redo_one d x) xs)
 
-log_ok_law : (l : ℕ) (m : List ℕ) (seen log : List Placed)
-    → holds (log_checks l at_least_one log) && (holds (log_checks l (λ r. ltb (number_in r) (2 ^ 64 - 1)) log) && holds (once_checks l m seen log)) ≡ log_ok m seen log
+log_ok_law : (a l : ℕ) (m : List ℕ) (seen log : List Placed)
+    → holds (log_checks l at_least_one log) && (holds (log_checks l (λ r. ltb (number_in r) (2 ^ 64 - 1)) log)
+    && (holds (log_checks l (λ r. not (eqb a 0) || unsigned r) log) && holds (once_checks l m seen log))) ≡ log_ok a m seen log
 unfolding holds log_checks once_checks log_ok record_ok
-log_ok_law l m seen [] = refl
-log_ok_law l m seen (x ∷ xs) =
-    rw (← log_ok_law l m (seen ++ (x ∷ [])) xs)
-    (gather (at_least_one x.rec) (ltb (number_in x.rec) (2 ^ 64 - 1)) (once_in x.rec m (commit_under seen (number_in x.rec)))
-    (holds (log_checks l at_least_one xs)) (holds (log_checks l (λ r. ltb (number_in r) (2 ^ 64 - 1)) xs)) (holds (once_checks l m (seen ++ (x ∷ [])) xs)))
+log_ok_law a l m seen [] = refl
+log_ok_law a l m seen (x ∷ xs) =
+    rw (← log_ok_law a l m (seen ++ (x ∷ [])) xs)
+    (gather (at_least_one x.rec) (ltb (number_in x.rec) (2 ^ 64 - 1)) (not (eqb a 0) || unsigned x.rec) (once_in x.rec m (commit_under seen (number_in x.rec)))
+    (holds (log_checks l at_least_one xs)) (holds (log_checks l (λ r. ltb (number_in r) (2 ^ 64 - 1)) xs)) (holds (log_checks l (λ r. not (eqb a 0) || unsigned r) xs))
+    (holds (once_checks l m (seen ++ (x ∷ [])) xs)))
   where
-    gather : (a b c u v w : Bool) → (a && u) && ((b && v) && (c && w)) ≡ (a && (b && c)) && (u && (v && w))
-    gather a b c u v w = simp (and_assoc, and_left)
+    gather : (a b c d u v w z : Bool) → (a && u) && ((b && v) && ((c && w) && (d && z))) ≡ (a && (b && (c && d))) && (u && (v && (w && z)))
+    gather a b c d u v w z = simp (and_assoc, and_left)
 
 module _ (m : List ℕ) (l d : ℕ) where
   -- a block in form, by conditions 1, 2 and 3
@@ -99,11 +101,11 @@ module _ (m : List ℕ) (l d : ℕ) where
   unfolding block_checks
   blocks_each f = holds_each (λ s. (f s, log_block_at l s)) (oldest_on m) (read_count m l)
 
-  condition_1 : holds (fields_in_form m l d)
-      ≡ sizes_are (master_of (blk m 0)) l d && (all_of (λ i. pair_form (table_pair m i)) 0 64
+  condition_1 : (a : ℕ) → holds (fields_in_form m l d a)
+      ≡ sizes_are (master_of (blk m 0)) l d a && (all_of (λ i. pair_form (table_pair m i)) 0 64
       && (all_of formed_at (oldest_on m) (read_count m l) && all_of (λ p. page_form (blk m (page_block_at l p))) 0 d))
   unfolding holds fields_in_form
-  condition_1 =
+  condition_1 a =
       simp (holds_append, holds_table, blocks_each, holds_each)
 
   condition_2 : holds (sequences_in_range m l d)
@@ -138,7 +140,17 @@ module _ (m : List ℕ) (l d : ℕ) where
   unfolding pairs_once
   condition_9 = simp (holds_append, holds_table)
 
-  -- ---- all ten
+  condition_10 : (c : List ℕ) (a : ℕ) → holds (few_live m l d c a) ≡ live_ok m l d a c
+  unfolding holds few_live live_ok
+  condition_10 c a = simp and-true
+
+  condition_11 : (a : ℕ) → holds (lines_true m l d a) ≡ holds (log_checks l (λ r. not (eqb a 0) || unsigned r) (read_log m l)) && lines_ok m l d a
+  unfolding lines_true lines_ok
+  condition_11 a =
+      holds_append (log_checks l (λ r. not (eqb a 0) || unsigned r) (read_log m l)) _
+      ∙ ap (◌&&◌ (holds (log_checks l (λ r. not (eqb a 0) || unsigned r) (read_log m l)))) (holds_each (λ i. (line_true m l d i, area_block_at l d (i / 32))) 0 (32 * a))
+
+  -- ---- all of them
 
   pages_ok : all_of (λ p. page_form (blk m (page_block_at l p))) 0 d && all_of (λ p. leb (page_end (blk m (page_block_at l p))) (log_end m l)) 0 d ≡ all_of (page_ok m l d) 0 d
   unfolding page_ok
@@ -153,13 +165,18 @@ module _ (m : List ℕ) (l d : ℕ) where
   unfolding records_whole
   blocks_read = blocks_ok_law 0 (oldest_on m) (read_count m l)
 
-  logged_ok : holds (log_checks l at_least_one (read_log m l)) && (holds (numbers_left m l d) && holds (once_checks l m [] (read_log m l))) ≡ log_ok m [] (read_log m l)
+  logged_ok : (a : ℕ) → holds (log_checks l at_least_one (read_log m l)) && (holds (numbers_left m l d)
+      && (holds (log_checks l (λ r. not (eqb a 0) || unsigned r) (read_log m l)) && holds (once_checks l m [] (read_log m l)))) ≡ log_ok a m [] (read_log m l)
   unfolding numbers_left
-  logged_ok = log_ok_law l m [] (read_log m l)
+  logged_ok a = log_ok_law a l m [] (read_log m l)
+
+  master_is : (a : ℕ) → master_ok m l d a ≡ sizes_are (master_of (blk m 0)) l d a && (leb 1 (oldest_on m) && (ltb (oldest_on m) (2 ^ 48) && leb 1 (next_on m)))
+  unfolding master_ok
+  master_is a = refl
 
   -- each side is the same tests in another order
-  pub formed : well_formed m l d ≡ passes m l d
-  unfolding well_formed all_hold conditions passes medium_ok master_ok cache_ok table_and_slots applied_next few_waiting holds
-  formed =
-      simp (condition_1, condition_2, condition_4, condition_6, condition_7, condition_9, redo_ok_law, ← blocks_read, ← pages_ok, ← logged_ok, ← table_ok, ← slots_ok)
+  pub formed : (a : ℕ) → well_formed m l d a ≡ passes m l d a
+  unfolding well_formed all_hold conditions passes medium_ok cache_ok table_and_slots applied_next
+  formed a =
+      simp (condition_1, condition_2, condition_4, condition_6, condition_7, condition_9, condition_10, condition_11, master_is, redo_ok_law, ← blocks_read, ← pages_ok, ← logged_ok, ← table_ok, ← slots_ok)
       (simp (and-true, and_assoc, and_left))

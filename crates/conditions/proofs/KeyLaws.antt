@@ -98,12 +98,12 @@ record Kept (d : ℕ) (c : List ℕ) : Type 0 where
   size : length c ≡ 512 * d
   keys : KeysBelow c d
 
-module _ (m : List ℕ) (l d : ℕ) (long : length m ≡ medium_length l d) (bytes : Bytes m) where
+module _ (m : List ℕ) (l d a : ℕ) (long : length m ≡ medium_length l d a) (bytes : Bytes m) where
   page_fine : (p i : ℕ) → p < d → i < 15 → page_ok m l d p ≡ true → (cell_of (page_slot (blk m (page_block_at l p)) i)).key < 1024
   unfolding page_ok
   page_fine p i h k e =
       let b = blk m (page_block_at l p) in
-      key_in_page b i (length_blk m (page_block_at l p) (rw long (page_in_medium l d p h))) (bytes_blk m (page_block_at l p) bytes)
+      key_in_page b i (length_blk m (page_block_at l p) (rw long (page_in_medium l d a p h))) (bytes_blk m (page_block_at l p) bytes)
       (and_0 (page_form b) (leb (page_end b) (log_end m l)) e) k
 
   kept_copied : all_of (page_ok m l d) 0 d ≡ true → Kept d (pages_on m l d)
@@ -154,11 +154,11 @@ kept_redo d r [] f o = o
 kept_redo d r (x ∷ xs) f o = kept_redo d (redo_one r x) xs f.1 (kept_one d r x f.0 o)
 
 -- of a medium whose log blocks and pages are in form
-pub keys_redone : (m : List ℕ) (l d : ℕ) → length m ≡ medium_length l d → Bytes m → medium_ok m l d ≡ true → KeysBelow (redone m l d).cache d
+pub keys_redone : (m : List ℕ) (l d a : ℕ) → length m ≡ medium_length l d a → Bytes m → medium_ok m l d a ≡ true → KeysBelow (redone m l d).cache d
 unfolding medium_ok redone copied read_log
-keys_redone m l d long bytes e =
-    let a = blocks_ok m l d 0 (oldest_on m) (read_count m l) in
+keys_redone m l d a long bytes e =
+    let o = blocks_ok m l d 0 (oldest_on m) (read_count m l) in
     let b = all_of (page_ok m l d) 0 d in
-    let f : a && b ≡ true = and_1 (master_ok m l d) (a && b) e in
-    (kept_redo d (copied m l d) (read_log m l) (fine_logged m l d 0 (oldest_on m) (read_count m l) bytes (and_0 a b f))
-    (kept_copied m l d long bytes (and_1 a b f))).keys
+    let f : o && b ≡ true = and_1 (master_ok m l d a) (o && b) e in
+    (kept_redo d (copied m l d) (read_log m l) (fine_logged m l d 0 (oldest_on m) (read_count m l) bytes (and_0 o b f))
+    (kept_copied m l d a long bytes (and_1 o b f))).keys

@@ -1,5 +1,7 @@
 pub mod CursorLaws
 pub mod GatherLaws
+pub mod LinesLaws
+pub mod UserLaws
 pub mod BlockPasses
 pub mod AllOfLaws
 pub mod TableLaws

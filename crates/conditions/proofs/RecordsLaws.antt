@@ -1,7 +1,7 @@
 -- The log's records: each is judged by those before it, and a commit record is the first under its number just where the
 -- first one of the whole log ends at the same place, since end places rise. Assumes nothing.
 use mathlib.Core.Path.{◌≡◌, refl, sym, ap, subst, ◌∙◌}
-use mathlib.Core.Bool.{Bool, true, false, not, ◌&&◌, and-true, and-false}
+use mathlib.Core.Bool.{Bool, true, false, not, ◌&&◌, ◌||◌, and-true, and-false, and_assoc}
 use mathlib.Core.Option.{Option, none, some}
 use mathlib.Core.List.{List, [], ◌∷◌, ◌++◌, append_assoc}
 use Prim.Native.Nat.{ℕ, zero, suc, ◌+◌, ◌-◌, ◌<◌, ◌^◌, max}
@@ -9,17 +9,21 @@ use native.Mathlib.Omega.{arith}
 use lib.Dec.{eqb, leb, ltb}
 use borrow.Author.Tests.{eq-eqb, ne_eqb, ltb-true}
 use Rattle.layout.specs.Journal.{version, commit}
-use Rattle.layout.specs.declared.item.Pair.{Pair}
+use Rattle.layout.specs.declared.item.CommitHead.{CommitHead}
 use Rattle.layout.specs.declared.item.VersionHead.{VersionHead}
 use Rattle.fields.proofs.Choose.{and_0, and_1}
 use Rattle.store.specs.OpenLog.{Placed, Commitment, commit_under, number_in, time_in, above_all, latest}
 use Rattle.store.specs.OpenPairs.{table_find, end_of_commitment}
-use Rattle.store.specs.OpenConditions.{same_time, once_in}
+use Rattle.store.specs.OpenConditions.{same_time, is_plain, once_in}
 use Rattle.conditions.specs.Lookup.{commits_of, commit_among}
 use Rattle.conditions.specs.Passes.{record_ok, commit_ok, log_ok}
-use Rattle.conditions.proofs.ChecksLaws.{one_up, and_cross}
+use Rattle.conditions.proofs.ChecksLaws.{one_up, and_left}
 use Rattle.conditions.proofs.CursorLaws.{Rising, commit_below, commit_append}
 use Rattle.conditions.proofs.GatherLaws.{among_commits}
+
+or_true : (b : Bool) → b || true ≡ true
+or_true true = refl
+or_true false = refl
 
 pub eqb_zero : (a : ℕ) → eqb a 0 ≡ eqb 0 a
 eqb_zero zero = refl
@@ -27,13 +31,13 @@ eqb_zero (suc a) = ne_eqb (suc a) 0 (λ e. omega arith) ∙ sym (ne_eqb 0 (suc a
 
 -- ---- the first under its number
 
-module _ (m : List ℕ) (low s e : ℕ) (p : Pair) (seen xs log : List Placed) (whole : log ≡ seen ++ (record { seq = s; end = e; rec = commit p } ∷ xs))
+module _ (m : List ℕ) (a low s e : ℕ) (p : CommitHead) (seen xs log : List Placed) (whole : log ≡ seen ++ (record { seq = s; end = e; rec = commit p } ∷ xs))
     (rises : Rising low log) where
   once_from : (o : Option Commitment) → o ≡ commit_under seen p.number.0
       → once_in (commit p) m o ≡ same_time (table_find m p.number.0) m p.time.0 && eqb (end_of_commitment (commit_under log p.number.0)) e
   unfolding commit_under
   once_from none h =
-      let found : commit_under log p.number.0 ≡ some (record { time = p.time.0; end = e }) =
+      let found : commit_under log p.number.0 ≡ some (record { time = p.time.0; end = e; user = p.user }) =
       ap (λ (l : List Placed). commit_under l p.number.0) whole
       ∙ commit_append seen (record { seq = s; end = e; rec = commit p } ∷ xs) p.number.0
       ∙ simp (← h, eq-eqb p.number.0 p.number.0 refl) in
@@ -51,53 +55,56 @@ module _ (m : List ℕ) (low s e : ℕ) (p : Pair) (seen xs log : List Placed) (
       ≡ same_time (table_find m p.number.0) m p.time.0 && eqb (end_of_commitment (commit_under log p.number.0)) e
   once_by_end = once_from (commit_under seen p.number.0) refl
 
-  pub commit_judged : (ok : Bool) → ok ≡ commit_ok m (commit_under log p.number.0) p e → record_ok m seen (commit p) ≡ ok
+  pub commit_judged : (ok : Bool) → ok ≡ commit_ok a m (commit_under log p.number.0) p e → record_ok a m seen (commit p) ≡ ok
   unfolding record_ok commit_ok
   commit_judged ok h =
       rw h (simp (once_by_end, one_up p.time.0)
-      (and_cross (leb 1 p.number.0) (not (eqb p.time.0 0)) (ltb p.number.0 (2 ^ 64 - 1))
+      (gather (leb 1 p.number.0) (not (eqb p.time.0 0)) (ltb p.number.0 (2 ^ 64 - 1)) (not (eqb a 0) || is_plain p.form)
       (same_time (table_find m p.number.0) m p.time.0 && eqb (end_of_commitment (commit_under log p.number.0)) e)))
+    where
+      gather : (x t y f w : Bool) → (x && t) && (y && (f && w)) ≡ (x && y) && (f && (t && w))
+      gather x t y f w = simp (and_assoc, and_left)
 
 -- the first under its number, as it was found among the commits
-pub commit_found : (m : List ℕ) (log : List Placed) (cs : List ℕ) (p : Pair) (e : ℕ) (ok : Bool) → cs ≡ commits_of log
-    → ok ≡ commit_ok m (commit_among cs p.number.0) p e → ok ≡ commit_ok m (commit_under log p.number.0) p e
-commit_found m log cs p e ok g h = rw (g, among_commits log p.number.0) at h
+pub commit_found : (a : ℕ) (m : List ℕ) (log : List Placed) (cs : List ℕ) (p : CommitHead) (e : ℕ) (ok : Bool) → cs ≡ commits_of log
+    → ok ≡ commit_ok a m (commit_among cs p.number.0) p e → ok ≡ commit_ok a m (commit_under log p.number.0) p e
+commit_found a m log cs p e ok g h = rw (g, among_commits log p.number.0) at h
 
-pub version_judged : (m : List ℕ) (seen : List Placed) (h : VersionHead) (v : List ℕ) (ok : Bool)
-    → ok ≡ leb 1 h.number.0 && ltb h.number.0 (2 ^ 64 - 1) → record_ok m seen (version h v) ≡ ok
+pub version_judged : (a : ℕ) (m : List ℕ) (seen : List Placed) (h : VersionHead) (v : List ℕ) (ok : Bool)
+    → ok ≡ leb 1 h.number.0 && ltb h.number.0 (2 ^ 64 - 1) → record_ok a m seen (version h v) ≡ ok
 unfolding record_ok
-version_judged m seen h v ok e = rw e (simp and-true)
+version_judged a m seen h v ok e = rw e (simp (or_true, and-true))
 
 -- ---- the loop over the log: what was seen, and what is left decides; a and t are the tallies so far
 
-pub record Judged (m : List ℕ) (log : List Placed) (a t : ℕ) (xs : List Placed) : Type 0 where
+pub record Judged (area : ℕ) (m : List ℕ) (log : List Placed) (a t : ℕ) (xs : List Placed) : Type 0 where
   pub seen : List Placed
   pub whole : log ≡ seen ++ xs
-  pub same : log_ok m seen xs ≡ log_ok m [] log
+  pub same : log_ok area m seen xs ≡ log_ok area m [] log
   pub above : max a (above_all xs) ≡ above_all log
   pub late : max t (latest xs) ≡ latest log
 
 -- what the loop gives back
-abbrev pub Told : List ℕ → List Placed → Bool → ℕ → ℕ → Type 0
-Told m log ok a t = (ok ≡ log_ok m [] log) × (ok ≡ true → (a ≡ above_all log) × (t ≡ latest log))
+abbrev pub Told : ℕ → List ℕ → List Placed → Bool → ℕ → ℕ → Type 0
+Told area m log ok a t = (ok ≡ log_ok area m [] log) × (ok ≡ true → (a ≡ above_all log) × (t ≡ latest log))
 
-pub judged_begin : (m : List ℕ) (log : List Placed) → Judged m log 0 0 log
-judged_begin m log = record { seen = []; whole = refl; same = refl; above = omega arith; late = omega arith }
+pub judged_begin : (area : ℕ) (m : List ℕ) (log : List Placed) → Judged area m log 0 0 log
+judged_begin area m log = record { seen = []; whole = refl; same = refl; above = omega arith; late = omega arith }
 
-pub judged_on : {m : List ℕ} {log : List Placed} {a t : ℕ} {xs ys : List Placed} → Judged m log a t xs → xs ≡ ys → Judged m log a t ys
-judged_on {m} {log} {a} {t} j e = subst (λ (l : List Placed). Judged m log a t l) e j
+pub judged_on : {area : ℕ} {m : List ℕ} {log : List Placed} {a t : ℕ} {xs ys : List Placed} → Judged area m log a t xs → xs ≡ ys → Judged area m log a t ys
+judged_on {area} {m} {log} {a} {t} j e = subst (λ (l : List Placed). Judged area m log a t l) e j
 
-pub judged_end : {m : List ℕ} {log : List Placed} {a t : ℕ} → Judged m log a t [] → Told m log true a t
+pub judged_end : {area : ℕ} {m : List ℕ} {log : List Placed} {a t : ℕ} → Judged area m log a t [] → Told area m log true a t
 unfolding log_ok above_all latest
 judged_end j = (j.same, λ e. (omega (arith, j.above), omega (arith, j.late)))
 
 -- a record x that is judged: `ok` is what the code found of it
-module _ {m : List ℕ} {log : List Placed} {a t : ℕ} {x : Placed} {xs : List Placed} (j : Judged m log a t (x ∷ xs)) (ok : Bool) (is : record_ok m j.seen x.rec ≡ ok) where
-  pub judged_stop : ok ≡ false → Told m log false a t
+module _ {area : ℕ} {m : List ℕ} {log : List Placed} {a t : ℕ} {x : Placed} {xs : List Placed} (j : Judged area m log a t (x ∷ xs)) (ok : Bool) (is : record_ok area m j.seen x.rec ≡ ok) where
+  pub judged_stop : ok ≡ false → Told area m log false a t
   unfolding log_ok
   judged_stop f = (simp (is, f) at j.same, λ e. let z : ◌≡◌ {A = ℕ} 0 1 = cc in absurd (omega arith))
 
-  pub judged_turn : (b u : ℕ) → ok ≡ true → b ≡ max a (number_in x.rec + 1) → u ≡ max t (time_in x.rec) → Judged m log b u xs
+  pub judged_turn : (b u : ℕ) → ok ≡ true → b ≡ max a (number_in x.rec + 1) → u ≡ max t (time_in x.rec) → Judged area m log b u xs
   unfolding log_ok above_all latest
   judged_turn b u f g h = record {
     seen = j.seen ++ (x ∷ []);
@@ -111,7 +118,7 @@ module _ {m : List ℕ} {log : List Placed} {a t : ℕ} {x : Placed} {xs : List 
 pub number_low : (n : ℕ) (ok : Bool) → ok ≡ leb 1 n && ltb n (2 ^ 64 - 1) → ok ≡ true → n + 1 < 2 ^ 64
 number_low n ok e t = let h : n < 2 ^ 64 - 1 = ltb-true n (2 ^ 64 - 1) (and_1 (leb 1 n) _ (sym e ∙ t)) in omega arith
 
-pub commit_low : (m : List ℕ) (o : Option Commitment) (p : Pair) (e : ℕ) (ok : Bool) → ok ≡ commit_ok m o p e → ok ≡ true → p.number.0 + 1 < 2 ^ 64
+pub commit_low : (a : ℕ) (m : List ℕ) (o : Option Commitment) (p : CommitHead) (e : ℕ) (ok : Bool) → ok ≡ commit_ok a m o p e → ok ≡ true → p.number.0 + 1 < 2 ^ 64
 unfolding commit_ok
-commit_low m o p e ok h t =
+commit_low a m o p e ok h t =
     number_low p.number.0 (leb 1 p.number.0 && ltb p.number.0 (2 ^ 64 - 1)) refl (and_0 (leb 1 p.number.0 && ltb p.number.0 (2 ^ 64 - 1)) _ (sym h ∙ t))

@@ -100,13 +100,14 @@ found_below m n i e =
     (λ t r. (first_found (numbered m n) 64 0 i r).1)
 
 -- what was looked for in the log
-pub match_some : (o : Option Commitment) (t : CommitTime) (e : EndPlace) → Found t e ≡ match_of o → o ≡ some (record { time = t.0; end = e.0 })
+pub match_some : (o : Option Commitment) (t : CommitTime) (e : EndPlace) (u : ℕ) → Found t e u ≡ match_of o → o ≡ some (record { time = t.0; end = e.0; user = u })
 unfolding match_of
-match_some none t e q = let z : ◌≡◌ {A = ℕ} 0 1 = cc in absurd (omega arith)
-match_some (some y) t e q =
+match_some none t e u q = let z : ◌≡◌ {A = ℕ} 0 1 = cc in absurd (omega arith)
+match_some (some y) t e u q =
     let a : t ≡ record { 0 = y.time } = cc in
     let b : e ≡ record { 0 = y.end } = cc in
-    rw (a, b)
+    let c : u ≡ y.user = cc in
+    rw (a, b, c)
 
 pub match_none : (o : Option Commitment) → Absent ≡ match_of o → o ≡ none
 unfolding match_of
@@ -119,9 +120,9 @@ module _ (m : List ℕ) (log : List Placed) (n : ℕ) (f : Finding) (found : f �
   unfolding pair_time
   time_found i p e r = simp (← found, e, r)
 
-  pub time_logged : (t : CommitTime) (e : EndPlace) (x : Match) → f ≡ Nothing → x ≡ match_of (commit_under log n) → x ≡ Found t e → Timed t ≡ pair_time m log n
+  pub time_logged : (t : CommitTime) (e : EndPlace) (u : ℕ) (x : Match) → f ≡ Nothing → x ≡ match_of (commit_under log n) → x ≡ Found t e u → Timed t ≡ pair_time m log n
   unfolding pair_time
-  time_logged t e x g h k = simp (← found, g, match_some (commit_under log n) t e (sym k ∙ h))
+  time_logged t e u x g h k = simp (← found, g, match_some (commit_under log n) t e u (sym k ∙ h))
 
   pub time_none : (x : Match) → f ≡ Nothing → x ≡ match_of (commit_under log n) → x ≡ Absent → Untimed ≡ pair_time m log n
   unfolding pair_time

@@ -2,7 +2,7 @@
 use Rattle.std.specs.Prelude.{ℕ, zero, suc, ◌+◌, ◌-◌, ◌*◌, ◌≤◌, ◌^◌, ◌≡◌, List, [], ◌∷◌, ◌++◌, length, drop}
 use Rattle.fields.specs.Part.{part}
 use Rattle.fields.specs.Block.{medium_length, log_block_at, end_place}
-use Rattle.layout.specs.Item.{bytes_of, item_of}
+use Rattle.layout.specs.Item.{bytes_of, user_bytes_of, item_of}
 use Rattle.layout.specs.Journal.{version, commit, body_of, parse}
 use Rattle.layout.specs.declared.item.Area.TheVariants.{Journal}
 use Rattle.layout.specs.declared.item.Item.{Item}
@@ -35,7 +35,9 @@ module _ (m : List ℕ) (l : ℕ) where
   step_at (Version h) s at k =
       let n = 32 + bytes_of h.width in
       Written h (512 * log_block_at l s + at + (n - 16)) (record { 0 = end_place s (at + n) }) (onward s (at + n) (suc k))
-  step_at (Commit p) s at k = Committed p (record { 0 = end_place s (at + 19) }) (onward s (at + 19) (suc k))
+  step_at (Commit p) s at k =
+      let n = 19 + user_bytes_of p.form in
+      Committed p (record { 0 = end_place s (at + n) }) (onward s (at + n) (suc k))
   step_at (Number t n) s at k = Skip (onward (s + 1) 10 k)
   step_at Damaged s at k = Skip (onward (s + 1) 10 k)
 
@@ -53,13 +55,14 @@ module _ (m : List ℕ) (l : ℕ) where
   shown (Written h v e c) s rest = record { seq = s; end = e.0; rec = version h (part m v 16) } ∷ rest c
   shown (Committed p e c) s rest = record { seq = s; end = e.0; rec = commit p } ∷ rest c
 
--- a medium of right length for L and some pages
+-- a medium of right length for L, some pages and some area
 pub record Ready (l size : ℕ) : Type 0 where
   pub low : 2 ≤ l
   pub high : l ≤ 32
   pub pages : ℕ
   pub few : pages ≤ 64
-  pub medium : size ≡ medium_length l pages
+  pub area : ℕ
+  pub medium : size ≡ medium_length l pages area
 
 -- a cursor within the log: `left` blocks from its sequence on, none at 2^48 + 32 or above
 pub record Valid (c : Cursor) : Type 0 where

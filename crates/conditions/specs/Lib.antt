@@ -1,3 +1,4 @@
 pub mod Cursor
 pub mod Passes
+pub mod Lines
 pub mod Lookup

@@ -1,5 +1,5 @@
 -- What was looked up and gathered, as the code has it.
-use Rattle.std.specs.Prelude.{ℕ, ◌+◌, ◌<◌, ◌≤◌, ◌*◌, ◌≡◌, Bool, true, cond, ◌&&◌, List, [], ◌∷◌, get_or, set, eqb, leb, ltb}
+use Rattle.std.specs.Prelude.{ℕ, ◌+◌, ◌<◌, ◌≤◌, ◌*◌, ◌^◌, ◌≡◌, Bool, true, cond, ◌&&◌, List, [], ◌∷◌, get_or, set, eqb, leb, ltb}
 use Rattle.std.proofs.Math.Option.{Option, none, some}
 use Rattle.layout.specs.Journal.{Record, version, commit}
 use Rattle.layout.specs.Table.{table_pair}
@@ -14,12 +14,12 @@ use Rattle.conditions.specs.declared.log.Match.TheVariants.{Found, Absent}
 
 unfoldable pub match_of : Option Commitment → Match
 match_of none = Absent
-match_of (some x) = Found (record { 0 = x.time }) (record { 0 = x.end })
+match_of (some x) = Found (record { 0 = x.time }) (record { 0 = x.end }) x.user
 
--- the commit records of a log as numbers: number, time and end place of one behind the other
+-- the commit records of a log as numbers: number, time, end place and user of one behind the other
 abbrev pub commit_words : Record → ℕ → List ℕ → List ℕ
 commit_words (version h v) e rest = rest
-commit_words (commit p) e rest = p.number.0 ∷ p.time.0 ∷ e ∷ rest
+commit_words (commit p) e rest = p.number.0 ∷ p.time.0 ∷ e ∷ p.user ∷ rest
 
 unfoldable pub commits_of : List Placed → List ℕ
 commits_of [] = []
@@ -30,17 +30,23 @@ unfoldable pub commit_among : List ℕ → ℕ → Option Commitment
 commit_among [] n = none
 commit_among (a ∷ []) n = none
 commit_among (a ∷ b ∷ []) n = none
-commit_among (a ∷ b ∷ c ∷ rest) n = cond (eqb a n) (some (record { time = b; end = c })) (commit_among rest n)
+commit_among (a ∷ b ∷ c ∷ []) n = none
+commit_among (a ∷ b ∷ c ∷ d ∷ rest) n = cond (eqb a n) (some (record { time = b; end = c; user = d })) (commit_among rest n)
 
 -- the table's places from `used` on are empty
 pub record Extent (m : List ℕ) (used : ℕ) : Type 0 where
   pub few : used ≤ 64
   pub empty : (i : ℕ) → used ≤ i → i < 64 → (table_pair m i).number.0 ≡ 0
 
+-- every user that is found among the commits has four bytes
+abbrev pub UsersLow : List ℕ → Type 0
+UsersLow commits = (n : ℕ) (x : Commitment) → commit_among commits n ≡ some x → x.user < 2 ^ 32
+
 -- what is known of the pairs once table and log were gone through: the table's extent, and the log's commits
 pub record Known (m : List ℕ) (l used : ℕ) (commits : List ℕ) : Type 0 where
   pub table : Extent m used
   pub log : commits ≡ commits_of (read_log m l)
+  pub users : UsersLow commits
 
 -- one more than a commit time, 0 for none: the least that may follow it
 abbrev pub low_of : Timing → ℕ

@@ -1,19 +1,19 @@
--- 01's "well formed?" as the code goes through the medium: master, log blocks, pages, redo, table, log records, slots.
+-- 01's "well formed?" as the code goes through the medium: master, log blocks, pages, redo, log records, table, slots, user lines.
 -- Every item is judged once for all the conditions that concern it.
-use Rattle.std.specs.Prelude.{ℕ, zero, suc, ◌+◌, ◌-◌, ◌*◌, ◌^◌, Bool, true, cond, not, ◌&&◌, List, [], ◌∷◌, ◌++◌, length, eqb, leb, ltb}
+use Rattle.std.specs.Prelude.{ℕ, zero, suc, ◌+◌, ◌-◌, ◌*◌, ◌^◌, Bool, true, cond, not, ◌&&◌, ◌||◌, List, [], ◌∷◌, ◌++◌, length, eqb, leb, ltb}
 use Rattle.std.proofs.Math.Option.{Option}
 use Rattle.fields.specs.Block.{blk, page_block_at}
 use Rattle.layout.specs.Page.{page_form, page_end}
 use Rattle.layout.specs.Journal.{Record, used_form, record_form, parsed}
 use Rattle.layout.specs.Table.{table_pair}
 use Rattle.layout.specs.Master.{master_of, oldest_on}
-use Rattle.layout.specs.declared.item.Pair.{Pair}
+use Rattle.layout.specs.declared.item.CommitHead.{CommitHead}
 use Rattle.store.specs.Places.{first, is_at}
 use Rattle.store.specs.Chain.{cell_at}
 use Rattle.store.specs.OpenLog.{Placed, Commitment, number_in, commit_under, next_on, block_of, read_count, read_log, log_end, next_number, last_time}
 use Rattle.store.specs.OpenRedo.{Redone, redo_one, next_in_page}
-use Rattle.store.specs.OpenPairs.{table_find, end_of_commitment, waiting_numbers, is_paired}
-use Rattle.store.specs.OpenConditions.{sizes_are, record_fits, low_after, low_after_all, at_least_one, slot_at_least_one, once_in, same_time, full_before, slot_true, redone, copied}
+use Rattle.store.specs.OpenPairs.{table_find, end_of_commitment, area_on, live_numbers, is_paired}
+use Rattle.store.specs.OpenConditions.{sizes_are, record_fits, low_after, low_after_all, at_least_one, slot_at_least_one, once_in, same_time, is_plain, unsigned, full_before, slot_true, line_true, redone, copied}
 
 -- does a test hold of the k numbers from i on?
 unfoldable pub all_of : (ℕ → Bool) → ℕ → ℕ → Bool
@@ -30,21 +30,23 @@ unfoldable pub redo_ok : Redone → List Placed → Bool
 redo_ok d [] = true
 redo_ok d (x ∷ xs) = next_in_page x.rec d.cache x.end && redo_ok (redo_one d x) xs
 
--- a record of the log: its number and time, and that it is the only commit under its number
-unfoldable pub record_ok : List ℕ → List Placed → Record → Bool
-record_ok m seen r =
-    at_least_one r && (ltb (number_in r) (2 ^ 64 - 1) && once_in r m (commit_under seen (number_in r)))
+-- a record of the log: its number and time, no user where A is 0, and that it is the only commit under its number
+unfoldable pub record_ok : ℕ → List ℕ → List Placed → Record → Bool
+record_ok a m seen r =
+    at_least_one r
+    && (ltb (number_in r) (2 ^ 64 - 1) && ((not (eqb a 0) || unsigned r) && once_in r m (commit_under seen (number_in r))))
 
 -- the same of a commit record, by the first one of the whole log under its number: it is that one
-unfoldable pub commit_ok : List ℕ → Option Commitment → Pair → ℕ → Bool
-commit_ok m found p e =
+unfoldable pub commit_ok : ℕ → List ℕ → Option Commitment → CommitHead → ℕ → Bool
+commit_ok a m found p e =
     (leb 1 p.number.0 && ltb p.number.0 (2 ^ 64 - 1))
+    && ((not (eqb a 0) || is_plain p.form)
     && (not (eqb p.time.0 0)
-    && (same_time (table_find m p.number.0) m p.time.0 && eqb (end_of_commitment found) e))
+    && (same_time (table_find m p.number.0) m p.time.0 && eqb (end_of_commitment found) e)))
 
-unfoldable pub log_ok : List ℕ → List Placed → List Placed → Bool
-log_ok m seen [] = true
-log_ok m seen (x ∷ xs) = record_ok m seen x.rec && log_ok m (seen ++ (x ∷ [])) xs
+unfoldable pub log_ok : ℕ → List ℕ → List Placed → List Placed → Bool
+log_ok a m seen [] = true
+log_ok a m seen (x ∷ xs) = record_ok a m seen x.rec && log_ok a m (seen ++ (x ∷ [])) xs
 
 -- a table place, with the next number and the last time; 01: "Number 0 is an empty place, with time 0"
 unfoldable pub place_ok : List ℕ → ℕ → ℕ → ℕ → Bool
@@ -56,9 +58,9 @@ place_ok m next last i =
     && not (is_at (first (λ j. eqb (table_pair m j).number.0 (table_pair m i).number.0) i 0)))))
 
 module _ (m : List ℕ) (l d : ℕ) where
-  unfoldable pub master_ok : Bool
-  master_ok =
-      sizes_are (master_of (blk m 0)) l d
+  unfoldable pub master_ok : ℕ → Bool
+  master_ok a =
+      sizes_are (master_of (blk m 0)) l d a
       && (leb 1 (oldest_on m) && (ltb (oldest_on m) (2 ^ 48) && leb 1 (next_on m)))
 
   -- the k blocks from sequence s on
@@ -83,15 +85,21 @@ module _ (m : List ℕ) (l d : ℕ) where
       all_of (place_ok m (next_number m l) (last_time m l)) 0 64
       && (all_of (full_before m l d c) 0 d && all_of (slot_ok c) 0 (15 * d))
 
-  unfoldable pub cache_ok : List ℕ → Bool
-  cache_ok c =
-      log_ok m [] (read_log m l)
-      && (table_and_slots c && leb (length (waiting_numbers c (is_paired m (read_log m l)) (15 * d))) 64)
+  -- the lines of the area
+  unfoldable pub lines_ok : ℕ → Bool
+  lines_ok a = all_of (line_true m l d) 0 (32 * a)
+
+  -- the live transactions, waiting or without their line, are at most 64
+  unfoldable pub live_ok : ℕ → List ℕ → Bool
+  live_ok a c = leb (length (live_numbers (area_on m l d a) (read_log m l) c (is_paired m (read_log m l)) (15 * d))) 64
+
+  unfoldable pub cache_ok : ℕ → List ℕ → Bool
+  cache_ok a c = log_ok a m [] (read_log m l) && (table_and_slots c && (live_ok a c && lines_ok a))
 
   -- the master, the log blocks and the pages as they lie on the medium
-  unfoldable pub medium_ok : Bool
-  medium_ok = master_ok && (blocks_ok 0 (oldest_on m) (read_count m l) && all_of page_ok 0 d)
+  unfoldable pub medium_ok : ℕ → Bool
+  medium_ok a = master_ok a && (blocks_ok 0 (oldest_on m) (read_count m l) && all_of page_ok 0 d)
 
   -- the whole of it
-  unfoldable pub passes : Bool
-  passes = medium_ok && (redo_ok (copied m l d) (read_log m l) && cache_ok (redone m l d).cache)
+  unfoldable pub passes : ℕ → Bool
+  passes a = medium_ok a && (redo_ok (copied m l d) (read_log m l) && cache_ok a (redone m l d).cache)

@@ -81,7 +81,8 @@ pub fn records_ok(block: &[u8], pages: u64, before: Timing) -> Checked
                     };
                 }
                 last = Timing::Timed(time);
-                at = at + 19;
+                let form = p.form;
+                at = at + 19 + layout::item::user_bytes(form);
             }
             Item::Number(_, _) => {
                 return Checked {

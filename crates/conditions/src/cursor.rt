@@ -7,7 +7,7 @@ ghost use Rattle.layout.specs.Journal.{body_of};
 ghost use Rattle.conditions.specs.Cursor.{step_of, Ready, Valid};
 
 use layout::EndPlace;
-use layout::item::{Area, Item, Pair, VersionHead};
+use layout::item::{Area, CommitHead, Item, VersionHead};
 
 // Where the reading stands: the sequence of a block, an offset in it, and how many blocks are left with this one.
 #[derive(Clone, Copy)]
@@ -24,7 +24,7 @@ pub enum Step {
     Done,
     Skip(Cursor),
     Written(VersionHead, u64, EndPlace, Cursor),
-    Committed(Pair, EndPlace, Cursor),
+    Committed(CommitHead, EndPlace, Cursor),
 }
 
 // The offset of a sequence's block on the medium.
@@ -93,15 +93,19 @@ pub fn next(medium: &[u8], blocks: u64, c: Cursor) -> Step
                 },
             )
         }
-        Item::Commit(p) => Step::Committed(
-            p,
-            end_behind(s, at + 19),
-            Cursor {
-                sequence: s,
-                at: at + 19,
-                left: left,
-            },
-        ),
+        Item::Commit(p) => {
+            let form = p.form;
+            let n = 19 + layout::item::user_bytes(form) as u64;
+            Step::Committed(
+                p,
+                end_behind(s, at + n),
+                Cursor {
+                    sequence: s,
+                    at: at + n,
+                    left: left,
+                },
+            )
+        }
         Item::Number(_, _) => Step::Skip(skip(s, left)),
         Item::Damaged => Step::Skip(skip(s, left)),
     }

@@ -7,10 +7,10 @@ ghost use Rattle.conditions.specs.Lookup.{match_of, commits_of, commit_among};
 use crate::cursor::{Cursor, Step};
 use layout::{CommitTime, EndPlace};
 
-// A commit record that was looked for, with its end place.
+// A commit record that was looked for: its time, its end place and its user.
 #[derive(Clone, Copy)]
 pub enum Match {
-    Found(CommitTime, EndPlace),
+    Found(CommitTime, EndPlace, u64),
     Absent,
 }
 
@@ -31,13 +31,13 @@ pub fn read_count(medium: &[u8], blocks: u64, oldest: u64) -> u64
     k
 }
 
-// Gathers the commit records from the cursor on, so that each is read from the log once: number, time and end place, one
-// record behind the other. Answers how many numbers these are. A block holds at most 26 of them, a log 832.
+// Gathers the commit records from the cursor on, so that each is read from the log once: number, time, end place and user,
+// one record behind the other. Answers how many numbers these are. A block holds at most 26 records, a log 832.
 pub fn gather(medium: &[u8], blocks: u64, from: Cursor, commits: &mut [u64]) -> usize
     requires ready { Ready blocks (length medium.now) }
     requires valid { Valid from }
-    requires commits_len { length commits.old ≡ 2592 }
-    ensures { (result ≤ 2592) × (take result commits.new ≡ commits_of (rest_of medium.now blocks from)) }
+    requires commits_len { length commits.old ≡ 3456 }
+    ensures { (result ≤ 3456) × (take result commits.new ≡ commits_of (rest_of medium.now blocks from)) }
 {
     let mut n: usize = 0;
     let mut c = from;
@@ -57,7 +57,8 @@ pub fn gather(medium: &[u8], blocks: u64, from: Cursor, commits: &mut [u64]) -> 
                 commits[n] = p.number.0;
                 commits[n + 1] = p.time.0;
                 commits[n + 2] = e.0;
-                n = n + 3;
+                commits[n + 3] = p.user as u64;
+                n = n + 4;
                 c = d;
             }
         }
@@ -69,11 +70,15 @@ pub fn commit_under(commits: &[u64], n: u64) -> Match
     ensures { result ≡ match_of (commit_among commits.now n) }
 {
     let mut i: usize = 0;
-    while 2 < commits.len() - i {
+    while 3 < commits.len() - i {
         if commits[i] == n {
-            return Match::Found(CommitTime(commits[i + 1]), EndPlace(commits[i + 2]));
+            return Match::Found(
+                CommitTime(commits[i + 1]),
+                EndPlace(commits[i + 2]),
+                commits[i + 3],
+            );
         }
-        i += 3;
+        i += 4;
     }
     Match::Absent
 }

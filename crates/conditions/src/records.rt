@@ -1,15 +1,15 @@
 // The log's records: numbers, times, and no two commits under a number.
-ghost use Rattle.std.specs.Prelude.{◌≡◌, true, ◌&&◌, [], ◌+◌, ◌-◌, ◌<◌, ◌≤◌, ◌^◌, length, leb, ltb, eqb};
+ghost use Rattle.std.specs.Prelude.{◌≡◌, true, not, ◌&&◌, ◌||◌, [], ◌+◌, ◌-◌, ◌<◌, ◌≤◌, ◌^◌, length, leb, ltb, eqb};
 ghost use Rattle.store.specs.OpenLog.{above_all, latest};
 ghost use Rattle.store.specs.OpenPairs.{table_find, end_of_commitment};
-ghost use Rattle.store.specs.OpenConditions.{same_time};
+ghost use Rattle.store.specs.OpenConditions.{same_time, is_plain};
 ghost use Rattle.conditions.specs.Cursor.{Ready, Valid, rest_of};
 ghost use Rattle.conditions.specs.Lookup.{commits_of, commit_among, Extent};
 ghost use Rattle.conditions.specs.Passes.{log_ok, commit_ok};
 
 use crate::cursor::{Cursor, Step};
 use crate::log::Match;
-use layout::item::Pair;
+use layout::item::{CommitHead, Form};
 use layout::{EndPlace, TxNumber};
 use store::Found;
 
@@ -31,15 +31,28 @@ fn number_ok(n: TxNumber) -> bool
     n.0 < 18446744073709551615
 }
 
+// Has a commit record no user where A is 0?
+fn form_ok(area: u64, form: Form) -> bool
+    ensures { result ≡ (not (eqb area 0) || is_plain form) }
+{
+    if area != 0 {
+        return true;
+    }
+    match form {
+        Form::Plain => true,
+        Form::Signed => false,
+    }
+}
+
 // Has the table another time for the number?
-fn same_time(medium: &[u8], used: usize, pair: Pair) -> bool
+fn same_time(medium: &[u8], used: usize, p: CommitHead) -> bool
     requires in_bounds { 1536 ≤ length medium.now }
     requires extent { Extent medium.now used }
-    ensures { result ≡ same_time (table_find medium.now pair.number.0) medium.now pair.time.0 }
+    ensures { result ≡ same_time (table_find medium.now p.number.0) medium.now p.time.0 }
 {
-    let f = crate::table::find(medium, used, pair.number.0);
+    let f = crate::table::find(medium, used, p.number.0);
     match f {
-        Found::At(i) => layout::table::read(medium, i as usize).time.0 == pair.time.0,
+        Found::At(i) => layout::table::read(medium, i as usize).time.0 == p.time.0,
         Found::Nothing => true,
     }
 }
@@ -50,18 +63,25 @@ fn is_first(commits: &[u64], n: u64, end: EndPlace) -> bool
 {
     let c = crate::log::commit_under(commits, n);
     match c {
-        Match::Found(_, e) => e.0 == end.0,
+        Match::Found(_, e, _) => e.0 == end.0,
         Match::Absent => end.0 == 0,
     }
 }
 
 // All records from the cursor on.
-pub fn all_ok(medium: &[u8], blocks: u64, log: Cursor, used: usize, commits: &[u64]) -> Tally
+pub fn all_ok(
+    medium: &[u8],
+    blocks: u64,
+    area: u64,
+    log: Cursor,
+    used: usize,
+    commits: &[u64],
+) -> Tally
     requires ready { Ready blocks (length medium.now) }
     requires valid { Valid log }
     requires extent { Extent medium.now used }
     requires commits_value { commits.now ≡ commits_of (rest_of medium.now blocks log) }
-    ensures { (result.ok ≡ log_ok medium.now [] (rest_of medium.now blocks log)) × (result.ok ≡ true → (result.above ≡ above_all (rest_of medium.now blocks log)) × (result.latest ≡ latest (rest_of medium.now blocks log))) }
+    ensures { (result.ok ≡ log_ok area medium.now [] (rest_of medium.now blocks log)) × (result.ok ≡ true → (result.above ≡ above_all (rest_of medium.now blocks log)) × (result.latest ≡ latest (rest_of medium.now blocks log))) }
 {
     let mut above: u64 = 0;
     let mut latest: u64 = 0;
@@ -92,7 +112,7 @@ pub fn all_ok(medium: &[u8], blocks: u64, log: Cursor, used: usize, commits: &[u
                 c = d;
             }
             Step::Committed(p, e, d) => {
-                if !commit_ok(medium, used, commits, p, e) {
+                if !commit_ok(medium, area, used, commits, p, e) {
                     return Tally {
                         ok: false,
                         above: above,
@@ -107,21 +127,32 @@ pub fn all_ok(medium: &[u8], blocks: u64, log: Cursor, used: usize, commits: &[u
     }
 }
 
-// A commit record: its number and time, the only one under its number, and no other time in the table.
-fn commit_ok(medium: &[u8], used: usize, commits: &[u64], pair: Pair, end: EndPlace) -> bool
+// A commit record: its number, form and time, the only one under its number, and no other time in the table.
+fn commit_ok(
+    medium: &[u8],
+    area: u64,
+    used: usize,
+    commits: &[u64],
+    p: CommitHead,
+    end: EndPlace,
+) -> bool
     requires in_bounds { 1536 ≤ length medium.now }
     requires extent { Extent medium.now used }
-    ensures { result ≡ commit_ok medium.now (commit_among commits.now pair.number.0) pair end.0 }
+    ensures { result ≡ commit_ok area medium.now (commit_among commits.now p.number.0) p end.0 }
 {
-    let n = pair.number;
+    let n = p.number;
     if !number_ok(n) {
         return false;
     }
-    if pair.time.0 == 0 {
+    let form = p.form;
+    if !form_ok(area, form) {
         return false;
     }
-    if !same_time(medium, used, pair) {
+    if p.time.0 == 0 {
         return false;
     }
-    is_first(commits, pair.number.0, end)
+    if !same_time(medium, used, p) {
+        return false;
+    }
+    is_first(commits, p.number.0, end)
 }

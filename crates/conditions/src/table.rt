@@ -72,7 +72,7 @@ pub fn pair_time(medium: &[u8], blocks: u64, used: usize, commits: &[u64], n: u6
         Found::Nothing => {
             let c = crate::log::commit_under(commits, n);
             match c {
-                Match::Found(t, _) => Timing::Timed(t),
+                Match::Found(t, _, _) => Timing::Timed(t),
                 Match::Absent => Timing::Untimed,
             }
         }

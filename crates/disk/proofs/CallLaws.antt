@@ -1,7 +1,7 @@
 -- A call changes no block but the one that `block_of` names: it is the block that the call stores, and where sizes or page
 -- are out of range the call is refused and stores nothing. So with a handover, which stores the tail's block or nothing.
 use mathlib.Core.Path.{◌≡◌, refl, sym, ap, ◌∙◌}
-use mathlib.Core.Bool.{false}
+use mathlib.Core.Bool.{true, false}
 use mathlib.Core.List.{List}
 use Prim.Native.Nat.{ℕ, ◌*◌}
 use native.Mathlib.Omega.{arith}
@@ -9,19 +9,19 @@ use lib.ListN.{length}
 use lib.Dec.{ltb}
 use Rattle.fields.specs.Block.{put}
 use Rattle.store.specs.declared.Phase.{Phase}
-use Rattle.store.specs.declared.Phase.TheVariants.{Idle, FirstStored, SecondStored}
+use Rattle.store.specs.declared.Phase.TheVariants.{Idle, LinesStored, FirstStored, SecondStored}
 use Rattle.store.specs.declared.State.{State}
 use Rattle.store.specs.Answer.{Outcome}
 use Rattle.store.specs.State.{in_range, fits}
 use Rattle.fields.proofs.Choose.{bool_case, no}
 use Rattle.runs.specs.Event.{Call, write, erase, commit, store_log, store_page, checkpoint}
 use Rattle.runs.specs.Machine.{called}
-use Rattle.runs.proofs.Asks.{Way, refused, begins, writes, erases, looks, commits, ends, aborts, logs, pages, checks, way}
+use Rattle.runs.proofs.Asks.{Way, refused, begins, writes, erases, looks, commits, ends, aborts, logs, pages, lines, firsts, seconds, thirds, way}
 use Rattle.runs.proofs.OneBlock.{Stores, nothing, block, phase_block as stored_in, store_block, stores}
 use Rattle.handover.specs.declared.Transfer.{Transfer}
 use Rattle.handover.specs.Hand.{hand_of}
 use Rattle.handover.proofs.OneStore.{hand_stores, hand_unfit}
-use Rattle.disk.specs.Block.{log_block, page_block, phase_block}
+use Rattle.disk.specs.Block.{log_block, page_block, lines_block, phase_block}
 use Rattle.disk.proofs.AlikeLaws.{Alike, alike_same, alike_is, alike_splice}
 
 pub alike_put : {m n : List ℕ} {k : ℕ} → Stores m k n → Alike m k n
@@ -37,14 +37,17 @@ unfit (begins clock i p w) f = refl
 unfit (writes n key i v p w) f = no (sym f ∙ p.0)
 unfit (erases n key i p w) f = no (sym f ∙ p.0)
 unfit (looks k a v b h p n w) f = refl
-unfit (commits n clock i p w z) f = no (sym f ∙ p.0)
-unfit (ends n clock i p w z) f = refl
+unfit (commits n clock user i p w z) f = no (sym f ∙ p.0)
+unfit (ends n clock user i p w z) f = refl
 unfit (aborts n i p w) f = refl
 unfit (logs p) f = no (sym f ∙ p.0)
 unfit (pages n p) f = no (sym f ∙ p.0)
-unfit (checks h p w) f = no (sym f ∙ p.0)
+unfit (lines o t p b w) f = no (sym f ∙ p.0)
+unfit (firsts o t p b w) f = no (sym f ∙ p.0)
+unfit (seconds o t p w) f = no (sym f ∙ p.0)
+unfit (thirds o t p w) f = no (sym f ∙ p.0)
 
-unfit_range : (s : State) (m c : ℕ) → in_range s.blocks s.pages ≡ false → fits s m c ≡ false
+unfit_range : (s : State) (m c : ℕ) → in_range s.blocks s.pages s.area.blocks ≡ false → fits s m c ≡ false
 unfolding fits
 unfit_range s m c e = simp e
 
@@ -54,24 +57,28 @@ no_page (begins clock i p w) e f = refl
 no_page (writes n key i v p w) e f = cc
 no_page (erases n key i p w) e f = cc
 no_page (looks k a v b h p n w) e f = refl
-no_page (commits n clock i p w z) e f = cc
-no_page (ends n clock i p w z) e f = refl
+no_page (commits n clock user i p w z) e f = cc
+no_page (ends n clock user i p w z) e f = refl
 no_page (aborts n i p w) e f = refl
 no_page (logs p) e f = cc
 no_page {s = s} {q = q} (pages n p) e f = let z : n ≡ q = cc in no (sym f ∙ ap (λ (j : ℕ). ltb j s.pages) (sym z) ∙ p.1.0)
-no_page (checks h p w) e f = cc
+no_page (lines o t p b w) e f = cc
+no_page (firsts o t p b w) e f = cc
+no_page (seconds o t p w) e f = cc
+no_page (thirds o t p w) e f = cc
 
-same_phase : (h : Phase) → phase_block h ≡ stored_in h
-unfolding phase_block
-same_phase Idle = refl
-same_phase (FirstStored o t) = refl
-same_phase (SecondStored o t) = refl
+same_phase : (s : State) (h : Phase) → in_range s.blocks s.pages s.area.blocks ≡ true → phase_block h s ≡ stored_in h s
+unfolding phase_block lines_block
+same_phase s Idle r = simp r
+same_phase s (LinesStored o t) r = simp r
+same_phase s (FirstStored o t) r = refl
+same_phase s (SecondStored o t) r = refl
 
 module _ (m c : List ℕ) (s : State) where
   -- a call that stores the tail
   in_log : (k : Call) → store_block s k ≡ store_block s store_log → Alike m (log_block s) (called m c s k).medium
   unfolding log_block
-  in_log k e = bool_case (in_range s.blocks s.pages)
+  in_log k e = bool_case (in_range s.blocks s.pages s.area.blocks)
       (λ t. simp (t, ← e) (alike_put (stores m c s k)))
       (λ t. simp t (alike_is (unfit (way m c s k) (unfit_range s _ _ t))))
 
@@ -81,25 +88,27 @@ module _ (m c : List ℕ) (s : State) where
   pub alike_erase : (n key : ℕ) → Alike m (log_block s) (called m c s (erase n key)).medium
   alike_erase n key = in_log (erase n key) refl
 
-  pub alike_commit : (n clock : ℕ) → Alike m (log_block s) (called m c s (commit n clock)).medium
-  alike_commit n clock = in_log (commit n clock) refl
+  pub alike_commit : (n clock user : ℕ) → Alike m (log_block s) (called m c s (commit n clock user)).medium
+  alike_commit n clock user = in_log (commit n clock user) refl
 
   pub alike_log : Alike m (log_block s) (called m c s store_log).medium
   alike_log = in_log store_log refl
 
   pub alike_hand : (h : Transfer) → Alike m (log_block s) (hand_of s m c h).medium
   unfolding log_block
-  alike_hand h = bool_case (in_range s.blocks s.pages)
+  alike_hand h = bool_case (in_range s.blocks s.pages s.area.blocks)
       (λ t. simp t (alike_put (hand_stores s m c h)))
       (λ t. simp t (alike_is (hand_unfit s m c h (unfit_range s _ _ t))))
 
   pub alike_page : (p : ℕ) → Alike m (page_block s p) (called m c s (store_page p)).medium
   unfolding page_block
-  alike_page p = bool_case (in_range s.blocks s.pages)
+  alike_page p = bool_case (in_range s.blocks s.pages s.area.blocks)
       (λ t. bool_case (ltb p s.pages)
       (λ u. simp (t, u) (alike_put (stores m c s (store_page p))))
       (λ u. simp (t, u) (alike_is (no_page (way m c s (store_page p)) refl u))))
       (λ t. simp t (alike_is (unfit (way m c s (store_page p)) (unfit_range s _ _ t))))
 
-  pub alike_checkpoint : Alike m (phase_block s.phase) (called m c s checkpoint).medium
-  alike_checkpoint = rw (same_phase s.phase) (alike_put (stores m c s checkpoint))
+  pub alike_checkpoint : Alike m (phase_block s.phase s) (called m c s checkpoint).medium
+  alike_checkpoint = bool_case (in_range s.blocks s.pages s.area.blocks)
+      (λ t. rw (same_phase s s.phase t) (alike_put (stores m c s checkpoint)))
+      (λ t. alike_is (unfit (way m c s checkpoint) (unfit_range s _ _ t)))

@@ -19,10 +19,10 @@ use Rattle.fields.proofs.Choose.{bool_case, no}
 use Rattle.handover.specs.declared.Transfer.{Transfer}
 use Rattle.script.specs.declared.call.Asked.{Asked}
 use Rattle.script.specs.declared.call.Call.{Call}
-use Rattle.script.specs.declared.call.Call.TheVariants.{Format, Open, OpenSized, Cut, Begin, Write, Erase, Read, Commit, Abort, Hand, AsOf, Changes, StoreLog, StorePage, Checkpoint, Block, Page, Poke, Other}
+use Rattle.script.specs.declared.call.Call.TheVariants.{Format, Open, OpenSized, Cut, Begin, Write, Erase, Read, Commit, Abort, Hand, AsOf, Changes, StoreLog, StorePage, Checkpoint, Block, Page, User, Poke, Other}
 use Rattle.rooms.specs.declared.parts.Standing.{Standing}
 use Rattle.rooms.specs.Parts.{room_of}
-use Rattle.rooms.specs.Room.{Room, gone, shut, ready, medium_in, blocks_in, pages_in, opened, opening, cut, poked, outcome_of, called as printed, calling, handed, handing, turn_by, turn_of}
+use Rattle.rooms.specs.Room.{Room, gone, shut, ready, medium_in, blocks_in, pages_in, area_in, opened, opening, cut, poked, outcome_of, called as printed, calling, handed, handing, turn_by, turn_of}
 use Rattle.disk.specs.Block.{log_block, block_of}
 use Rattle.disk.specs.Stored.{is_format}
 use Rattle.disk.proofs.AlikeLaws.{Alike, alike_same, alike_is, alike_splice}
@@ -32,14 +32,14 @@ use Rattle.disk.proofs.CallLaws.{alike_put, alike_write, alike_erase, alike_comm
 open_left : (letter : ℕ) (r : Room) (given : List ℕ) → medium_in (opening letter r given).room ≡ medium_in r
 unfolding opening opened
 open_left letter r given =
-    bool_case (eqb (answer_number (open_of (medium_in r) given (blocks_in r) (pages_in r)).answer) 0)
-    (λ e. simp e (open_medium (medium_in r) given (blocks_in r) (pages_in r))) (λ e. simp e)
+    bool_case (eqb (answer_number (open_of (medium_in r) given (blocks_in r) (pages_in r) (area_in r)).answer) 0)
+    (λ e. simp e (open_medium (medium_in r) given (blocks_in r) (pages_in r) (area_in r))) (λ e. simp e)
 
 cut_left : (r : Room) → medium_in (cut r) ≡ medium_in r
 unfolding cut
 cut_left gone = refl
-cut_left (shut l d m) = refl
-cut_left (ready l d m c s) = refl
+cut_left (shut l d a m) = refl
+cut_left (ready l d a m c s) = refl
 
 byte_left : (m : List ℕ) (at b : ℕ) → Alike m (at / 512) (set m at b)
 byte_left m at b = rw (set_splice m at b) (alike_splice m (at / 512) at (b ∷ []) (omega arith) (omega arith))
@@ -47,14 +47,14 @@ byte_left m at b = rw (set_splice m at b) (alike_splice m (at / 512) at (b ∷ [
 poked_left : (r : Room) (at b : ℕ) (s : State) → Alike (medium_in r) (block_of s (Poke at b)) (medium_in (poked r at b))
 unfolding poked block_of
 poked_left gone at b s = alike_same [] (at / 512)
-poked_left (shut l d m) at b s = byte_left m at b
-poked_left (ready l d m c u) at b s = byte_left m at b
+poked_left (shut l d a m) at b s = byte_left m at b
+poked_left (ready l d a m c u) at b s = byte_left m at b
 
 -- ---- a call
 
 call_left : (m c : List ℕ) (s : State) (v : List ℕ) (k : Call) → Alike m (block_of s k) (outcome_of k v s m c).medium
 unfolding block_of outcome_of called
-call_left m c s v (Format l d) = alike_same m _
+call_left m c s v (Format l d a) = alike_same m _
 call_left m c s v (Open byte) = alike_same m _
 call_left m c s v (OpenSized bytes) = alike_same m _
 call_left m c s v Cut = alike_same m _
@@ -62,9 +62,9 @@ call_left m c s v (Begin clock) = alike_put (stores m c s (begin clock))
 call_left m c s v (Write number key) = alike_write m c s number key v
 call_left m c s v (Erase number key) = alike_erase m c s number key
 call_left m c s v (Read number key) = alike_put (stores m c s (current_read number key))
-call_left m c s v (Commit number clock) = alike_commit m c s number clock
+call_left m c s v (Commit number clock user) = alike_commit m c s number clock user
 call_left m c s v (Abort number) = alike_put (stores m c s (abort number))
-call_left m c s v (Hand flight from to began ended) = alike_same m _
+call_left m c s v (Hand flight from to began ended user) = alike_same m _
 call_left m c s v (AsOf key time) = alike_put (stores m c s (as_of key time))
 call_left m c s v (Changes key t1 t2 bytes) = alike_put (stores m c s (changes key t1 t2 (replicate bytes 170)))
 call_left m c s v StoreLog = alike_log m c s
@@ -72,14 +72,15 @@ call_left m c s v (StorePage page) = alike_page m c s page
 call_left m c s v Checkpoint = alike_checkpoint m c s
 call_left m c s v (Block block) = alike_same m _
 call_left m c s v (Page page) = alike_same m _
+call_left m c s v (User time) = alike_same m _
 call_left m c s v (Poke offset byte) = alike_same m _
 call_left m c s v Other = alike_same m _
 
 -- the state of an opened room; any other has none
 pub data Holds : Room → State → Type 0 where
   is_gone : {s : State} → Holds gone s
-  is_shut : {l d : ℕ} {m : List ℕ} {s : State} → Holds (shut l d m) s
-  is_ready : {l d : ℕ} {m c : List ℕ} {s : State} → Holds (ready l d m c s) s
+  is_shut : {l d a : ℕ} {m : List ℕ} {s : State} → Holds (shut l d a m) s
+  is_ready : {l d a : ℕ} {m c : List ℕ} {s : State} → Holds (ready l d a m c s) s
 
 calling_left : (k : Call) (v : List ℕ) {r : Room} {s : State} → Holds r s → Alike (medium_in r) (block_of s k) (medium_in (calling k v r).room)
 unfolding calling printed
@@ -99,7 +100,7 @@ handing_left x {s = s} (is_ready {m = m} {c = c}) = alike_hand m c s x
 
 line_left : (k : Call) (v : List ℕ) {r : Room} {s : State} → Holds r s → is_format k ≡ false → Alike (medium_in r) (block_of s k) (medium_in (turn_by k v r).room)
 unfolding turn_by is_format block_of
-line_left (Format l d) v h e = no (sym e)
+line_left (Format l d a) v h e = no (sym e)
 line_left (Open byte) v {r} h e = alike_is (open_left 79 r _)
 line_left (OpenSized bytes) v {r} h e = alike_is (open_left 111 r _)
 line_left Cut v {r} h e = alike_is (cut_left r)
@@ -107,9 +108,9 @@ line_left (Begin clock) v h e = calling_left (Begin clock) v h
 line_left (Write number key) v h e = calling_left (Write number key) v h
 line_left (Erase number key) v h e = calling_left (Erase number key) v h
 line_left (Read number key) v h e = calling_left (Read number key) v h
-line_left (Commit number clock) v h e = calling_left (Commit number clock) v h
+line_left (Commit number clock user) v h e = calling_left (Commit number clock user) v h
 line_left (Abort number) v h e = calling_left (Abort number) v h
-line_left (Hand flight from to began ended) v h e = handing_left (record { flight = flight; from = from; to = to; began = began; ended = ended }) h
+line_left (Hand flight from to began ended user) v h e = handing_left (record { flight = flight; from = from; to = to; began = began; ended = ended; user = user }) h
 line_left (AsOf key time) v h e = calling_left (AsOf key time) v h
 line_left (Changes key t1 t2 bytes) v h e = calling_left (Changes key t1 t2 bytes) v h
 line_left StoreLog v h e = calling_left StoreLog v h
@@ -117,6 +118,7 @@ line_left (StorePage page) v h e = calling_left (StorePage page) v h
 line_left Checkpoint v h e = calling_left Checkpoint v h
 line_left (Block block) v {r} h e = alike_same (medium_in r) _
 line_left (Page page) v {r} h e = alike_same (medium_in r) _
+line_left (User time) v {r} h e = alike_same (medium_in r) _
 line_left (Poke offset byte) v {r} {s} h e = poked_left r offset byte s
 line_left Other v {r} h e = alike_same (medium_in r) _
 

@@ -27,15 +27,15 @@ use Rattle.disk.proofs.LineLaws.{alike_line}
 part_take : (l : List ℕ) (q at len : ℕ) → at + len ≤ q → part (take q l) at len ≡ part l at len
 part_take l q at len h = part_part l 0 q at len h ∙ (let z : 0 + at ≡ at = omega arith in ap (λ (i : ℕ). part l i len) z)
 
-part_most : (t : Standing) → medium_part t ≤ 50688
+part_most : (t : Standing) → medium_part t ≤ 58880
 unfolding medium_part
 part_most t = bool_case (ltb t.stage 2) (λ e. simp e (omega arith)) (λ e. simp e (omega arith))
 
-part_length : (t : Standing) (m : List ℕ) → length m ≡ 50688 → length (take (medium_part t) m) ≡ medium_part t
+part_length : (t : Standing) (m : List ℕ) → length m ≡ 58880 → length (take (medium_part t) m) ≡ medium_part t
 part_length t m h = let k = part_most t in length-take-le (medium_part t) m (omega arith)
 
 -- m and n are the buffers before and behind the line
-module _ (a : Asked) (t u : Standing) (m c : List ℕ) (s : State) (n d : List ℕ) (r : State) (hm : length m ≡ 50688) (hn : length n ≡ 50688) (e : room_of u n d r ≡ (turn_of a (room_of t m c s)).room) (f : is_format a.call ≡ false) where
+module _ (a : Asked) (t u : Standing) (m c : List ℕ) (s : State) (n d : List ℕ) (r : State) (hm : length m ≡ 58880) (hn : length n ≡ 58880) (e : room_of u n d r ≡ (turn_of a (room_of t m c s)).room) (f : is_format a.call ≡ false) where
   line_alike : Alike (medium_in (room_of t m c s)) (block_of s a.call) (medium_in (room_of u n d r))
   line_alike = rw e (alike_line a t m c s f)
 

@@ -2,11 +2,11 @@
 use Rattle.std.specs.Prelude.{ℕ, ◌-◌, ◌*◌, min, ◌≡◌, Bool, true, false, cond, List, length}
 use Rattle.fields.specs.Part.{splice}
 use Rattle.script.specs.declared.call.Call.{Call}
-use Rattle.script.specs.declared.call.Call.TheVariants.{Format, Open, OpenSized, Cut, Begin, Write, Erase, Read, Commit, Abort, Hand, AsOf, Changes, StoreLog, StorePage, Checkpoint, Block, Page, Poke, Other}
+use Rattle.script.specs.declared.call.Call.TheVariants.{Format, Open, OpenSized, Cut, Begin, Write, Erase, Read, Commit, Abort, Hand, AsOf, Changes, StoreLog, StorePage, Checkpoint, Block, Page, User, Poke, Other}
 
--- replay, `F L D`: "format a fresh medium": the line that makes every block anew
+-- replay, `F L D A`: "format a fresh medium": the line that makes every block anew
 unfoldable pub is_format : Call → Bool
-is_format (Format l d) = true
+is_format (Format l d a) = true
 is_format (Open byte) = false
 is_format (OpenSized bytes) = false
 is_format Cut = false
@@ -14,9 +14,9 @@ is_format (Begin clock) = false
 is_format (Write number key) = false
 is_format (Erase number key) = false
 is_format (Read number key) = false
-is_format (Commit number clock) = false
+is_format (Commit number clock user) = false
 is_format (Abort number) = false
-is_format (Hand flight from to began ended) = false
+is_format (Hand flight from to began ended user) = false
 is_format (AsOf key time) = false
 is_format (Changes key t1 t2 bytes) = false
 is_format StoreLog = false
@@ -24,6 +24,7 @@ is_format (StorePage page) = false
 is_format Checkpoint = false
 is_format (Block block) = false
 is_format (Page page) = false
+is_format (User time) = false
 is_format (Poke offset byte) = false
 is_format Other = false
 

@@ -3,9 +3,10 @@ ghost use Rattle.std.specs.Prelude.{◌≡◌, not, ◌+◌, ◌≤◌, length, 
 ghost use Rattle.fields.specs.Part.{part};
 ghost use Rattle.fields.specs.Equal.{eq_list};
 ghost use Rattle.memory.specs.Memory.{state_of};
-ghost use Rattle.disk.specs.Block.{log_block, page_block, phase_block, block_of, start_of, length_of};
+ghost use Rattle.disk.specs.Block.{log_block, page_block, lines_block, phase_block, block_of, start_of, length_of};
 
-use memory::{BLOCKS, PAGES, PHASE};
+use layout::CommitTime;
+use memory::{AREA, BEGAN, BLOCKS, LINES, PAGES, PHASE, SAVED};
 use script::call::Call;
 
 // The bytes of a medium that a line can change: where they begin, and how many there are.
@@ -16,23 +17,23 @@ pub struct Extent {
 }
 
 // The tail's block.
-fn of_log(words: &[u64; 448], tail: &[u8; 512]) -> u64
+fn of_log(words: &[u64; 512], tail: &[u8; 512]) -> u64
     ensures { result ≡ log_block (state_of words.now tail.now) }
 {
     let blocks = words[BLOCKS];
-    if memory::fit::in_range(blocks, words[PAGES]) {
+    if memory::fit::in_range(blocks, words[PAGES], words[AREA]) {
         return layout::place::log_block(blocks, layout::journal::sequence(tail)) as u64;
     }
     0
 }
 
 // A page's block.
-fn of_page(words: &[u64; 448], tail: &[u8; 512], page: u64) -> u64
+fn of_page(words: &[u64; 512], tail: &[u8; 512], page: u64) -> u64
     ensures { result ≡ page_block (state_of words.now tail.now) page }
 {
     let blocks = words[BLOCKS];
     let pages = words[PAGES];
-    if memory::fit::in_range(blocks, pages) {
+    if memory::fit::in_range(blocks, pages, words[AREA]) {
         if page < pages {
             return layout::place::page_block(blocks, page) as u64;
         }
@@ -40,9 +41,24 @@ fn of_page(words: &[u64; 448], tail: &[u8; 512], page: u64) -> u64
     0
 }
 
+// The area's next block while lines up to a time are due, then the first of the table.
+fn of_lines(words: &[u64; 512], tail: &[u8; 512], t: CommitTime) -> u64
+    ensures { result ≡ lines_block (state_of words.now tail.now) t }
+{
+    let blocks = words[BLOCKS];
+    let pages = words[PAGES];
+    if !memory::fit::in_range(blocks, pages, words[AREA]) {
+        return 1;
+    }
+    if checkpoints::lines::are_due(words, t.0) {
+        return layout::place::area_block(blocks, pages, words[LINES] / 32) as u64;
+    }
+    1
+}
+
 // The block that the next call of a checkpoint stores.
-fn of_phase(words: &[u64; 448], tail: &[u8; 512]) -> u64
-    ensures { result ≡ phase_block (state_of words.now tail.now).phase }
+fn of_phase(words: &[u64; 512], tail: &[u8; 512]) -> u64
+    ensures { result ≡ phase_block (state_of words.now tail.now).phase (state_of words.now tail.now) }
 {
     let kind = words[PHASE];
     if kind == 1 {
@@ -51,18 +67,21 @@ fn of_phase(words: &[u64; 448], tail: &[u8; 512]) -> u64
     if kind == 2 {
         return 0;
     }
-    1
+    if kind == 3 {
+        return of_lines(words, tail, CommitTime(words[BEGAN]));
+    }
+    of_lines(words, tail, CommitTime(words[SAVED]))
 }
 
 // The block that a line can change; 0 for a line that changes none.
-pub fn of(call: Call, words: &[u64; 448], tail: &[u8; 512]) -> u64
+pub fn of(call: Call, words: &[u64; 512], tail: &[u8; 512]) -> u64
     ensures { result ≡ block_of (state_of words.now tail.now) call }
 {
     match call {
         Call::Write(_, _) => of_log(words, tail),
         Call::Erase(_, _) => of_log(words, tail),
-        Call::Commit(_, _) => of_log(words, tail),
-        Call::Hand(_, _, _, _, _) => of_log(words, tail),
+        Call::Commit(_, _, _) => of_log(words, tail),
+        Call::Hand(_, _, _, _, _, _) => of_log(words, tail),
         Call::StoreLog => of_log(words, tail),
         Call::StorePage(page) => of_page(words, tail, page),
         Call::Checkpoint => of_phase(words, tail),
@@ -73,11 +92,11 @@ pub fn of(call: Call, words: &[u64; 448], tail: &[u8; 512]) -> u64
 
 // Where a block of a medium of n bytes begins. A block that it does not have is never changed, and block 0 stands for it.
 fn start(block: u64, n: usize) -> usize
-    requires { n ≤ 50688 }
+    requires { n ≤ 58880 }
     ensures value { result ≡ start_of block n }
     ensures upper_bound { result ≤ n }
 {
-    if 98 < block {
+    if 114 < block {
         return 0;
     }
     let at = 512 * block as usize;
@@ -89,7 +108,7 @@ fn start(block: u64, n: usize) -> usize
 
 // The bytes of a block in a medium of n bytes; the last block may have fewer than 512.
 pub fn extent_of(block: u64, n: usize) -> Extent
-    requires { n ≤ 50688 }
+    requires { n ≤ 58880 }
     ensures at_value { (result.at ≡ start_of block n) × (result.len ≡ length_of (start_of block n) n) }
     ensures len_bound { (result.at + result.len ≤ n) × (result.len ≤ 512) }
 {

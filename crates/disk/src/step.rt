@@ -30,7 +30,7 @@ pub fn play(
     asked: Asked,
     p: Plan,
     t: Standing,
-    words: &mut [u64; 448],
+    words: &mut [u64; 512],
     tail: &mut [u8; 512],
     medium: &mut [u8],
     cache: &mut [u8],
@@ -38,7 +38,7 @@ pub fn play(
     out: &mut [u8],
     n: usize,
 ) -> Played
-    requires medium_len { length medium.old ≡ 50688 }
+    requires medium_len { length medium.old ≡ 58880 }
     requires cache_len { length cache.old ≡ 32768 }
     requires buffer_len { length buffer.old ≡ 40000 }
     requires n_in_bounds { n + 94000 ≤ length out.old }
@@ -47,7 +47,7 @@ pub fn play(
     ensures n_bound { result.n ≤ n + 94000 }
     ensures out_after { take result.n out.new ≡ take n out.old ++ (turn_of asked (room_of t medium.old cache.old (state_of words.old tail.old))).text }
     ensures tail_after { room_of result.standing medium.new cache.new (state_of words.new tail.new) ≡ (turn_of asked (room_of t medium.old cache.old (state_of words.old tail.old))).room }
-    ensures len_bound { result.at + result.len ≤ 50688 }
+    ensures len_bound { result.at + result.len ≤ 58880 }
     ensures whole { is_format asked.call ≡ false → Whole (medium_in (room_of t medium.old cache.old (state_of words.old tail.old))) result.at result.len }
     ensures changed_value { is_format asked.call ≡ false → result.changed ≡ not (eq_list (medium_in (room_of t medium.old cache.old (state_of words.old tail.old))) (medium_in (room_of result.standing medium.new cache.new (state_of words.new tail.new)))) }
     ensures len_after { is_format asked.call ≡ false → stored result.changed (medium_in (room_of t medium.old cache.old (state_of words.old tail.old))) result.at (part medium.new result.at result.len) ≡ medium_in (room_of result.standing medium.new cache.new (state_of words.new tail.new)) }

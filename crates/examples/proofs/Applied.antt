@@ -5,7 +5,7 @@ use mathlib.Core.Bool.{Bool, true}
 use mathlib.Core.List.{[], ◌∷◌, ◌++◌}
 use Rattle.store.specs.State.{in_range}
 use Rattle.runs.specs.Event.{Observation}
-use Rattle.runs.specs.Book.{Book, Fits, fall, last_time, versions, time_of, sight, sights}
+use Rattle.runs.specs.Book.{Book, Fits, fall, last_time, versions, time_of, user_of, sight, sights}
 use Rattle.runs.specs.Moments.{Run, book_at, seen_at}
 use Rattle.agreement.proofs.Main.{demand3}
 use Rattle.examples.specs.Compute.{Computed, computed}
@@ -20,25 +20,25 @@ record Ready : Type 0 where
 abbrev ready : Computed → Ready
 ready x = record { run = x.run; book = x.book }
 
-passed : ready (computed 5 3 closed_up.before closed_up.last) ≡ record { run = true; book = closed_up.book }
+passed : ready (computed 5 3 0 closed_up.before closed_up.last) ≡ record { run = true; book = closed_up.book }
 unfolding computed
 passed = refl
 
-run : Run 5 3 (closed_up.before ++ (closed_up.last ∷ []))
+run : Run 5 3 0 (closed_up.before ++ (closed_up.last ∷ []))
 unfolding in_range
 run = record {
   range = refl;
-  run = ap (λ (x : Computed). x.run) (sym (computed_is 5 3 closed_up.before closed_up.last)) ∙ ap (λ (x : Ready). x.run) passed;
+  run = ap (λ (x : Computed). x.run) (sym (computed_is 5 3 0 closed_up.before closed_up.last)) ∙ ap (λ (x : Ready). x.run) passed;
 }
 
-book : book_at 5 3 closed_up.before ≡ closed_up.book
-book = ap (λ (x : Computed). x.book) (sym (computed_is 5 3 closed_up.before closed_up.last)) ∙ ap (λ (x : Ready). x.book) passed
+book : book_at 5 3 0 closed_up.before ≡ closed_up.book
+book = ap (λ (x : Computed). x.book) (sym (computed_is 5 3 0 closed_up.before closed_up.last)) ∙ ap (λ (x : Ready). x.book) passed
 
 abbrev seen : Observation
-seen = seen_at 5 3 closed_up.before closed_up.last
+seen = seen_at 5 3 0 closed_up.before closed_up.last
 
 agrees : Fits 3 closed_up.book closed_up.last seen
-agrees = rw book at (last_fits demand3 5 3 closed_up.before closed_up.last run)
+agrees = rw book at (last_fits demand3 5 3 0 closed_up.before closed_up.last run)
 
 pub accepted : seen.refusal ≡ 0
 accepted = agrees.accepted refl
@@ -48,5 +48,5 @@ unfolding fall last_time
 answer = agrees.last accepted
 
 pub found : seen.found ≡ closed_up.right.found
-unfolding fall versions time_of sight sights
+unfolding fall versions time_of user_of sight sights
 found = agrees.finds accepted

@@ -21,13 +21,13 @@ record Given : Type 0 where
 abbrev given : Ran → Given
 given r = record { run = r.run; seen = r.seen }
 
-passed : given (ran 2 1 events) ≡ record { run = true; seen = answered }
+passed : given (ran 2 1 0 events) ≡ record { run = true; seen = answered }
 unfolding ran
 passed = refl
 
-held : ◌≡◌ {A = Given} (record { run = is_run 2 1 (formatted 2 1) events; seen = trace 2 1 (formatted 2 1) events })
+held : ◌≡◌ {A = Given} (record { run = is_run 2 1 0 (formatted 2 1 0) events; seen = trace 2 1 0 (formatted 2 1 0) events })
     (record { run = true; seen = answered })
-held = sym (ap given (ran_is 2 1 events)) ∙ passed
+held = sym (ap given (ran_is 2 1 0 events)) ∙ passed
 
 pub occurs : Occurs
 unfolding all_accepted in_range world_after
@@ -37,6 +37,6 @@ occurs = record {
   accepted = refl;
 }
 
-pub agrees : Agrees 2 1 (formatted 2 1) blank events
+pub agrees : Agrees 2 1 0 (formatted 2 1 0) (blank 0) events
 unfolding Demand3
-agrees = demand3 2 1 occurs.run.range events occurs.run.run
+agrees = demand3 2 1 0 occurs.run.range events occurs.run.run

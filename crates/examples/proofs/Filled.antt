@@ -9,37 +9,37 @@ use Rattle.runs.specs.Event.{Call, Event, call, typed}
 use Rattle.runs.specs.Book.{blank}
 use Rattle.runs.specs.Machine.{step, allowed, is_run, formatted}
 use Rattle.runs.specs.Moments.{world_after}
-use Rattle.runs.specs.Relief.{relief, asking, tail_in, OutOfFull}
+use Rattle.runs.specs.Relief.{relief, asking, asks, tail_in, OutOfFull}
 use Rattle.examples.specs.Compute.{Ran, ran_from}
 use Rattle.examples.specs.FullLog.{Filled, left_by, Shows, Told, Passed, passed, told}
 use Rattle.examples.proofs.Passes.{ran_from_law, ran_is, run_behind, world_behind}
 
 -- the pass gives what the definitions of runs say
-passed_is : (l d : ℕ) (es : List Event) (k : Call) (calls : List Event)
-    → passed l d es k calls ≡ record {
-      run = is_run l d (formatted l d) (es ++ (call k ∷ []));
-      full = (step l d (world_after l d (formatted l d) es) (call k)).seen.refusal;
-      tail = tail_in (world_after l d (formatted l d) (es ++ (call k ∷ [])));
-      list = relief l d (world_after l d (formatted l d) (es ++ (call k ∷ [])));
-      then = (step l d (world_after l d (world_after l d (formatted l d) (es ++ (call k ∷ []))) calls) (call k)).seen.refusal;
+passed_is : (l d a : ℕ) (es : List Event) (k : Call) (calls : List Event)
+    → passed l d a es k calls ≡ record {
+      run = is_run l d a (formatted l d a) (es ++ (call k ∷ []));
+      full = (step l d a (world_after l d a (formatted l d a) es) (call k)).seen.refusal;
+      tail = tail_in (world_after l d a (formatted l d a) (es ++ (call k ∷ [])));
+      list = relief l d a (world_after l d a (formatted l d a) (es ++ (call k ∷ [])));
+      then = (step l d a (world_after l d a (world_after l d a (formatted l d a) (es ++ (call k ∷ []))) calls) (call k)).seen.refusal;
     }
 unfolding passed
-passed_is l d es k calls =
+passed_is l d a es k calls =
     ap (λ (r : Ran). record {
-      run = r.run && (typed (call k) && allowed l d r.world (call k));
-      full = (step l d r.world (call k)).seen.refusal;
-      tail = tail_in (step l d r.world (call k)).world;
-      list = relief l d (step l d r.world (call k)).world;
-      then = (step l d (ran_from l d (step l d r.world (call k)).world blank calls).world (call k)).seen.refusal;
-    }) (ran_is l d es)
-    ∙ rw (sym (run_behind l d (formatted l d) es (call k)), sym (world_behind l d (formatted l d) es (call k)), ran_from_law l d (world_after l d (formatted l d) (es ++ (call k ∷ []))) blank calls)
+      run = r.run && (typed (call k) && allowed l d a r.world (call k));
+      full = (step l d a r.world (call k)).seen.refusal;
+      tail = tail_in (step l d a r.world (call k)).world;
+      list = relief l d a (step l d a r.world (call k)).world;
+      then = (step l d a (ran_from l d a (step l d a r.world (call k)).world (blank a) calls).world (call k)).seen.refusal;
+    }) (ran_is l d a es)
+    ∙ rw (sym (run_behind l d a (formatted l d a) es (call k)), sym (world_behind l d a (formatted l d a) es (call k)), ran_from_law l d a (world_after l d a (formatted l d a) (es ++ (call k ∷ []))) (blank a) calls)
 
 -- a computed run
-pub shows : (c : Filled) (tail again : ℕ) → in_range c.blocks c.pages ≡ true → tail < 2 ^ 48 - 1
-    → passed c.blocks c.pages c.before c.refused c.calls ≡ record { run = true; full = 8; tail = tail; list = c.calls; then = again }
+pub shows : (c : Filled) (tail again : ℕ) → in_range c.blocks c.pages c.area ≡ true → tail < 2 ^ 48 - 1
+    → passed c.blocks c.pages c.area c.before c.refused c.calls ≡ record { run = true; full = 8; tail = tail; list = c.calls; then = again }
     → Shows c again
 shows c tail again h t e =
-    let q = sym (passed_is c.blocks c.pages c.before c.refused c.calls) ∙ e in
+    let q = sym (passed_is c.blocks c.pages c.area c.before c.refused c.calls) ∙ e in
     record {
       run = record { range = h; run = ap (λ (x : Passed). x.run) q };
       full = ap (λ (x : Passed). x.full) q;
@@ -48,15 +48,15 @@ shows c tail again h t e =
       then = ap (λ (x : Passed). x.then) q;
     }
 
-pub tells : (c : Filled) (es : List Event) → told c.blocks c.pages (c.before ++ (call c.refused ∷ [])) ≡ es → Told c es
+pub tells : (c : Filled) (es : List Event) → told c.blocks c.pages c.area (c.before ++ (call c.refused ∷ [])) ≡ es → Told c es
 unfolding told
-tells c es e = sym (ap (λ (r : Ran). asking c.blocks c.pages (1 + c.pages + 5) r.world) (ran_is c.blocks c.pages (c.before ++ (call c.refused ∷ [])))) ∙ e
+tells c es e = sym (ap (λ (r : Ran). asking c.blocks c.pages c.area (1 + c.pages + asks c.area) r.world) (ran_is c.blocks c.pages c.area (c.before ++ (call c.refused ∷ [])))) ∙ e
 
--- definitions that refuse the call 8 again do not meet the claim
-pub refuted : (c : Filled) → Shows c 8 → OutOfFull → ⊥
+-- definitions that refuse the call 8 again, on a medium without user lines, do not meet the claim
+pub refuted : (c : Filled) → c.area ≡ 0 → Shows c 8 → OutOfFull → ⊥
 unfolding OutOfFull
-refuted c s o =
-    let f = o c.blocks c.pages c.before c.refused (left_by c) (record { run = s.run; full = s.full; leaves = refl; below = s.below }) in
-    let z : (step c.blocks c.pages (world_after c.blocks c.pages (left_by c) c.calls) (call c.refused)).seen.refusal ≡ 0 =
-    subst (λ (es : List Event). (step c.blocks c.pages (world_after c.blocks c.pages (left_by c) es) (call c.refused)).seen.refusal ≡ 0) s.list f.again in
+refuted c z s o =
+    let f = o c.blocks c.pages c.area c.before c.refused (left_by c) (record { run = s.run; full = s.full; leaves = refl; below = s.below }) (λ p. absurd (omega (arith, z))) in
+    let e : (step c.blocks c.pages c.area (world_after c.blocks c.pages c.area (left_by c) c.calls) (call c.refused)).seen.refusal ≡ 0 =
+    subst (λ (es : List Event). (step c.blocks c.pages c.area (world_after c.blocks c.pages c.area (left_by c) es) (call c.refused)).seen.refusal ≡ 0) s.list f.again in
     omega (arith, s.then)

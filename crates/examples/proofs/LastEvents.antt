@@ -13,23 +13,23 @@ use Rattle.examples.specs.Compute.{Computed, computed}
 use Rattle.examples.specs.Spoiling.{Case, Judged, Shows, Caught}
 use Rattle.examples.proofs.Passes.{computed_is}
 
-last_agrees : (l d : ℕ) (w : World) (b : Book) (es : List Event) (e : Event) → Agrees l d w b (es ++ (e ∷ []))
-    → Fits d (book_after l d w b es) e (step l d (world_after l d w es) e).seen
+last_agrees : (l d a : ℕ) (w : World) (b : Book) (es : List Event) (e : Event) → Agrees l d a w b (es ++ (e ∷ []))
+    → Fits d (book_after l d a w b es) e (step l d a (world_after l d a w es) e).seen
 unfolding world_after book_after
-last_agrees l d w b [] e a = a.0
-last_agrees l d w b (x ∷ es) e a =
-    last_agrees l d (step l d w x).world (feed b x (step l d w x).seen) es e a.1
+last_agrees l d a w b [] e f = f.0
+last_agrees l d a w b (x ∷ es) e f =
+    last_agrees l d a (step l d a w x).world (feed b x (step l d a w x).seen) es e f.1
 
-pub last_fits : Demand3 → (l d : ℕ) (es : List Event) (e : Event) → Run l d (es ++ (e ∷ [])) → Fits d (book_at l d es) e (seen_at l d es e)
+pub last_fits : Demand3 → (l d a : ℕ) (es : List Event) (e : Event) → Run l d a (es ++ (e ∷ [])) → Fits d (book_at l d a es) e (seen_at l d a es e)
 unfolding Demand3
-last_fits t l d es e r = last_agrees l d (formatted l d) blank es e (t l d r.range (es ++ (e ∷ [])) r.run)
+last_fits t l d a es e r = last_agrees l d a (formatted l d a) (blank a) es e (t l d a r.range (es ++ (e ∷ [])) r.run)
 
 -- a computed case
-pub shows : (c : Case) (o : Observation) → in_range c.blocks c.pages ≡ true
-    → computed c.blocks c.pages c.before c.last ≡ record { run = true; book = c.book; seen = o }
+pub shows : (c : Case) (o : Observation) → in_range c.blocks c.pages c.area ≡ true
+    → computed c.blocks c.pages c.area c.before c.last ≡ record { run = true; book = c.book; seen = o }
     → Shows c o
 shows c o h e =
-    let k = sym (computed_is c.blocks c.pages c.before c.last) ∙ e in
+    let k = sym (computed_is c.blocks c.pages c.area c.before c.last) ∙ e in
     record {
       run = record { range = h; run = ap (λ (x : Computed). x.run) k };
       book = ap (λ (x : Computed). x.book) k;
@@ -39,7 +39,7 @@ shows c o h e =
 -- definitions that give what the book does not take do not meet demand 3
 pub refuted : (c : Case) → Judged c → Shows c c.wrong → Demand3 → ⊥
 refuted c j s t =
-    let f = last_fits t c.blocks c.pages c.before c.last s.run in
+    let f = last_fits t c.blocks c.pages c.area c.before c.last s.run in
     j.catches (rw (s.book, s.seen) at f)
 
 -- a case that shows what the book takes does not show the other

@@ -14,3 +14,4 @@ pub mod Handovers
 pub mod Refusing
 pub mod OldBoard
 pub mod OldMedium
+pub mod Users

@@ -9,40 +9,40 @@ use Rattle.runs.specs.Machine.{World, step, allowed, is_run, trace, formatted}
 use Rattle.runs.specs.Moments.{world_after, book_after, book_at, seen_at}
 use Rattle.examples.specs.Compute.{Ran, ran_from, ran, computed}
 
-abbrev said : ℕ → ℕ → World → Book → List Event → Ran
-said l d w b es =
-    record { world = world_after l d w es; book = book_after l d w b es; seen = trace l d w es; run = is_run l d w es }
+abbrev said : ℕ → ℕ → ℕ → World → Book → List Event → Ran
+said l d a w b es =
+    record { world = world_after l d a w es; book = book_after l d a w b es; seen = trace l d a w es; run = is_run l d a w es }
 
-pub ran_from_law : (l d : ℕ) (w : World) (b : Book) (es : List Event) → ran_from l d w b es ≡ said l d w b es
+pub ran_from_law : (l d a : ℕ) (w : World) (b : Book) (es : List Event) → ran_from l d a w b es ≡ said l d a w b es
 unfolding ran_from world_after book_after trace is_run
-ran_from_law l d w b [] = refl
-ran_from_law l d w b (e ∷ es) =
-    let x = step l d w e in
-    ap (λ (r : Ran). record { world = r.world; book = r.book; seen = x.seen ∷ r.seen; run = typed e && (allowed l d w e && r.run) })
-    (ran_from_law l d x.world (feed b e x.seen) es)
+ran_from_law l d a w b [] = refl
+ran_from_law l d a w b (e ∷ es) =
+    let x = step l d a w e in
+    ap (λ (r : Ran). record { world = r.world; book = r.book; seen = x.seen ∷ r.seen; run = typed e && (allowed l d a w e && r.run) })
+    (ran_from_law l d a x.world (feed b e x.seen) es)
 
-pub ran_is : (l d : ℕ) (es : List Event) → ran l d es ≡ said l d (formatted l d) blank es
+pub ran_is : (l d a : ℕ) (es : List Event) → ran l d a es ≡ said l d a (formatted l d a) (blank a) es
 unfolding ran
-ran_is l d es = ran_from_law l d (formatted l d) blank es
+ran_is l d a es = ran_from_law l d a (formatted l d a) (blank a) es
 
 -- ---- one event behind others
 
-pub run_behind : (l d : ℕ) (w : World) (es : List Event) (e : Event)
-    → is_run l d w (es ++ (e ∷ [])) ≡ (is_run l d w es && (typed e && allowed l d (world_after l d w es) e))
+pub run_behind : (l d a : ℕ) (w : World) (es : List Event) (e : Event)
+    → is_run l d a w (es ++ (e ∷ [])) ≡ (is_run l d a w es && (typed e && allowed l d a (world_after l d a w es) e))
 unfolding is_run world_after
-run_behind l d w [] e = ap (λ (a : Bool). typed e && a) (and-true (allowed l d w e))
-run_behind l d w (x ∷ es) e =
-    ap (λ (a : Bool). typed x && (allowed l d w x && a)) (run_behind l d (step l d w x).world es e)
+run_behind l d a w [] e = ap (λ (y : Bool). typed e && y) (and-true (allowed l d a w e))
+run_behind l d a w (x ∷ es) e =
+    ap (λ (y : Bool). typed x && (allowed l d a w x && y)) (run_behind l d a (step l d a w x).world es e)
     ∙ sym (simp (and_assoc, and_assoc))
 
-pub world_behind : (l d : ℕ) (w : World) (es : List Event) (e : Event) → world_after l d w (es ++ (e ∷ [])) ≡ (step l d (world_after l d w es) e).world
+pub world_behind : (l d a : ℕ) (w : World) (es : List Event) (e : Event) → world_after l d a w (es ++ (e ∷ [])) ≡ (step l d a (world_after l d a w es) e).world
 unfolding world_after
-world_behind l d w [] e = refl
-world_behind l d w (x ∷ es) e = world_behind l d (step l d w x).world es e
+world_behind l d a w [] e = refl
+world_behind l d a w (x ∷ es) e = world_behind l d a (step l d a w x).world es e
 
-pub computed_is : (l d : ℕ) (es : List Event) (e : Event)
-    → computed l d es e ≡ record { run = is_run l d (formatted l d) (es ++ (e ∷ [])); book = book_at l d es; seen = seen_at l d es e }
+pub computed_is : (l d a : ℕ) (es : List Event) (e : Event)
+    → computed l d a es e ≡ record { run = is_run l d a (formatted l d a) (es ++ (e ∷ [])); book = book_at l d a es; seen = seen_at l d a es e }
 unfolding computed
-computed_is l d es e =
-    ap (λ (r : Ran). record { run = r.run && (typed e && allowed l d r.world e); book = r.book; seen = (step l d r.world e).seen }) (ran_is l d es)
-    ∙ ap (λ (a : Bool). record { run = a; book = book_at l d es; seen = seen_at l d es e }) (sym (run_behind l d (formatted l d) es e))
+computed_is l d a es e =
+    ap (λ (r : Ran). record { run = r.run && (typed e && allowed l d a r.world e); book = r.book; seen = (step l d a r.world e).seen }) (ran_is l d a es)
+    ∙ ap (λ (y : Bool). record { run = y; book = book_at l d a es; seen = seen_at l d a es e }) (sym (run_behind l d a (formatted l d a) es e))

@@ -22,15 +22,15 @@ abbrev pub given : Computed → Given
 given x = record { run = x.run; seen = x.seen }
 
 -- a computed run
-pub shows : (c : Repeat) (o : Both) → in_range c.blocks c.pages ≡ true
-    → (computed c.blocks c.pages c.before (read c)).seen ≡ o.first
-    → given (computed c.blocks c.pages (c.before ++ (read c ∷ c.between)) (read c)) ≡ record { run = true; seen = o.later }
+pub shows : (c : Repeat) (o : Both) → in_range c.blocks c.pages c.area ≡ true
+    → (computed c.blocks c.pages c.area c.before (read c)).seen ≡ o.first
+    → given (computed c.blocks c.pages c.area (c.before ++ (read c ∷ c.between)) (read c)) ≡ record { run = true; seen = o.later }
     → Shows c o
 shows c o h e f =
-    let k = sym (ap given (computed_is c.blocks c.pages (c.before ++ (read c ∷ c.between)) (read c))) ∙ f in
+    let k = sym (ap given (computed_is c.blocks c.pages c.area (c.before ++ (read c ∷ c.between)) (read c))) ∙ f in
     record {
       run = record { range = h; run = ap (λ (x : Given). x.run) k };
-      first = sym (ap (λ (x : Computed). x.seen) (computed_is c.blocks c.pages c.before (read c))) ∙ e;
+      first = sym (ap (λ (x : Computed). x.seen) (computed_is c.blocks c.pages c.area c.before (read c))) ∙ e;
       later = ap (λ (x : Given). x.seen) k;
     }
 
@@ -38,8 +38,8 @@ shows c o h e f =
 pub refuted : (c : Repeat) → Unlike c.wrong → Shows c c.wrong → StableReads → ⊥
 unfolding StableReads
 refuted c u s t =
-    let a : Accepted c.blocks c.pages c.before (read c) = ap (λ (o : Observation). o.refusal) s.first ∙ u.answered in
-    let same = (t c.blocks c.pages c.before c.between c.key c.time (record { run = s.run; first = a })).strip in
+    let a : Accepted c.blocks c.pages c.area c.before (read c) = ap (λ (o : Observation). o.refusal) s.first ∙ u.answered in
+    let same = (t c.blocks c.pages c.area c.before c.between c.key c.time (record { run = s.run; first = a })).strip in
     u.other (sym (ap (λ (o : Observation). o.strip) s.later) ∙ same ∙ ap (λ (o : Observation). o.strip) s.first)
 
 -- ---- the strips differ

@@ -3,8 +3,8 @@ use mathlib.Core.Path.{refl}
 use mathlib.Core.List.{List, [], ◌∷◌}
 use Rattle.store.specs.State.{in_range}
 use Rattle.examples.specs.Compute.{computed}
-use Rattle.examples.specs.Spoiling.{Case, Caught, cases, stamped_early, closed_up, dropped_early, numbers_again, nothing_logged, logged_short}
-use Rattle.examples.proofs.Judged.{stamped_early_judged, closed_up_judged, dropped_early_judged, numbers_again_judged, nothing_logged_judged, logged_short_judged}
+use Rattle.examples.specs.Spoiling.{Case, Caught, cases, stamped_early, closed_up, dropped_early, numbers_again, nothing_logged, logged_short, lines_last, user_lost}
+use Rattle.examples.proofs.Judged.{stamped_early_judged, closed_up_judged, dropped_early_judged, numbers_again_judged, nothing_logged_judged, logged_short_judged, lines_last_judged, user_lost_judged}
 use Rattle.examples.proofs.LastEvents.{shows, caught}
 
 abbrev Each : List Case → Type 0
@@ -35,6 +35,14 @@ logged_short_caught : Caught logged_short
 unfolding computed in_range
 logged_short_caught = caught logged_short logged_short_judged (shows logged_short logged_short.right refl refl)
 
+lines_last_caught : Caught lines_last
+unfolding computed in_range
+lines_last_caught = caught lines_last lines_last_judged (shows lines_last lines_last.right refl refl)
+
+user_lost_caught : Caught user_lost
+unfolding computed in_range
+user_lost_caught = caught user_lost user_lost_judged (shows user_lost user_lost.right refl refl)
+
 pub spoiling : Each cases
 spoiling = (
   stamped_early_caught,
@@ -44,7 +52,7 @@ spoiling = (
       dropped_early_caught,
       (
         numbers_again_caught,
-        (nothing_logged_caught, (logged_short_caught, tt)),
+        (nothing_logged_caught, (logged_short_caught, (lines_last_caught, (user_lost_caught, tt)))),
       ),
     ),
   ),

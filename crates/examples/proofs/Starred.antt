@@ -4,17 +4,17 @@ use mathlib.Core.Path.{◌≡◌, refl, sym, ap, ◌∙◌}
 use mathlib.Core.List.{List, [], ◌∷◌, map}
 use Rattle.runs.specs.Event.{Event}
 use Rattle.examples.specs.Compute.{Ran, ran}
-use Rattle.examples.specs.Table.{Outcome, shown, tail_of, outcome_of, Row, Right, table, fresh, clocks, last_time, twice, slots_used, fourteen, commit_fits, two_bytes, no_record, log_full, erased_first, given_again, listing}
+use Rattle.examples.specs.Table.{Outcome, shown, tail_of, outcome_of, Row, Right, table, fresh, clocks, last_time, twice, slots_used, fourteen, commit_fits, two_bytes, no_record, signed_fits, area_full, log_full, erased_first, given_again, listing}
 use Rattle.examples.proofs.Passes.{ran_is}
 
 -- the outcome by one pass
-unfoldable pub passed : ℕ → ℕ → List Event → Outcome
+unfoldable pub passed : ℕ → ℕ → ℕ → List Event → Outcome
 unfolding ran tail_of
-passed l d es = let r = ran l d es in record { answers = map shown r.seen; tail = tail_of r.world }
+passed l d a es = let r = ran l d a es in record { answers = map shown r.seen; tail = tail_of r.world }
 
-pub by_pass : (r : Row) → passed r.blocks r.pages r.script ≡ record { answers = r.answers; tail = r.tail } → Right r
+pub by_pass : (r : Row) → passed r.blocks r.pages r.area r.script ≡ record { answers = r.answers; tail = r.tail } → Right r
 unfolding Right passed outcome_of
-by_pass r e = sym (ap (λ (x : Ran). record { answers = map shown x.seen; tail = tail_of x.world }) (ran_is r.blocks r.pages r.script)) ∙ e
+by_pass r e = sym (ap (λ (x : Ran). record { answers = map shown x.seen; tail = tail_of x.world }) (ran_is r.blocks r.pages r.area r.script)) ∙ e
 
 abbrev Each : List Row → Type 0
 Each [] = Unit {0}
@@ -68,6 +68,14 @@ no_record_right : Right no_record
 unfolding passed
 no_record_right = by_pass no_record refl
 
+signed_fits_right : Right signed_fits
+unfolding passed
+signed_fits_right = by_pass signed_fits refl
+
+area_full_right : Right area_full
+unfolding passed
+area_full_right = by_pass area_full refl
+
 listing_right : Right listing
 unfolding passed
 listing_right = by_pass listing refl
@@ -98,8 +106,14 @@ examples = (
                       (
                         no_record_right,
                         (
-                          listing_right,
-                          tt,
+                          signed_fits_right,
+                          (
+                            area_full_right,
+                            (
+                              listing_right,
+                              tt,
+                            ),
+                          ),
                         ),
                       ),
                     ),

@@ -22,7 +22,7 @@ field n = n ∷ replicate 7 0
 abbrev changed : List ℕ
 changed = (field 10 ++ (field 0 ++ bytes 65)) ++ ((field 11 ++ (field 1 ++ bytes 0)) ++ (255 ∷ []))
 
--- two log blocks and one page
+-- two log blocks, one page and no user lines, so that no user is recorded
 abbrev pub lines : List Line
 lines =
     line (opened 1) (finds 0 [])
@@ -30,14 +30,14 @@ lines =
     ∷ line (call (current_read 1 7)) (reads missing)
     ∷ line (call (write 1 7 (bytes 65))) (answers 0)
     ∷ line (call (current_read 1 7)) (reads (present (bytes 65)))
-    ∷ line (call (commit 1 5)) (answers 10)
+    ∷ line (call (commit 1 5 9)) (answers 10)
     ∷ line (call (begin 3)) (answers 2)
     ∷ line (call (erase 2 7)) (answers 1)
     ∷ line (call (current_read 2 7)) (reads erased)
-    ∷ line (call (commit 2 3)) (answers 11)
+    ∷ line (call (commit 2 3 8)) (answers 11)
     -- a transaction without versions
     ∷ line (call (begin 3)) (answers 3)
-    ∷ line (call (commit 3 3)) (answers 0)
+    ∷ line (call (commit 3 3 9)) (answers 0)
     -- the times given can be read once they are stored
     ∷ line (call store_log) (stores 0)
     ∷ line (call (as_of 7 9)) (reads missing)
@@ -54,7 +54,7 @@ lines =
     ∷ line (call store_log) (stores 0)
     ∷ line cut (answers 0)
     -- a value and an erasure with their times, and a version that has none
-    ∷ line (opened 1) (finds 11 (at 10 7 65 ∷ record { key = 7; kind = 1; value = bytes 0; time = some 11 } ∷ waits 8 66 ∷ []))
+    ∷ line (opened 1) (finds 11 (at 10 7 65 ∷ record { key = 7; kind = 1; value = bytes 0; time = some 11; user = 0 } ∷ waits 8 66 ∷ []))
     ∷ []
 
 abbrev pub events : List Event
@@ -70,6 +70,6 @@ all_accepted (o ∷ os) = eqb o.refusal 0 && all_accepted os
 
 -- the events are a run, in which this is seen, with no refusal
 pub record Occurs : Type 0 where
-  pub run : Run 2 1 events
-  pub seen : trace_at 2 1 [] events ≡ answered
+  pub run : Run 2 1 0 events
+  pub seen : trace_at 2 1 0 [] events ≡ answered
   pub accepted : all_accepted answered ≡ true

@@ -1,6 +1,7 @@
 -- Handovers computed by the definition, one after the other: each answer, and what is left when they are done.
 use Rattle.std.specs.Prelude.{ℕ, ◌≡◌, List, [], ◌∷◌, replicate}
-use Rattle.runs.specs.Event.{Event, call, begin, write, commit, as_of, store_log, Strip, missing, present}
+use Rattle.std.proofs.Math.Option.{some}
+use Rattle.runs.specs.Event.{Event, cut, call, begin, write, commit, as_of, store_log, Strip, missing, present, Sight}
 use Rattle.runs.specs.Machine.{World, down, up, step, formatted}
 use Rattle.runs.specs.Moments.{world_after}
 use Rattle.handover.specs.declared.Transfer.{Transfer}
@@ -23,7 +24,7 @@ pub record Seen : Type 0 where
 
 -- the strip of flight 7 as of a time, with the log stored
 strip7 : World → ℕ → Strip
-strip7 w t = (look 2 1 (step 2 1 w (call store_log)).world (as_of 7 t)).strip
+strip7 w t = (look 2 1 0 (step 2 1 0 w (call store_log)).world (as_of 7 t)).strip
 
 hands : World → List Transfer → List Said → Seen
 hands (down m) hs said = record { said = said; before = missing; handed = missing; last = missing }
@@ -35,7 +36,7 @@ hands (up m c s) (h ∷ hs) said =
 
 unfoldable pub hands_after : List Event → List Transfer → Seen
 unfolding ran_from world_after look strip7 hands hand_number hand_value may_hand after_commit after_write after_check after_read after_begin hand_of
-hands_after es hs = hands (world_after 2 1 (formatted 2 1) es) hs []
+hands_after es hs = hands (world_after 2 1 0 (formatted 2 1 0) es) hs []
 
 -- a strip with this owner
 abbrev pub strip : ℕ → List ℕ
@@ -47,13 +48,25 @@ script =
     opened 1
     ∷ call (begin 10)
     ∷ call (write 1 7 (strip 3))
-    ∷ call (commit 1 5)
+    ∷ call (commit 1 5 0)
     ∷ call (begin 0)
     ∷ call (write 2 9 (strip 3))
     ∷ []
 
 abbrev pub hand : ℕ → ℕ → ℕ → Transfer
-hand f a b = record { flight = f; from = a; to = b; began = 0; ended = 0 }
+hand f a b = record { flight = f; from = a; to = b; began = 0; ended = 0; user = 0 }
+
+-- with one block of user lines: what an opening finds after a handover, once the log is stored and the power has failed
+found : World → Transfer → List Sight
+found (down m) h = []
+found (up m c s) h =
+    let o = hand_of s m c h in
+    let w = (step 2 1 1 (up o.medium o.cache o.state) (call store_log)).world in
+    (step 2 1 1 (step 2 1 1 w cut).world (opened 1)).seen.found
+
+unfoldable pub found_after : List Event → Transfer → List Sight
+unfolding ran_from world_after found hand_number hand_value may_hand after_commit after_write after_check after_read after_begin hand_of
+found_after es h = found (world_after 2 1 1 (formatted 2 1 1) es) h
 
 abbrev says : ℕ → ℕ → Said
 says n t = record { number = n; time = t }
@@ -70,3 +83,14 @@ Example =
       handed = present (strip 5);
       last = present (strip 5);
     }
+
+-- 02, #105: "a user number of four bytes, which the handover takes from its caller": user 8 commits flight 7 with owner 3, and user 9
+-- hands it to 5
+unfoldable pub Signed : Type 0
+Signed =
+    found_after
+    (opened 1 ∷ call (begin 10) ∷ call (write 1 7 (strip 3)) ∷ call (commit 1 5 8) ∷ [])
+    (record { flight = 7; from = 3; to = 5; began = 0; ended = 0; user = 9 })
+    ≡ record { key = 7; kind = 0; value = strip 3; time = some 10; user = 8 }
+    ∷ record { key = 7; kind = 0; value = strip 5; time = some 11; user = 9 }
+    ∷ []

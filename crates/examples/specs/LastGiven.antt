@@ -30,7 +30,7 @@ given_called m c s (begin k) = called m c s (begin k)
 given_called m c s (write n key v) = called m c s (write n key v)
 given_called m c s (erase n key) = called m c s (erase n key)
 given_called m c s (current_read n key) = called m c s (current_read n key)
-given_called m c s (commit n k) = called m c s (commit n k)
+given_called m c s (commit n k u) = called m c s (commit n k u)
 given_called m c s (abort n) = called m c s (abort n)
 given_called m c s (changes key t1 t2 b) = called m c s (changes key t1 t2 b)
 given_called m c s store_log = called m c s store_log
@@ -42,12 +42,12 @@ pub record Given : Type 0 where
   pub answers : List Shown
   pub run : Bool
 
-module _ (l d : ℕ) where
+module _ (l d a : ℕ) where
   -- the room, with these calls
   unfoldable pub given_step : World → Event → Step
-  given_step (down m) e = step l d (down m) e
-  given_step (up m c s) (opening y) = step l d (up m c s) (opening y)
-  given_step (up m c s) cut = step l d (up m c s) cut
+  given_step (down m) e = step l d a (down m) e
+  given_step (up m c s) (opening y) = step l d a (up m c s) (opening y)
+  given_step (up m c s) cut = step l d a (up m c s) cut
   given_step (up m c s) (call k) = record { world = after (given_called m c s k); seen = seen_of l m (given_called m c s k) [] }
 
   -- events in this room
@@ -56,17 +56,17 @@ module _ (l d : ℕ) where
   given_ran w (e ∷ es) =
       let x = given_step w e in
       let r = given_ran x.world es in
-      record { answers = shown x.seen ∷ r.answers; run = typed e && (allowed l d w e && r.run) }
+      record { answers = shown x.seen ∷ r.answers; run = typed e && (allowed l d a w e && r.run) }
 
 -- ---- a run that answers a read twice
 
 -- a strip is committed at 10
 abbrev pub printed : List Event
-printed = opened 1 ∷ call (begin 10) ∷ call (write 1 7 (bytes 65)) ∷ call (commit 1 10) ∷ []
+printed = opened 1 ∷ call (begin 10) ∷ call (write 1 7 (bytes 65)) ∷ call (commit 1 10 0) ∷ []
 
 -- the power fails before the log is stored; then another strip is committed at 10, for no stored commit has that time
 abbrev pub lost : List Event
-lost = cut ∷ opened 1 ∷ call (begin 10) ∷ call (write 1 7 (bytes 66)) ∷ call (commit 1 10) ∷ []
+lost = cut ∷ opened 1 ∷ call (begin 10) ∷ call (write 1 7 (bytes 66)) ∷ call (commit 1 10 0) ∷ []
 
 -- the strip is read as of 10 after both
 abbrev pub two_reads : List Event
@@ -74,7 +74,7 @@ two_reads = printed ++ (call (as_of 7 10) ∷ (lost ++ (call (as_of 7 10) ∷ []
 
 -- by 01's question that is a run, and both reads are answered, 65 first and then 66
 unfoldable pub Differ : Type 0
-Differ = given_ran 2 1 (formatted 2 1) two_reads ≡ record {
+Differ = given_ran 2 1 0 (formatted 2 1 0) two_reads ≡ record {
   answers = done 0 ∷ done 1 ∷ done 0 ∷ done 10 ∷ reads (present (bytes 65))
       ∷ done 0 ∷ done 0 ∷ done 1 ∷ done 0 ∷ done 10 ∷ reads (present (bytes 66)) ∷ [];
   run = true;
@@ -88,8 +88,9 @@ abbrev pub survives : Row
 survives = record {
   blocks = 2;
   pages = 1;
+  area = 0;
   script = printed ++ (call store_log ∷ call (as_of 7 10)
-      ∷ cut ∷ opened 1 ∷ call (begin 10) ∷ call (write 2 7 (bytes 66)) ∷ call (commit 2 10) ∷ call (as_of 7 10) ∷ []);
+      ∷ cut ∷ opened 1 ∷ call (begin 10) ∷ call (write 2 7 (bytes 66)) ∷ call (commit 2 10 0) ∷ call (as_of 7 10) ∷ []);
   answers = done 0 ∷ done 1 ∷ done 0 ∷ done 10 ∷ done 0 ∷ reads (present (bytes 65))
       ∷ done 0 ∷ done 10 ∷ done 2 ∷ done 1 ∷ done 11 ∷ reads (present (bytes 65)) ∷ [];
   tail = tail 1 116;

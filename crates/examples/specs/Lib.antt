@@ -9,3 +9,4 @@ pub mod FullLog
 pub mod Handovers
 pub mod OldBoard
 pub mod OldMedium
+pub mod Users

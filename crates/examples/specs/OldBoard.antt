@@ -16,6 +16,7 @@ use Rattle.examples.specs.Handovers.{strip, hand}
 pub record Refused : Type 0 where
   pub blocks : ℕ
   pub pages : ℕ
+  pub area : ℕ
   pub before : List Event
   pub asked : Transfer
   pub reader : ℕ
@@ -26,21 +27,21 @@ pub record Seen : Type 0 where
   pub was : Strip
   pub is : Strip
 
-unfoldable pub seen_by : ℕ → ℕ → World → Transfer → ℕ → Seen
-seen_by l d (down m) h n = record { number = 0; was = missing; is = missing }
-seen_by l d (up m c s) h n =
+unfoldable pub seen_by : ℕ → ℕ → ℕ → World → Transfer → ℕ → Seen
+seen_by l d a (down m) h n = record { number = 0; was = missing; is = missing }
+seen_by l d a (up m c s) h n =
     let o = hand_of s m c h in
     record {
       number = hand_number o.answer;
-      was = (look l d (up m c s) (current_read n h.flight)).strip;
-      is = (look l d (up o.medium o.cache o.state) (current_read n h.flight)).strip;
+      was = (look l d a (up m c s) (current_read n h.flight)).strip;
+      is = (look l d a (up o.medium o.cache o.state) (current_read n h.flight)).strip;
     }
 
 -- the events are a run, and this is seen of the handover
 pub record Shows (c : Refused) (x : Seen) : Type 0 where
-  pub run : Run c.blocks c.pages c.before
+  pub run : Run c.blocks c.pages c.area c.before
   pub typed : hand_typed c.asked ≡ true
-  pub seen : seen_by c.blocks c.pages (world_after c.blocks c.pages (formatted c.blocks c.pages) c.before) c.asked c.reader ≡ x
+  pub seen : seen_by c.blocks c.pages c.area (world_after c.blocks c.pages c.area (formatted c.blocks c.pages c.area) c.before) c.asked c.reader ≡ x
 
 -- ---- the run
 
@@ -49,7 +50,8 @@ abbrev pub wrong_sector : Refused
 wrong_sector = record {
   blocks = 2;
   pages = 1;
-  before = opened 1 ∷ call (begin 10) ∷ call (write 1 7 (strip 3)) ∷ call (commit 1 5) ∷ call (begin 0) ∷ [];
+  area = 0;
+  before = opened 1 ∷ call (begin 10) ∷ call (write 1 7 (strip 3)) ∷ call (commit 1 5 0) ∷ call (begin 0) ∷ [];
   asked = hand 7 4 5;
   reader = 2;
 }
@@ -71,5 +73,5 @@ pub record Passed : Type 0 where
 unfoldable pub passed : Refused → Passed
 unfolding ran_from ran look seen_by hand_number may_hand after_commit after_write after_check after_read after_begin hand_of
 passed c =
-    let r = ran c.blocks c.pages c.before in
-    record { run = r.run; seen = seen_by c.blocks c.pages r.world c.asked c.reader }
+    let r = ran c.blocks c.pages c.area c.before in
+    record { run = r.run; seen = seen_by c.blocks c.pages c.area r.world c.asked c.reader }

@@ -19,12 +19,12 @@ pub record Over : Type 0 where
 unfoldable pub over_from : List Event → List Event → Over
 unfolding ran_from
 over_from es fs =
-    let r = ran_from 2 1 (down (old_medium 2 1 es)) blank fs in
-    record { before = is_old_run 2 1 (formatted 2 1) es; since = r.run; answers = map shown r.seen; tail = tail_of r.world }
+    let r = ran_from 2 1 0 (down (old_medium 2 1 es)) (blank 0) fs in
+    record { before = is_old_run 2 1 (formatted 2 1 0) es; since = r.run; answers = map shown r.seen; tail = tail_of r.world }
 
 -- strip 44 is committed at 10 and stored
 abbrev pub old : List Event
-old = opened 1 ∷ call (begin 10) ∷ call (write 1 44 (bytes 65)) ∷ call (commit 1 5) ∷ call store_log ∷ []
+old = opened 1 ∷ call (begin 10) ∷ call (write 1 44 (bytes 65)) ∷ call (commit 1 5 0) ∷ call store_log ∷ []
 
 -- strip 300, whose low byte is 44, is committed at 11; after a cut both are read
 abbrev pub new : List Event
@@ -32,7 +32,7 @@ new =
     opened 1
     ∷ call (begin 3)
     ∷ call (write 2 300 (bytes 66))
-    ∷ call (commit 2 3)
+    ∷ call (commit 2 3 0)
     ∷ call store_log
     ∷ cut
     ∷ opened 1

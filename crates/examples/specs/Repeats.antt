@@ -16,6 +16,7 @@ pub record Both : Type 0 where
 pub record Repeat : Type 0 where
   pub blocks : ℕ
   pub pages : ℕ
+  pub area : ℕ
   pub before : List Event
   pub between : List Event
   pub key : ℕ
@@ -28,9 +29,9 @@ read c = call (as_of c.key c.time)
 
 -- the events and both reads are a run, of whose reads o is seen
 pub record Shows (c : Repeat) (o : Both) : Type 0 where
-  pub run : Run c.blocks c.pages ((c.before ++ (read c ∷ c.between)) ++ (read c ∷ []))
-  pub first : seen_at c.blocks c.pages c.before (read c) ≡ o.first
-  pub later : seen_at c.blocks c.pages (c.before ++ (read c ∷ c.between)) (read c) ≡ o.later
+  pub run : Run c.blocks c.pages c.area ((c.before ++ (read c ∷ c.between)) ++ (read c ∷ []))
+  pub first : seen_at c.blocks c.pages c.area c.before (read c) ≡ o.first
+  pub later : seen_at c.blocks c.pages c.area (c.before ++ (read c ∷ c.between)) (read c) ≡ o.later
 
 -- the first read is answered, and the later one gives another strip
 pub record Unlike (o : Both) : Type 0 where
@@ -50,6 +51,7 @@ abbrev pub read_unstored : Repeat
 read_unstored = record {
   blocks = 2;
   pages = 1;
+  area = 0;
   before = printed;
   between = lost;
   key = 7;
@@ -63,8 +65,9 @@ abbrev pub read_lost : Repeat
 read_lost = record {
   blocks = 2;
   pages = 1;
-  before = opened 1 ∷ call (begin 1) ∷ call (write 1 7 (bytes 65)) ∷ call (commit 1 1) ∷ cut ∷ opened 1 ∷ [];
-  between = call (begin 1) ∷ call (write 1 7 (bytes 66)) ∷ call (commit 1 1) ∷ call store_log ∷ [];
+  area = 0;
+  before = opened 1 ∷ call (begin 1) ∷ call (write 1 7 (bytes 65)) ∷ call (commit 1 1 0) ∷ cut ∷ opened 1 ∷ [];
+  between = call (begin 1) ∷ call (write 1 7 (bytes 66)) ∷ call (commit 1 1 0) ∷ call store_log ∷ [];
   key = 7;
   time = 1;
   right = record { first = refuses 10; later = reads (present (bytes 66)) };

@@ -34,9 +34,12 @@ finds t s = record { refusal = 0; result = t; strip = missing; changed = false; 
 abbrev pub refuses : ℕ → Observation
 refuses n = record { refusal = n; result = 0; strip = missing; changed = false; buffer = []; found = [] }
 
--- a slot of a record with a value of equal bytes: at a time, and without one
+-- a slot of a record with a value of equal bytes: at a time, by a user or by 0, and without one
+abbrev pub by : ℕ → ℕ → ℕ → ℕ → Sight
+by user t key b = record { key = key; kind = 0; value = bytes b; time = some t; user = user }
+
 abbrev pub at : ℕ → ℕ → ℕ → Sight
-at t key b = record { key = key; kind = 0; value = bytes b; time = some t }
+at t key b = by 0 t key b
 
 abbrev pub waits : ℕ → ℕ → Sight
-waits key b = record { key = key; kind = 0; value = bytes b; time = none }
+waits key b = record { key = key; kind = 0; value = bytes b; time = none; user = 0 }

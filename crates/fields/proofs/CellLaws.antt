@@ -7,6 +7,7 @@ use native.Mathlib.Omega.{arith}
 use mathlib.Core.List.{List, [], ◌∷◌, ◌++◌, append_assoc, append-nil}
 use lib.ListN.{length, get_or, set, length-append}
 use lib.Seq.{take_at, drop-append-add}
+use Rattle.fields.specs.Field.{dec}
 use Rattle.fields.specs.Part.{part, splice}
 use Rattle.fields.specs.Block.{zeros}
 use Rattle.fields.specs.Cells.{flat}
@@ -69,6 +70,17 @@ splice_zeros zero [] e = refl
 splice_zeros zero (b ∷ v) e = absurd (omega arith)
 splice_zeros (suc n) [] e = rw sub-zero
 splice_zeros (suc n) (b ∷ v) e = rw suc-sub-suc (ap (λ (t : List ℕ). b ∷ t) (splice_zeros n v (omega arith)))
+
+-- they are the number 0
+pub dec_zeros : (n at w : ℕ) → dec (part (zeros n) at w) ≡ 0
+unfolding dec
+dec_zeros zero zero zero = refl
+dec_zeros zero zero (suc w) = refl
+dec_zeros zero (suc at) zero = refl
+dec_zeros zero (suc at) (suc w) = refl
+dec_zeros (suc n) zero zero = refl
+dec_zeros (suc n) zero (suc w) = rw (dec_zeros n zero w)
+dec_zeros (suc n) (suc at) w = dec_zeros n at w
 
 -- stores one after the other: each begins where those before it, which laid a, end
 pub lay : (l a b : List ℕ) {m : List ℕ} (n : ℕ) → length a ≡ n → m ≡ splice l 0 a → splice m n b ≡ splice l 0 (a ++ b)

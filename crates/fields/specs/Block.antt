@@ -21,9 +21,13 @@ log_block_at l s = 3 + s % l
 unfoldable pub page_block_at : ℕ → ℕ → ℕ
 page_block_at l p = 3 + l + p
 
--- 01: "The medium is 512 × (3 + L + D) bytes", "The cache is 512 × D bytes"
-unfoldable pub medium_length : ℕ → ℕ → ℕ
-medium_length l d = 512 * (3 + l + d)
+-- 02, #105: "An area of A blocks (0 to 16) after the pages": the block of area block i on the medium
+unfoldable pub area_block_at : ℕ → ℕ → ℕ → ℕ
+area_block_at l d i = 3 + l + d + i
+
+-- 01: "The medium is 512 × (3 + L + D) bytes", "The cache is 512 × D bytes"; 02, #105: "The length in 1 includes A"
+unfoldable pub medium_length : ℕ → ℕ → ℕ → ℕ
+medium_length l d a = 512 * (3 + l + d + a)
 
 unfoldable pub cache_length : ℕ → ℕ
 cache_length d = 512 * d

@@ -44,7 +44,7 @@ pub fn get2(s: &[u8], at: usize) -> u64
     wide(s[at]) + 256 * wide(s[at + 1])
 }
 
-fn get4(s: &[u8], at: usize) -> u64
+pub fn get4(s: &[u8], at: usize) -> u64
     requires { at + 4 ≤ length s.now }
     ensures { result ≡ dec (part s.now at 4) }
 {
@@ -66,7 +66,7 @@ pub fn put2(s: &mut [u8], at: usize, n: u64)
     s[at + 1] = (n / 256 % 256) as u8;
 }
 
-fn put4(s: &mut [u8], at: usize, n: u64)
+pub fn put4(s: &mut [u8], at: usize, n: u64)
     requires { at + 4 ≤ length s.old }
     ensures { s.new ≡ splice s.old at (enc 4 n) }
 {

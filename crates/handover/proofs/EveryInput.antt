@@ -12,7 +12,7 @@ use Rattle.handover.proofs.Leftover.{leftover}
 pub every_input : (s : State) (m c : List ℕ) (h : Transfer) → EveryInput s m c h
 every_input s m c h = record {
   aborts_done = aborts_done s m c h;
-  plays = λ l d. plays l d s m c h;
-  one_store = λ l d. one_store l d s m c h;
+  plays = λ l d area. plays l d area s m c h;
+  one_store = λ l d area. one_store l d area s m c h;
   leftover = leftover s m c h;
 }

@@ -110,7 +110,7 @@ module _ (s : State) (m c : List ℕ) (h : Transfer) where
         ended r a y p =
             let k1 = way o.medium o.cache o.state (write n h.flight (with_owner o.value h.to)) in
             let v = write_left k1 a in
-            let u = refusal_leaves w.medium w.cache w.state (commit n h.ended) r (in_refusal x.answer r y) in
+            let u = refusal_leaves w.medium w.cache w.state (commit n h.ended h.user) r (in_refusal x.answer r y) in
             let z = abort_left x n (commit_abortable w n h (write_abortable o n h q) r y) in
             let t : At z.place ≡ At v.0 = sym z.found ∙ ap (λ (st : State). find_active st.places n) u.state ∙ written_active k1 n ∙ v.1.0 in
             let j : z.place ≡ v.0 = cc in

@@ -18,12 +18,12 @@ use Rattle.handover.proofs.run.Promised.{promised}
 
 pub hands : Handover
 unfolding Handover Plays hand_events
-hands l d es m c s r e h t =
-    with_up (subst (λ (w : World). Inv l d w (book_at l d es)) e (inv_after l d es (formatted l d) blank (started r) r.run)) (λ disk closed tail u.
+hands l d area es m c s r e h t =
+    with_up (subst (λ (w : World). Inv l d area w (book_at l d area es)) e (inv_after l d area es (formatted l d area) (blank area) (started r) r.run)) (λ disk closed tail u.
     let calls = hand_events s m c h in
     let stage = hand_stage u h (sizes_of h t) in
     record {
-      run = record { range = r.range; run = run_join l d es calls (formatted l d) r.run (rw e stage.run) };
-      leads = world_append l d es calls (formatted l d) ∙ rw e (plays l d s m c h);
-      keeps = rw (book_append l d es calls (formatted l d) blank, e) (promised u h (hand_of s m c h) _ stage.ended);
+      run = record { range = r.range; run = run_join l d area es calls (formatted l d area) r.run (rw e stage.run) };
+      leads = world_append l d area es calls (formatted l d area) ∙ rw e (plays l d area s m c h);
+      keeps = rw (book_append l d area es calls (formatted l d area) (blank area), e) (promised u h (hand_of s m c h) _ stage.ended);
     })

@@ -11,7 +11,9 @@ use mathlib.Core.List.{List, [], ◌∷◌, ◌++◌}
 use lib.ListN.{length, replicate}
 use borrow.Author.Tests.{le-leb}
 use Rattle.fields.specs.Block.{log_block_at}
-use Rattle.layout.specs.Item.{bytes_of}
+use Rattle.layout.specs.Item.{bytes_of, user_bytes_of}
+use Rattle.layout.specs.declared.item.Form.{Form}
+use Rattle.layout.proofs.RecordLaws.{user_few}
 use Rattle.layout.specs.Journal.{Record, record_size, sequence_of, used_of, empty_block, add_record}
 use Rattle.layout.proofs.JournalLaws.{length_empty_block, used_empty_block, sequence_add_record, used_add_record}
 use Rattle.store.specs.declared.Refusal.{Refusal}
@@ -21,7 +23,7 @@ use Rattle.store.specs.State.{fits}
 use Rattle.store.specs.Tail.{tail_fits, logged_if, logged}
 use Rattle.store.specs.Begin.{begun, begin_if, begin_of}
 use Rattle.store.specs.Write.{new_head, written, write_step}
-use Rattle.store.specs.Commit.{commit_step}
+use Rattle.store.specs.Commit.{form_of, new_commit, commit_step}
 use Rattle.store.proofs.FitLaws.{TailFit, fit_of}
 use Rattle.runs.specs.Event.{Event, begin, write, current_read, commit, abort}
 use Rattle.runs.specs.Machine.{World, up, medium_of, step, called, after}
@@ -40,10 +42,11 @@ use Rattle.handover.proofs.calls.Playing.{plays}
 
 -- ---- what a call does to the medium and the tail
 
--- a record of 34 bytes is taken: the medium stays and the tail's sequence too, or the tail is another, with room for 19 bytes
+-- a record of 34 bytes is taken: the medium stays and the tail's sequence too, or the tail is another, with room for a commit of
+-- either form
 data Logs (s : State) (m : List ℕ) : List ℕ → List ℕ → Type 0 where
   stayed : {x y : List ℕ} → x ≡ m → sequence_of y ≡ sequence_of s.tail → Logs s m x y
-  moved : {x y : List ℕ} → tail_fits y 19 ≡ true → Logs s m x y
+  moved : {x y : List ℕ} → ((f : Form) → tail_fits y (19 + user_bytes_of f) ≡ true) → Logs s m x y
 
 logs : (s : State) (m : List ℕ) (r : Record) → record_size r ≡ 34 → TailFit s.tail → Logs s m (logged s m r).medium (logged s m r).tail
 unfolding logged logged_if tail_fits
@@ -54,7 +57,7 @@ logs s m r e f = go (tail_fits s.tail (record_size r))
     go false =
         let q = sequence_of s.tail + 1 in
         let u = used_add_record (empty_block q) r (length_empty_block q) (omega (arith, used_empty_block q, e)) in
-        moved (le-leb (used_of (add_record (empty_block q) r) + 19) 512 (omega (arith, u, used_empty_block q, e)))
+        moved (λ k. le-leb (used_of (add_record (empty_block q) r) + (19 + user_bytes_of k)) 512 (omega (arith, u, used_empty_block q, e, user_few k)))
 
 write_logs : {m c : List ℕ} {s : State} {n key : ℕ} {v : List ℕ} {o : Outcome} → Way m c s (write n key v) o
     → (o.state.blocks ≡ s.blocks) × Logs s m o.medium o.state.tail
@@ -64,11 +67,11 @@ write_logs {m = m} {s = s} (writes n key i v p w) = (refl, logs s m _ refl (fit_
 write_logs (looks k a v b h p n w) = absurd (false≢true h)
 
 -- a commit record that fits the tail stores nothing
-commit_fits : {m c : List ℕ} {s : State} {n clock : ℕ} {o : Outcome} → Way m c s (commit n clock) o → tail_fits s.tail 19 ≡ true → o.medium ≡ m
-unfolding commit_step logged logged_if record_size
+commit_fits : {m c : List ℕ} {s : State} {n clock user : ℕ} {o : Outcome} → Way m c s (commit n clock user) o → ((f : Form) → tail_fits s.tail (19 + user_bytes_of f) ≡ true) → o.medium ≡ m
+unfolding commit_step new_commit logged logged_if record_size
 commit_fits (refused k r w) e = refl
-commit_fits (commits n clock i p w z) e = rw e
-commit_fits (ends n clock i p w z) e = refl
+commit_fits {s = s} (commits n clock user i p w z) e = rw (e (form_of s.area.blocks))
+commit_fits (ends n clock user i p w z) e = refl
 commit_fits (looks k a v b h p n w) e = refl
 
 -- begin leaves the tail and its block
@@ -130,34 +133,34 @@ last_stores {m} {n} {k} zero j s = go (last_replicate m n j)
     go (inr e) = rw e s
 last_stores (suc i) j s = last_stores i j s
 
-module _ (l d : ℕ) where
+module _ (l d area : ℕ) where
   -- the last medium is the one that the events leave
-  last_medium : (w : World) (es : List Event) → medium_of (world_after l d w es) ≡ last_of (medium_of w) (media_after l d w es)
+  last_medium : (w : World) (es : List Event) → medium_of (world_after l d area w es) ≡ last_of (medium_of w) (media_after l d area w es)
   unfolding world_after media_after
   last_medium w [] = refl
-  last_medium w (e ∷ es) = last_medium (step l d w e).world es
+  last_medium w (e ∷ es) = last_medium (step l d area w e).world es
 
   -- ---- the calls
 
   -- an abort behind a call
-  aborted : (x : Outcome) (n : ℕ) → x.medium ∷ media_after l d (after x) (events_of (abort n ∷ [])) ≡ replicate 2 x.medium
+  aborted : (x : Outcome) (n : ℕ) → x.medium ∷ media_after l d area (after x) (events_of (abort n ∷ [])) ≡ replicate 2 x.medium
   unfolding media_after events_of step
   aborted x n = ap (λ (y : List ℕ). x.medium ∷ (y ∷ [])) (quiet_leaves x.medium x.cache x.state (abort n) refl).medium
 
   -- what follows the commit x
   committed : (a : Option Refusal) (x : Outcome) (n : ℕ)
-      → (j : ℕ) × (x.medium ∷ media_after l d (after x) (events_of (commit_calls a n)) ≡ replicate j x.medium)
+      → (j : ℕ) × (x.medium ∷ media_after l d area (after x) (events_of (commit_calls a n)) ≡ replicate j x.medium)
   unfolding media_after events_of
   committed (some r) x n = (2, aborted x n)
   committed none x n = (1, refl)
 
-  abort_once : (o : Outcome) (n : ℕ) → Once o.medium (tail_block o.state) (media_after l d (after o) (events_of (abort n ∷ [])))
+  abort_once : (o : Outcome) (n : ℕ) → Once o.medium (tail_block o.state) (media_after l d area (after o) (events_of (abort n ∷ [])))
   unfolding media_after events_of step
   abort_once o n = once_all 1 nothing (ap (λ (y : List ℕ). y ∷ []) (quiet_leaves o.medium o.cache o.state (abort n) refl).medium)
 
   -- from the write on, and from what the read gave on
   module _ (n : ℕ) (h : Transfer) where
-    check_once : (a : Bool) (o : Outcome) → Once o.medium (tail_block o.state) (media_after l d (after o) (events_of (check_calls a o n h)))
+    check_once : (a : Bool) (o : Outcome) → Once o.medium (tail_block o.state) (media_after l d area (after o) (events_of (check_calls a o n h)))
     unfolding media_after events_of step called
     check_once false o = abort_once o n
     check_once true o = go (refusal_in (hand_writes o n h).answer)
@@ -172,24 +175,24 @@ module _ (l d : ℕ) where
         stored = stores o.medium o.cache o.state (write n h.flight (with_owner o.value h.to))
 
         by : (w.state.blocks ≡ o.state.blocks) × Logs o.state o.medium w.medium w.state.tail
-            → Once o.medium (tail_block o.state) (w.medium ∷ (x.medium ∷ media_after l d (after x) (events_of (commit_calls (refusal_in x.answer) n))))
+            → Once o.medium (tail_block o.state) (w.medium ∷ (x.medium ∷ media_after l d area (after x) (events_of (commit_calls (refusal_in x.answer) n))))
         by (b, stayed e q) =
             let j = committed (refusal_in x.answer) x n in
-            once_behind e (once_all j.0 (stores_to e (block_to o.state w.state b q) (stores w.medium w.cache w.state (commit n h.ended))) j.1)
+            once_behind e (once_all j.0 (stores_to e (block_to o.state w.state b q) (stores w.medium w.cache w.state (commit n h.ended h.user))) j.1)
         by (b, moved f) =
             let j = committed (refusal_in x.answer) x n in
             once_all (suc j.0) stored
-            (ap (λ (ms : List (List ℕ)). w.medium ∷ ms) (j.1 ∙ ap (replicate j.0) (commit_fits (way w.medium w.cache w.state (commit n h.ended)) f)))
+            (ap (λ (ms : List (List ℕ)). w.medium ∷ ms) (j.1 ∙ ap (replicate j.0) (commit_fits (way w.medium w.cache w.state (commit n h.ended h.user)) f)))
 
-        go : (a : Option Refusal) → Once o.medium (tail_block o.state) (w.medium ∷ media_after l d (after w) (events_of (write_calls a w n h)))
+        go : (a : Option Refusal) → Once o.medium (tail_block o.state) (w.medium ∷ media_after l d area (after w) (events_of (write_calls a w n h)))
         go (some r) = once_all 2 stored (aborted w n)
         go none = by (write_logs (way o.medium o.cache o.state (write n h.flight (with_owner o.value h.to))))
 
-    read_once : (a : Option Refusal) (o : Outcome) → Once o.medium (tail_block o.state) (media_after l d (after o) (events_of (read_calls a o n h)))
+    read_once : (a : Option Refusal) (o : Outcome) → Once o.medium (tail_block o.state) (media_after l d area (after o) (events_of (read_calls a o n h)))
     read_once (some r) o = abort_once o n
     read_once none o = check_once (may_hand o.answer o.value h) o
 
-  begin_once : (a : Option Refusal) (o : Outcome) (h : Transfer) → Once o.medium (tail_block o.state) (media_after l d (after o) (events_of (begin_calls a o h)))
+  begin_once : (a : Option Refusal) (o : Outcome) (h : Transfer) → Once o.medium (tail_block o.state) (media_after l d area (after o) (events_of (begin_calls a o h)))
   unfolding media_after events_of step called
   begin_once (some r) o h = once_all 0 nothing refl
   begin_once none o h =
@@ -199,14 +202,14 @@ module _ (l d : ℕ) where
       let q = reading_leaves o.medium o.cache o.state (current_read n h.flight) refl in
       once_behind e (once_to e (ap tail_block q) (read_once n h (refusal_in x.answer) x))
 
-  hand_once : (s : State) (m c : List ℕ) (h : Transfer) → Once m (tail_block s) (media_after l d (up m c s) (hand_events s m c h))
+  hand_once : (s : State) (m c : List ℕ) (h : Transfer) → Once m (tail_block s) (media_after l d area (up m c s) (hand_events s m c h))
   unfolding media_after events_of step called hand_events hand_calls
   hand_once s m c h =
       let x = hand_begins s m c h in
       let e = (quiet_leaves m c s (begin h.began) refl).medium in
       once_behind e (once_to e (begin_block (way m c s (begin h.began))) (begin_once (refusal_in x.answer) x h))
 
-  pub one_store : (s : State) (m c : List ℕ) (h : Transfer) → StoresOnce m (media_after l d (up m c s) (hand_events s m c h))
+  pub one_store : (s : State) (m c : List ℕ) (h : Transfer) → StoresOnce m (media_after l d area (up m c s) (hand_events s m c h))
   one_store s m c h =
       let o = hand_once s m c h in
       record { before = o.before; since = o.since; medium = o.medium; store = one_of o.store; split = o.split }
@@ -216,9 +219,9 @@ module _ (l d : ℕ) where
 pub hand_stores : (s : State) (m c : List ℕ) (h : Transfer) → Stores m (tail_block s) (hand_of s m c h).medium
 unfolding Plays
 hand_stores s m c h =
-    let o = hand_once 0 0 s m c h in
+    let o = hand_once 0 0 0 s m c h in
     let e : (hand_of s m c h).medium ≡ last_of m (replicate o.before m ++ replicate o.since o.medium) =
-    sym (ap medium_of (plays 0 0 s m c h)) ∙ last_medium 0 0 (up m c s) (hand_events s m c h) ∙ ap (last_of m) o.split in
+    sym (ap medium_of (plays 0 0 0 s m c h)) ∙ last_medium 0 0 0 (up m c s) (hand_events s m c h) ∙ ap (last_of m) o.split in
     rw e (last_stores o.before o.since o.store)
 
 -- state and buffers that do not fit: begin is refused

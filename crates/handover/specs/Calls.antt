@@ -4,16 +4,17 @@ use Rattle.std.proofs.Math.Option.{Option, none, some}
 use Rattle.store.specs.declared.Refusal.{Refusal}
 use Rattle.store.specs.declared.State.{State}
 use Rattle.store.specs.Answer.{Outcome, answer_value}
-use Rattle.runs.specs.Event.{Call, Event, begin, current_read, write, commit, abort, is_word, is_record}
+use Rattle.runs.specs.Event.{Call, Event, begin, current_read, write, commit, abort, is_word, is_record, is_user}
 use Rattle.runs.specs.Unstuck.{events_of}
 use Rattle.handover.specs.declared.Transfer.{Transfer}
 use Rattle.handover.specs.Hand.{refusal_in, with_owner, may_hand, begins, reads, writes, commits}
 
--- 01: "a record or byte at most 255", "others below 2^64"; 02, #104: "Record numbers become two bytes": can a handover be given
--- these?
+-- 01: "a record or byte at most 255", "others below 2^64"; 02, #104: "Record numbers become two bytes"; 02, #105: "a user number of
+-- four bytes": can a handover be given these?
 unfoldable pub hand_typed : Transfer → Bool
 hand_typed h =
-    is_record h.flight && (ltb h.from 256 && (ltb h.to 256 && (is_word h.began && is_word h.ended)))
+    is_record h.flight
+    && (ltb h.from 256 && (ltb h.to 256 && (is_word h.began && (is_word h.ended && is_user h.user))))
 
 -- ---- the calls, by what those before them answer (as in `Hand`: o is what the call before left, n the number)
 
@@ -25,7 +26,7 @@ commit_calls none n = []
 -- 02, #101: "and commits": after the write o
 abbrev pub write_calls : Option Refusal → Outcome → ℕ → Transfer → List Call
 write_calls (some r) o n h = abort n ∷ []
-write_calls none o n h = commit n h.ended ∷ commit_calls (refusal_in (commits o n h).answer) n
+write_calls none o n h = commit n h.ended h.user ∷ commit_calls (refusal_in (commits o n h).answer) n
 
 -- 02, #101: "checks, writes the strip read with b in byte 0": after the check of what the read o gave
 abbrev pub check_calls : Bool → Outcome → ℕ → Transfer → List Call

@@ -34,16 +34,16 @@ pub record AbortsDone (s : State) (m c : List ℕ) (h : Transfer) : Type 0 where
 
 -- 02, #101: "It begins, reads, checks, writes .. and commits": its calls, made one after the other on an open store, leave what
 -- the handover leaves
-unfoldable pub Plays : ℕ → ℕ → State → List ℕ → List ℕ → Transfer → Type 0
-Plays l d s m c h =
-    let o = hand_of s m c h in world_after l d (up m c s) (hand_events s m c h) ≡ up o.medium o.cache o.state
+unfoldable pub Plays : ℕ → ℕ → ℕ → State → List ℕ → List ℕ → Transfer → Type 0
+Plays l d a s m c h =
+    let o = hand_of s m c h in world_after l d a (up m c s) (hand_events s m c h) ≡ up o.medium o.cache o.state
 
 -- ---- its stores
 
 -- 01: "A store replaces one block": the media that some events leave, one after the other
-unfoldable pub media_after : ℕ → ℕ → World → List Event → List (List ℕ)
-media_after l d w [] = []
-media_after l d w (e ∷ es) = medium_of (step l d w e).world ∷ media_after l d (step l d w e).world es
+unfoldable pub media_after : ℕ → ℕ → ℕ → World → List Event → List (List ℕ)
+media_after l d a w [] = []
+media_after l d a w (e ∷ es) = medium_of (step l d a w e).world ∷ media_after l d a (step l d a w e).world es
 
 -- 01: "Each call but formatting makes at most one store": so does a handover. Its calls leave the medium m as it is up to one of
 -- them, and from then on it is m with one block replaced, or still m.
@@ -72,6 +72,6 @@ pub data Leftover (s : State) (m c : List ℕ) (h : Transfer) : State → List �
 -- 02, #101: for every state, medium, cache and handover
 pub record EveryInput (s : State) (m c : List ℕ) (h : Transfer) : Type 0 where
   pub aborts_done : AbortsDone s m c h
-  pub plays : (l d : ℕ) → Plays l d s m c h
-  pub one_store : (l d : ℕ) → StoresOnce m (media_after l d (up m c s) (hand_events s m c h))
+  pub plays : (l d a : ℕ) → Plays l d a s m c h
+  pub one_store : (l d a : ℕ) → StoresOnce m (media_after l d a (up m c s) (hand_events s m c h))
   pub leftover : let o = hand_of s m c h in 0 < hand_number o.answer → Leftover s m c h o.state o.medium o.cache

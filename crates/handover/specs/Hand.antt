@@ -87,9 +87,9 @@ reads o n h = current_of o.state o.medium o.cache n h.flight
 abbrev pub writes : Outcome → ℕ → Transfer → Outcome
 writes o n h = write_of o.state o.medium o.cache n h.flight (with_owner o.value h.to)
 
--- 02, #101: "and commits": the call
+-- 02, #101: "and commits": the call; 02, #105: "a user number .., which the handover takes from its caller"
 abbrev pub commits : Outcome → ℕ → Transfer → Outcome
-commits o n h = commit_of o.state o.medium o.cache n h.ended
+commits o n h = commit_of o.state o.medium o.cache n h.ended h.user
 
 -- 02, #101: "any refusal aborts": the call
 abbrev pub aborts : Outcome → ℕ → Outcome

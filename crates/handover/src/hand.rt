@@ -46,7 +46,7 @@ fn may_hand(reading: Reading, asked: Transfer) -> bool
 
 // Ends the transaction without a commit, and answers why.
 fn give_up(
-    words: &mut [u64; 448],
+    words: &mut [u64; 512],
     tail: &[u8; 512],
     medium: &[u8],
     cache: &[u8],
@@ -61,7 +61,7 @@ fn give_up(
 
 // Commits what was written.
 fn commit(
-    words: &mut [u64; 448],
+    words: &mut [u64; 512],
     tail: &mut [u8; 512],
     medium: &mut [u8],
     cache: &[u8],
@@ -70,7 +70,15 @@ fn commit(
 ) -> HandAnswer
     ensures { hand_ends result (state_of words.new tail.new) medium.new cache.now ≡ after_write none (leaves Done (state_of words.old tail.old) medium.old cache.now) number asked }
 {
-    let answer = transactions::commit::commit(words, tail, medium, cache, number, asked.ended);
+    let answer = transactions::commit::commit(
+        words,
+        tail,
+        medium,
+        cache,
+        number,
+        asked.ended,
+        asked.user,
+    );
     match answer {
         Answer::Refused(why) => give_up(
             words,
@@ -86,7 +94,7 @@ fn commit(
 
 // Writes the strip read with its new owner.
 fn write(
-    words: &mut [u64; 448],
+    words: &mut [u64; 512],
     tail: &mut [u8; 512],
     medium: &mut [u8],
     cache: &mut [u8],
@@ -114,7 +122,7 @@ fn write(
 
 // Checks what the read gave, and goes on if it may.
 fn check(
-    words: &mut [u64; 448],
+    words: &mut [u64; 512],
     tail: &mut [u8; 512],
     medium: &mut [u8],
     cache: &mut [u8],
@@ -133,7 +141,7 @@ fn check(
 
 // Reads the strip under the number that begin gave.
 fn read(
-    words: &mut [u64; 448],
+    words: &mut [u64; 512],
     tail: &mut [u8; 512],
     medium: &mut [u8],
     cache: &mut [u8],
@@ -166,7 +174,7 @@ fn read(
 
 // Hands a flight over. It answers for every input, and what it leaves is equated with its definition.
 pub fn hand(
-    words: &mut [u64; 448],
+    words: &mut [u64; 512],
     tail: &mut [u8; 512],
     medium: &mut [u8],
     cache: &mut [u8],

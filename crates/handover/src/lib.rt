@@ -7,8 +7,8 @@ use store::Refusal;
 
 pub mod hand;
 
-// What is asked for: the flight's record, the sector that has it and the one that takes it, and the clocks at begin and at
-// commit.
+// What is asked for: the flight's record, the sector that has it and the one that takes it, the clocks at begin and at commit,
+// and the user whose commit it is.
 #[derive(Clone, Copy)]
 pub struct Transfer {
     pub flight: u16,
@@ -16,6 +16,7 @@ pub struct Transfer {
     pub to: u8,
     pub began: u64,
     pub ended: u64,
+    pub user: u32,
 }
 
 // What a handover answers: a refusal of the store's, its own refusal 17, or the commit time; `hand_number` and `hand_value` of

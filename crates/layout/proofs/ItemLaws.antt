@@ -11,10 +11,11 @@ use lib.Dec.{eqb, leb, ltb}
 use borrow.Author.Tests.{ne_eqb, eq-eqb, le-ltb, le-leb, leb-true, ltb-false, eqb-true}
 use Rattle.fields.specs.Field.{enc, dec}
 use Rattle.fields.specs.Part.{part}
-use Rattle.layout.specs.Item.{bytes_of, tag_of, item_bytes, item_of, by_tag, of_length, head_of, pair_of, version_item, commit_item, number_item}
+use Rattle.layout.specs.Item.{bytes_of, tag_of, user_bytes_of, commit_tag_of, item_bytes, item_of, by_tag, of_length, head_of, commit_head_of, version_item, commit_item, number_item}
 use Rattle.layout.specs.declared.item.Width.TheVariants.{One, Two}
 use Rattle.layout.specs.declared.item.VersionHead.{VersionHead}
-use Rattle.layout.specs.declared.item.Pair.{Pair}
+use Rattle.layout.specs.declared.item.Form.TheVariants.{Plain, Signed}
+use Rattle.layout.specs.declared.item.CommitHead.{CommitHead}
 use Rattle.layout.specs.declared.item.Area.{Area}
 use Rattle.layout.specs.declared.item.Area.TheVariants.{Journal, Master}
 use Rattle.layout.specs.declared.item.Item.{Item}
@@ -40,13 +41,13 @@ pub record Holds (bs : List ℕ) (t n : ℕ) : Type 0 where
 
 -- the bytes of a master field's number, by its tag
 abbrev pub width_of : ℕ → ℕ
-width_of tag = cond (leb tag 2) 2 8
+width_of tag = cond (leb tag 2) 2 (cond (eqb tag 6) 2 8)
 
 abbrev pub Told : Area → List ℕ → Item → Type 0
 Told a bs End = bs ≡ []
 Told a bs (Version h) = Holds bs (tag_of h.width) (29 + bytes_of h.width) × (h ≡ head_of h.width (drop 3 bs))
-Told a bs (Commit p) = Holds bs 2 16 × (p ≡ pair_of (drop 3 bs))
-Told a bs (Number t n) = (t ≤ 5) × Holds bs t (width_of t) × (n ≡ dec (part bs 3 (width_of t)))
+Told a bs (Commit p) = Holds bs (commit_tag_of p.form) (16 + user_bytes_of p.form) × (p ≡ commit_head_of p.form (drop 3 bs))
+Told a bs (Number t n) = (t ≤ 6) × Holds bs t (width_of t) × (n ≡ dec (part bs 3 (width_of t)))
 Told a bs Damaged = Unit {0}
 
 empty_is : (bs : List ℕ) → length bs ≡ 0 → bs ≡ []
@@ -65,15 +66,16 @@ of_length_law bs a tag want i s t f =
     })) (λ _. tt)) (λ _. tt)
 
 pub told : (a : Area) (bs : List ℕ) → Told a bs (item_of a bs)
-unfolding item_of by_tag version_item commit_item number_item head_of bytes_of tag_of
+unfolding item_of by_tag version_item commit_item number_item head_of bytes_of tag_of commit_head_of user_bytes_of commit_tag_of
 told Journal bs =
     let P = Told Journal bs in
     cond_elim P (eqb (length bs) 0) (λ t. empty_is bs (eqb-true (length bs) 0 t)) (λ _. cond_elim P (ltb (length bs) 3) (λ _. tt) (λ s.
     cond_elim P (eqb (get_or bs 0 0) 1) (λ t. of_length_law bs Journal 1 30 (Version (head_of One (drop 3 bs))) s t (λ h. (h, refl))) (λ _.
-    cond_elim P (eqb (get_or bs 0 0) 2) (λ t. of_length_law bs Journal 2 16 (Commit (pair_of (drop 3 bs))) s t (λ h. (h, refl))) (λ _.
+    cond_elim P (eqb (get_or bs 0 0) 2) (λ t. of_length_law bs Journal 2 16 (Commit (commit_head_of Plain (drop 3 bs))) s t (λ h. (h, refl))) (λ _.
     cond_elim P (eqb (get_or bs 0 0) 3) (λ t. of_length_law bs Journal 3 31 (Version (head_of Two (drop 3 bs))) s t (λ h. (h, refl))) (λ _.
-    cond_elim P (eqb (get_or bs 0 0) 4) (λ _. tt) (λ _.
-    cond_elim P (eqb (get_or bs 0 0) 5) (λ _. tt) (λ _. tt)))))))
+    cond_elim P (eqb (get_or bs 0 0) 4) (λ t. of_length_law bs Journal 4 20 (Commit (commit_head_of Signed (drop 3 bs))) s t (λ h. (h, refl))) (λ _.
+    cond_elim P (eqb (get_or bs 0 0) 5) (λ _. tt) (λ _.
+    cond_elim P (eqb (get_or bs 0 0) 6) (λ _. tt) (λ _. tt))))))))
 told Master bs =
     let P = Told Master bs in
     cond_elim P (eqb (length bs) 0) (λ t. empty_is bs (eqb-true (length bs) 0 t)) (λ _. cond_elim P (ltb (length bs) 3) (λ _. tt) (λ s.
@@ -81,13 +83,14 @@ told Master bs =
     cond_elim P (eqb (get_or bs 0 0) 2) (λ t. of_length_law bs Master 2 2 (Number 2 (dec (part bs 3 2))) s t (λ h. (omega arith, h, refl))) (λ _.
     cond_elim P (eqb (get_or bs 0 0) 3) (λ t. of_length_law bs Master 3 8 (Number 3 (dec (part bs 3 8))) s t (λ h. (omega arith, h, refl))) (λ _.
     cond_elim P (eqb (get_or bs 0 0) 4) (λ t. of_length_law bs Master 4 8 (Number 4 (dec (part bs 3 8))) s t (λ h. (omega arith, h, refl))) (λ _.
-    cond_elim P (eqb (get_or bs 0 0) 5) (λ t. of_length_law bs Master 5 8 (Number 5 (dec (part bs 3 8))) s t (λ h. (omega arith, h, refl))) (λ _. tt)))))))
+    cond_elim P (eqb (get_or bs 0 0) 5) (λ t. of_length_law bs Master 5 8 (Number 5 (dec (part bs 3 8))) s t (λ h. (omega arith, h, refl))) (λ _.
+    cond_elim P (eqb (get_or bs 0 0) 6) (λ t. of_length_law bs Master 6 2 (Number 6 (dec (part bs 3 2))) s t (λ h. (omega arith, h, refl))) (λ _. tt))))))))
 
 -- the bytes that an item takes lie within the bytes
 abbrev pub size_of : Item → ℕ
 size_of End = 0
 size_of (Version h) = 32 + bytes_of h.width
-size_of (Commit p) = 19
+size_of (Commit p) = 19 + user_bytes_of p.form
 size_of (Number t n) = 3 + width_of t
 size_of Damaged = 0
 
@@ -97,7 +100,7 @@ item_fits a bs = fits (item_of a bs) (told a bs)
     fits : (i : Item) → Told a bs i → size_of i ≤ length bs
     fits End t = omega arith
     fits (Version h) t = omega (arith, t.0.room)
-    fits (Commit p) t = t.0.room
+    fits (Commit p) t = omega (arith, t.0.room)
     fits (Number n v) t = t.1.room
     fits Damaged t = omega arith
 
@@ -105,10 +108,11 @@ pub version_told : (a : Area) (bs : List ℕ) (h : VersionHead) → item_of a bs
     → Holds bs (tag_of h.width) (29 + bytes_of h.width) × (h ≡ head_of h.width (drop 3 bs))
 version_told a bs h e = rw e at (told a bs)
 
-pub commit_told : (a : Area) (bs : List ℕ) (p : Pair) → item_of a bs ≡ Commit p → Holds bs 2 16 × (p ≡ pair_of (drop 3 bs))
+pub commit_told : (a : Area) (bs : List ℕ) (p : CommitHead) → item_of a bs ≡ Commit p
+    → Holds bs (commit_tag_of p.form) (16 + user_bytes_of p.form) × (p ≡ commit_head_of p.form (drop 3 bs))
 commit_told a bs p e = rw e at (told a bs)
 
-pub number_told : (a : Area) (bs : List ℕ) (t n : ℕ) → item_of a bs ≡ Number t n → (t ≤ 5) × Holds bs t (width_of t) × (n ≡ dec (part bs 3 (width_of t)))
+pub number_told : (a : Area) (bs : List ℕ) (t n : ℕ) → item_of a bs ≡ Number t n → (t ≤ 6) × Holds bs t (width_of t) × (n ≡ dec (part bs 3 (width_of t)))
 number_told a bs t n e = rw e at (told a bs)
 
 pub end_told : (a : Area) (bs : List ℕ) → item_of a bs ≡ End → bs ≡ []
@@ -151,7 +155,7 @@ number_item_law tag w n z h =
     let l : w ≤ length (enc w n ++ z) = simp (length-append, length_enc) (omega arith) in
     simp (eq-eqb _ _ (length_enc w n), le-leb _ _ l, take_at (enc w n) z w (length_enc w n), dec_enc w n h)
 
-pub number_back : (tag n : ℕ) (z : List ℕ) → 0 < tag → tag ≤ 5 → n < 256 ^ width_of tag → item_of Master (item_bytes tag (enc (width_of tag) n) ++ z) ≡ Number tag n
+pub number_back : (tag n : ℕ) (z : List ℕ) → 0 < tag → tag ≤ 6 → n < 256 ^ width_of tag → item_of Master (item_bytes tag (enc (width_of tag) n) ++ z) ≡ Number tag n
 unfolding by_tag
 number_back zero n z l u h = absurd (omega arith)
 number_back (suc zero) n z l u h = item_bytes_law Master 1 (enc 2 n) z (rw length_enc (omega arith)) ∙ number_item_law 1 2 n z h
@@ -159,4 +163,5 @@ number_back (suc (suc zero)) n z l u h = item_bytes_law Master 2 (enc 2 n) z (rw
 number_back (suc (suc (suc zero))) n z l u h = item_bytes_law Master 3 (enc 8 n) z (rw length_enc (omega arith)) ∙ number_item_law 3 8 n z h
 number_back (suc (suc (suc (suc zero)))) n z l u h = item_bytes_law Master 4 (enc 8 n) z (rw length_enc (omega arith)) ∙ number_item_law 4 8 n z h
 number_back (suc (suc (suc (suc (suc zero))))) n z l u h = item_bytes_law Master 5 (enc 8 n) z (rw length_enc (omega arith)) ∙ number_item_law 5 8 n z h
-number_back (suc (suc (suc (suc (suc (suc k)))))) n z l u h = absurd (omega arith)
+number_back (suc (suc (suc (suc (suc (suc zero)))))) n z l u h = item_bytes_law Master 6 (enc 2 n) z (rw length_enc (omega arith)) ∙ number_item_law 6 2 n z h
+number_back (suc (suc (suc (suc (suc (suc (suc k))))))) n z l u h = absurd (omega arith)

@@ -6,5 +6,6 @@ pub mod PageLaws
 pub mod ParseLaws
 pub mod JournalLaws
 pub mod TableLaws
+pub mod UserLineLaws
 pub mod MasterLaws
 pub mod CacheLaws

@@ -8,9 +8,10 @@ use mathlib.Core.List.{List, [], ◌∷◌, ◌++◌}
 use lib.ListN.{length, take, drop, length-append, length-drop, take-append-drop}
 use lib.Seq.{drop-drop, drop_at}
 use Rattle.fields.specs.Cells.{flat}
-use Rattle.layout.specs.Item.{bytes_of, tag_of, item_bytes, item_of, head_of, pair_of, value_of}
-use Rattle.layout.specs.Journal.{Record, version, commit, version_body, record_bytes, record_size, Parsed, onward, parse_more, parse}
+use Rattle.layout.specs.Item.{bytes_of, tag_of, item_bytes, item_of, head_of, value_of, user_bytes_of, commit_tag_of, commit_head_of}
+use Rattle.layout.specs.Journal.{Record, version, commit, version_body, commit_body, record_bytes, record_size, Parsed, onward, parse_more, parse}
 use Rattle.layout.specs.declared.item.VersionHead.{VersionHead}
+use Rattle.layout.specs.declared.item.CommitHead.{CommitHead}
 use Rattle.layout.specs.declared.item.Area.TheVariants.{Journal}
 use Rattle.layout.specs.declared.item.Item.{Item}
 use Rattle.layout.specs.declared.item.Item.TheVariants.{End, Version, Commit, Number, Damaged}
@@ -18,7 +19,7 @@ use Rattle.fields.proofs.PartLaws.{lent_rest}
 use Rattle.fields.proofs.FieldLaws.{Bytes, bytes_drop}
 use Rattle.layout.proofs.ItemLaws.{Told, told, content_back, item_again}
 use Rattle.fields.proofs.CellLaws.{Each}
-use Rattle.layout.proofs.RecordLaws.{VersionSized, PairSized, RecordSized, ValueFits, length_record_bytes, version_back, commit_back, value_back, version_again, commit_again, version_sized, pair_sized}
+use Rattle.layout.proofs.RecordLaws.{VersionSized, CommitSized, RecordSized, ValueFits, length_record_bytes, version_back, commit_back, value_back, version_again, commit_again, version_sized, commit_sized}
 
 -- one more record, read at `at` from the bytes as `&bytes[at..]`
 pub parse_at : (bs : List ℕ) (k at : ℕ) (e : Item) → at ≤ length bs → length bs < at + k → e ≡ item_of Journal (take (length bs - at) (drop at bs))
@@ -34,7 +35,8 @@ more_same : (bs : List ℕ) (i : Item) (f g : ℕ → Parsed) → Told Journal b
 more_same bs End f g t e = refl
 more_same bs (Version h) f g t e =
     ap (onward (version h (value_of h.width (drop 3 bs)))) (e (32 + bytes_of h.width) (omega arith) (omega (arith, t.0.room)))
-more_same bs (Commit p) f g t e = ap (onward (commit p)) (e 19 (omega arith) t.0.room)
+more_same bs (Commit p) f g t e =
+    ap (onward (commit p)) (e (19 + user_bytes_of p.form) (omega arith) (omega (arith, t.0.room)))
 more_same bs (Number n v) f g t e = refl
 more_same bs Damaged f g t e = refl
 
@@ -59,7 +61,7 @@ parse_cons k (version h v) z s =
     let w : value_of h.width (drop 3 (record_bytes (version h v) ++ z)) ≡ v =
     ap (value_of h.width) (content_back (tag_of h.width) (version_body h v) z) ∙ value_back h v z s in
     rw (version_back h v z s, w, drop_at (record_bytes (version h v)) z (32 + bytes_of h.width) n)
-parse_cons k (commit p) z s = rw (commit_back p z s, drop_at (record_bytes (commit p)) z 19 (length_record_bytes (commit p) tt))
+parse_cons k (commit p) z s = rw (commit_back p z s, drop_at (record_bytes (commit p)) z (19 + user_bytes_of p.form) (length_record_bytes (commit p) tt))
 
 size_some : (r : Record) → 0 < record_size r
 unfolding record_size
@@ -92,8 +94,13 @@ again bs (Version h) f b t e w =
     ∙ rw (version_again h.width (drop 3 bs) (bytes_drop 3 bs b) l) (item_again bs (tag_of h.width) n b t.0 ∙ ap (λ (j : ℕ). take j bs) k) in
     rw (r, e (32 + bytes_of h.width) w) (take-append-drop (32 + bytes_of h.width) bs)
 again bs (Commit p) f b t e w =
-    let l : 16 ≤ length (drop 3 bs) = omega (arith, t.0.room, length-drop 3 bs) in
-    rw (t.1, commit_again (drop 3 bs) (bytes_drop 3 bs b) l, item_again bs 2 16 b t.0, e 19 w) (take-append-drop 19 bs)
+    let n = 16 + user_bytes_of p.form in
+    let l : n ≤ length (drop 3 bs) = omega (arith, t.0.room, length-drop 3 bs) in
+    let k : 3 + n ≡ 19 + user_bytes_of p.form = omega arith in
+    let r : item_bytes (commit_tag_of p.form) (commit_body p) ≡ take (19 + user_bytes_of p.form) bs =
+    ap (λ (x : CommitHead). item_bytes (commit_tag_of p.form) (commit_body x)) t.1
+    ∙ rw (commit_again p.form (drop 3 bs) (bytes_drop 3 bs b) l) (item_again bs (commit_tag_of p.form) n b t.0 ∙ ap (λ (j : ℕ). take j bs) k) in
+    rw (r, e (19 + user_bytes_of p.form) w) (take-append-drop (19 + user_bytes_of p.form) bs)
 again bs (Number n v) f b t e w = let z : ◌≡◌ {A = ℕ} 0 1 = cc in absurd (omega arith)
 again bs Damaged f b t e w = let z : ◌≡◌ {A = ℕ} 0 1 = cc in absurd (omega arith)
 
@@ -112,8 +119,8 @@ all_sized bs (Version h) f b t e =
     let s : VersionSized (head_of h.width (drop 3 bs)) v = version_sized h.width (drop 3 bs) (bytes_drop 3 bs b) (omega (arith, t.0.room, length-drop 3 bs)) in
     (subst (λ (x : VersionHead). VersionSized x v) (sym t.1) s, e (32 + bytes_of h.width))
 all_sized bs (Commit p) f b t e =
-    let s : PairSized (pair_of (drop 3 bs)) = pair_sized (drop 3 bs) (bytes_drop 3 bs b) (omega (arith, t.0.room, length-drop 3 bs)) in
-    (rw t.1 s, e 19)
+    let s : CommitSized (commit_head_of p.form (drop 3 bs)) = commit_sized p.form (drop 3 bs) (bytes_drop 3 bs b) (omega (arith, t.0.room, length-drop 3 bs)) in
+    (subst (λ (x : CommitHead). CommitSized x) (sym t.1) s, e (19 + user_bytes_of p.form))
 all_sized bs (Number n v) f b t e = tt
 all_sized bs Damaged f b t e = tt
 

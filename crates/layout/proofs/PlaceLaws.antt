@@ -5,7 +5,7 @@ use Prim.Native.Nat.{ℕ, ◌+◌, ◌*◌, ◌/◌, ◌%◌, ◌≤◌, ◌<◌
 use native.Mathlib.Nat.{div-add-mod, mod-lt, mul-le-mul_left}
 use native.Mathlib.Decide.{dec_lt}
 use native.Mathlib.Omega.{arith}
-use Rattle.fields.specs.Block.{log_block_at, page_block_at, medium_length, cache_length, page_of, slot_in, slot_at, end_place, block_of_end}
+use Rattle.fields.specs.Block.{log_block_at, page_block_at, area_block_at, medium_length, cache_length, page_of, slot_in, slot_at, end_place, block_of_end}
 
 -- two sequences less than a round apart have different places in the ring
 pub ring : (l s n : ℕ) → s < n → n < s + l → s % l ≢ n % l
@@ -49,6 +49,22 @@ page_blocks_apart l p q n e = n (omega arith)
 pub log_page_apart : (l s p : ℕ) → 0 < l → log_block_at l s ≢ page_block_at l p
 log_page_apart l s p h e = omega (arith, log_block_high l s h, page_block_low l p)
 
+pub log_area_apart : (l d s i : ℕ) → 0 < l → log_block_at l s ≢ area_block_at l d i
+unfolding area_block_at
+log_area_apart l d s i h e = omega (arith, log_block_high l s h)
+
+pub page_area_apart : (l d p i : ℕ) → p < d → page_block_at l p ≢ area_block_at l d i
+unfolding page_block_at area_block_at
+page_area_apart l d p i h e = omega arith
+
+pub area_blocks_apart : (l d i j : ℕ) → i ≢ j → area_block_at l d i ≢ area_block_at l d j
+unfolding area_block_at
+area_blocks_apart l d i j n e = n (omega arith)
+
+pub area_not_first : (l d i k : ℕ) → k < 3 → area_block_at l d i ≢ k
+unfolding area_block_at
+area_not_first l d i k h e = omega arith
+
 -- k is the master (0) or a block of the table (1, 2)
 pub log_not_first : (l s k : ℕ) → k < 3 → log_block_at l s ≢ k
 log_not_first l s k h e = omega (arith, log_block_low l s)
@@ -57,17 +73,21 @@ pub page_not_first : (l p k : ℕ) → k < 3 → page_block_at l p ≢ k
 page_not_first l p k h e = omega (arith, page_block_low l p)
 
 -- each lies within the medium, a page within the cache
-pub first_in_medium : (l d k : ℕ) → k < 3 → 512 * k + 512 ≤ medium_length l d
+pub first_in_medium : (l d a k : ℕ) → k < 3 → 512 * k + 512 ≤ medium_length l d a
 unfolding medium_length
-first_in_medium l d k h = omega arith
+first_in_medium l d a k h = omega arith
 
-pub log_in_medium : (l d s : ℕ) → 0 < l → 512 * log_block_at l s + 512 ≤ medium_length l d
+pub log_in_medium : (l d a s : ℕ) → 0 < l → 512 * log_block_at l s + 512 ≤ medium_length l d a
 unfolding medium_length
-log_in_medium l d s h = omega (arith, log_block_high l s h)
+log_in_medium l d a s h = omega (arith, log_block_high l s h)
 
-pub page_in_medium : (l d p : ℕ) → p < d → 512 * page_block_at l p + 512 ≤ medium_length l d
+pub page_in_medium : (l d a p : ℕ) → p < d → 512 * page_block_at l p + 512 ≤ medium_length l d a
 unfolding medium_length
-page_in_medium l d p h = omega (arith, page_block_high l d p h)
+page_in_medium l d a p h = omega (arith, page_block_high l d p h)
+
+pub area_in_medium : (l d a i : ℕ) → i < a → 512 * area_block_at l d i + 512 ≤ medium_length l d a
+unfolding medium_length area_block_at
+area_in_medium l d a i h = omega arith
 
 pub page_in_cache : (d p : ℕ) → p < d → 512 * p + 512 ≤ cache_length d
 unfolding cache_length

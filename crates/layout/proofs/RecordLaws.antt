@@ -11,13 +11,16 @@ use Rattle.fields.specs.Field.{enc, dec}
 use Rattle.fields.specs.Part.{part, splice}
 use Rattle.fields.specs.Block.{zeros}
 use Rattle.fields.specs.Cells.{flat}
-use Rattle.layout.specs.Item.{bytes_of, tag_of, item_bytes, item_of, by_tag, head_of, pair_of, value_of, version_item, commit_item}
-use Rattle.layout.specs.Journal.{Record, version, commit, version_body, record_bytes, record_size, log_bytes, empty_block, used_of, add_record}
+use Rattle.layout.specs.Item.{bytes_of, tag_of, user_bytes_of, commit_tag_of, item_bytes, item_of, by_tag, head_of, pair_of, commit_head_of, value_of, version_item, commit_item}
+use Rattle.layout.specs.Journal.{Record, version, commit, version_body, commit_body, record_bytes, record_size, log_bytes, empty_block, used_of, add_record}
 use Rattle.layout.specs.Table.{pair_bytes}
 use Rattle.layout.specs.declared.item.Width.{Width}
 use Rattle.layout.specs.declared.item.Width.TheVariants.{One, Two}
 use Rattle.layout.specs.declared.item.VersionHead.{VersionHead}
 use Rattle.layout.specs.declared.item.Pair.{Pair}
+use Rattle.layout.specs.declared.item.Form.{Form}
+use Rattle.layout.specs.declared.item.Form.TheVariants.{Plain, Signed}
+use Rattle.layout.specs.declared.item.CommitHead.{CommitHead}
 use Rattle.layout.specs.declared.item.Area.TheVariants.{Journal}
 use Rattle.layout.specs.declared.item.Item.TheVariants.{Version, Commit}
 use Rattle.fields.proofs.PartLaws.{splice_is, length_part}
@@ -37,6 +40,12 @@ unfolding bytes_of
 bytes_few One = omega arith
 bytes_few Two = omega arith
 
+-- a user takes four bytes or none
+pub user_few : (f : Form) → user_bytes_of f ≤ 4
+unfolding user_bytes_of
+user_few Plain = omega arith
+user_few Signed = omega arith
+
 pub length_version_body : (h : VersionHead) (v : List ℕ) → length v ≡ 16 → length (version_body h v) ≡ 29 + bytes_of h.width
 unfolding version_body
 length_version_body h v e = simp (length-append, length_enc, e) (omega arith)
@@ -44,6 +53,10 @@ length_version_body h v e = simp (length-append, length_enc, e) (omega arith)
 pub length_pair_bytes : (p : Pair) → length (pair_bytes p) ≡ 16
 unfolding pair_bytes
 length_pair_bytes p = simp (length-append, length_enc)
+
+pub length_commit_body : (p : CommitHead) → length (commit_body p) ≡ 16 + user_bytes_of p.form
+unfolding commit_body
+length_commit_body p = simp (length-append, length_enc) (omega arith)
 
 pub length_item_bytes : (tag : ℕ) (c : List ℕ) → length (item_bytes tag c) ≡ 3 + length c
 unfolding item_bytes
@@ -57,7 +70,7 @@ ValueFits (commit p) = Unit {0}
 pub length_record_bytes : (r : Record) → ValueFits r → length (record_bytes r) ≡ record_size r
 unfolding record_bytes record_size
 length_record_bytes (version h v) e = length_item_bytes (tag_of h.width) (version_body h v) ∙ rw (length_version_body h v e) (omega arith)
-length_record_bytes (commit p) e = length_item_bytes 2 (pair_bytes p) ∙ rw (length_pair_bytes p)
+length_record_bytes (commit p) e = length_item_bytes (commit_tag_of p.form) (commit_body p) ∙ rw (length_commit_body p) (omega arith)
 
 -- ---- what the stores make
 
@@ -68,10 +81,28 @@ begin_is s a b c ea eb ec =
     let f : splice (zeros 512) 0 (enc 8 s ++ enc 2 10) ≡ (enc 8 s ++ enc 2 10) ++ zeros 502 = splice_is (zeros 512) 0 (enc 8 s ++ enc 2 10) (rw n (omega arith)) ∙ rw n in
     rw (ec, eb, ea, splice_then (zeros 512) 0 (enc 8 s) 8 (enc 2 10) (simp length_enc)) f
 
-pub commit_written : (l a : List ℕ) (p : Pair) → length l ≡ 16 → a ≡ splice l 0 (enc 8 p.number.0) → splice a 8 (enc 8 p.time.0) ≡ pair_bytes p
-unfolding pair_bytes
-commit_written l a p n ea =
-    rw (ea, splice_then l 0 (enc 8 p.number.0) 8 (enc 8 p.time.0) (simp length_enc)) (splice_whole l _ (simp (length-append, length_enc, n)))
+pub commit_written : (l a b : List ℕ) (p : CommitHead) (n : ℕ) → n ≡ user_bytes_of p.form → length l ≡ 16 + n
+    → a ≡ splice l 0 (enc 8 p.number.0)
+    → b ≡ splice a 8 (enc 8 p.time.0)
+    → splice b 16 (enc n p.user) ≡ commit_body p
+unfolding commit_body
+commit_written l a b p n w s ea eb =
+    rw (
+      eb,
+      ea,
+      splice_then l 0 x 8 y (simp length_enc),
+      splice_then l 0 (x ++ y) 16 (enc n p.user) (simp (length-append, length_enc)),
+    )
+    (ap (splice l 0) body ∙ splice_whole l (commit_body p) (length_commit_body p ∙ rw (← w) (sym s)))
+  where
+    x : List ℕ
+    x = enc 8 p.number.0
+
+    y : List ℕ
+    y = enc 8 p.time.0
+
+    body : (x ++ y) ++ enc n p.user ≡ commit_body p
+    body = rw (← w) (simp append_assoc)
 
 pub version_written : (l a b d e v : List ℕ) (h : VersionHead) (n : ℕ) → n ≡ bytes_of h.width → length l ≡ 29 + n → length v ≡ 16
     → a ≡ splice l 0 (enc 2 h.slot)
@@ -136,12 +167,13 @@ version_added b c w v h at n s u m e f =
     let k : at + 3 + n ≡ at + (32 + bytes_of h.width) = omega arith in
     rw (item_written b c w at (tag_of h.width) n (ap length f ∙ length_version_body h v m ∙ sym s) e, k, f, u)
 
-pub commit_added : (b c w : List ℕ) (p : Pair) (at : ℕ) → at ≡ used_of b
-    → c ≡ splice (set b at 2) (at + 1) (enc 2 16) → w ≡ pair_bytes p
-    → splice (splice c (at + 3) w) 8 (enc 2 (at + 19)) ≡ add_record b (commit p)
+pub commit_added : (b c w : List ℕ) (p : CommitHead) (at n : ℕ) → n ≡ 16 + user_bytes_of p.form → at ≡ used_of b
+    → c ≡ splice (set b at (commit_tag_of p.form)) (at + 1) (enc 2 n) → w ≡ commit_body p
+    → splice (splice c (at + 3) w) 8 (enc 2 (at + 3 + n)) ≡ add_record b (commit p)
 unfolding add_record record_bytes record_size
-commit_added b c w p at u e f =
-    rw (item_written b c w at 2 16 (ap length f ∙ length_pair_bytes p) e, f, u)
+commit_added b c w p at n s u e f =
+    let k : at + 3 + n ≡ at + (19 + user_bytes_of p.form) = omega arith in
+    rw (item_written b c w at (commit_tag_of p.form) n (ap length f ∙ length_commit_body p ∙ sym s) e, k, f, u)
 
 -- ---- what was written is read back
 
@@ -159,9 +191,15 @@ pub record PairSized (p : Pair) : Type 0 where
   pub number : p.number.0 < 2 ^ 64
   pub time : p.time.0 < 2 ^ 64
 
+-- the fields of a commit lie within their bytes; without a user there is user 0
+pub record CommitSized (p : CommitHead) : Type 0 where
+  pub number : p.number.0 < 2 ^ 64
+  pub time : p.time.0 < 2 ^ 64
+  pub user : p.user < 256 ^ user_bytes_of p.form
+
 abbrev pub RecordSized : Record → Type 0
 RecordSized (version h v) = VersionSized h v
-RecordSized (commit p) = PairSized p
+RecordSized (commit p) = CommitSized p
 
 same_head : (h : VersionHead) (s k d e n : ℕ) → s ≡ h.slot → k ≡ h.key → d ≡ h.kind → e ≡ h.earlier → n ≡ h.number.0
     → ◌≡◌ {A = VersionHead} (record { width = h.width; slot = s; key = k; kind = d; earlier = e; number = record { 0 = n } }) h
@@ -209,7 +247,31 @@ pair_back p z s =
     same_pair : (p : Pair) (n t : ℕ) → n ≡ p.number.0 → t ≡ p.time.0 → ◌≡◌ {A = Pair} (record { number = record { 0 = n }; time = record { 0 = t } }) p
     same_pair p n t en et = rw (en, et)
 
+same_commit : (p : CommitHead) (n t u : ℕ) → n ≡ p.number.0 → t ≡ p.time.0 → u ≡ p.user
+    → ◌≡◌ {A = CommitHead} (record { form = p.form; number = record { 0 = n }; time = record { 0 = t }; user = u }) p
+same_commit p n t u en et eu = rw (en, et, eu)
+
+pub commit_head_back : (p : CommitHead) (z : List ℕ) → CommitSized p → commit_head_of p.form (commit_body p ++ z) ≡ p
+unfolding commit_head_of commit_body
+commit_head_back p z s =
+    let w = user_bytes_of p.form in
+    let x = enc 8 p.number.0 in
+    let y = enc 8 p.time.0 in
+    let v = enc w p.user in
+    let f : commit_body p ++ z ≡ x ++ (y ++ (v ++ z)) = simp append_assoc in
+    let g : commit_body p ++ z ≡ (x ++ y) ++ (v ++ z) = simp append_assoc in
+    let long : length (x ++ y) ≡ 16 = simp (length-append, length_enc) in
+    same_commit p _ _ _
+    (ap (λ (t : List ℕ). dec (part t 0 8)) f ∙ dec_mid [] (y ++ (v ++ z)) 0 8 p.number.0 refl s.number)
+    (ap (λ (t : List ℕ). dec (part t 8 8)) f ∙ dec_mid x (v ++ z) 8 8 p.time.0 (length_enc 8 p.number.0) s.time)
+    (ap (λ (t : List ℕ). dec (part t 16 w)) g ∙ dec_mid (x ++ y) z 16 w p.user long s.user)
+
 -- a record at the front of the bytes
+by_form : (f : Form) (len : ℕ) (body : List ℕ) → by_tag Journal (commit_tag_of f) len body ≡ commit_item f len body
+unfolding by_tag commit_tag_of
+by_form Plain len body = refl
+by_form Signed len body = refl
+
 by_width : (w : Width) (len : ℕ) (body : List ℕ) → by_tag Journal (tag_of w) len body ≡ version_item w len body
 unfolding by_tag tag_of
 by_width One len body = refl
@@ -224,12 +286,14 @@ version_back h v z s =
     ∙ by_width h.width (length (version_body h v)) (version_body h v ++ z)
     ∙ simp (eq-eqb _ _ n, le-leb _ _ l, head_back h v z s)
 
-pub commit_back : (p : Pair) (z : List ℕ) → PairSized p → item_of Journal (record_bytes (commit p) ++ z) ≡ Commit p
-unfolding record_bytes by_tag commit_item
+pub commit_back : (p : CommitHead) (z : List ℕ) → CommitSized p → item_of Journal (record_bytes (commit p) ++ z) ≡ Commit p
+unfolding record_bytes commit_item
 commit_back p z s =
-    let n : length (pair_bytes p) ≡ 16 = length_pair_bytes p in
-    let l : 16 ≤ length (pair_bytes p ++ z) = simp (length-append, n) (omega arith) in
-    item_bytes_law Journal 2 (pair_bytes p) z (omega arith) ∙ simp (n, le-leb _ _ l, pair_back p z s)
+    let n : length (commit_body p) ≡ 16 + user_bytes_of p.form = length_commit_body p in
+    let l : 16 + user_bytes_of p.form ≤ length (commit_body p ++ z) = simp (length-append, n) (omega arith) in
+    item_bytes_law Journal (commit_tag_of p.form) (commit_body p) z (omega (arith, n, user_few p.form))
+    ∙ by_form p.form (length (commit_body p)) (commit_body p ++ z)
+    ∙ simp (eq-eqb _ _ n, le-leb _ _ l, commit_head_back p z s)
 
 -- ---- what is read and written again is the same
 
@@ -256,9 +320,22 @@ version_again w b k h =
       part_join b 2 n 27,
     ) (part_join b 0 2 (n + 27) ∙ ap (part b 0) t)
 
-pub commit_again : (b : List ℕ) → Bytes b → 16 ≤ length b → pair_bytes (pair_of b) ≡ part b 0 16
+pub commit_again : (f : Form) (b : List ℕ) → Bytes b → 16 + user_bytes_of f ≤ length b
+    → commit_body (commit_head_of f b) ≡ part b 0 (16 + user_bytes_of f)
+unfolding commit_body commit_head_of
+commit_again f b k h =
+    let t : 8 + (8 + user_bytes_of f) ≡ 16 + user_bytes_of f = omega arith in
+    rw (
+      enc_part b 0 8 (omega arith) k,
+      enc_part b 8 8 (omega arith) k,
+      enc_part b 16 (user_bytes_of f) (omega arith) k,
+      part_join b 8 8 (user_bytes_of f),
+    ) (part_join b 0 8 (8 + user_bytes_of f) ∙ ap (part b 0) t)
+
+-- a pair that is read and written again
+pub pair_same : (b : List ℕ) → Bytes b → 16 ≤ length b → pair_bytes (pair_of b) ≡ part b 0 16
 unfolding pair_bytes pair_of
-commit_again b k h = rw (enc_part b 0 8 (omega arith) k, enc_part b 8 8 (omega arith) k) (part_join b 0 8 8)
+pair_same b k h = rw (enc_part b 0 8 (omega arith) k, enc_part b 8 8 (omega arith) k) (part_join b 0 8 8)
 
 -- and what is read from bytes lies within its bytes
 pub version_sized : (w : Width) (b : List ℕ) → Bytes b → 29 + bytes_of w ≤ length b → VersionSized (head_of w b) (value_of w b)
@@ -271,6 +348,14 @@ version_sized w b k h = record {
   number = dec_part_lt b (5 + bytes_of w) 8 k (omega arith);
   size = length_part b (13 + bytes_of w) 16 (omega arith);
   bytes = bytes_take 16 (drop (13 + bytes_of w) b) (bytes_drop (13 + bytes_of w) b k);
+}
+
+pub commit_sized : (f : Form) (b : List ℕ) → Bytes b → 16 + user_bytes_of f ≤ length b → CommitSized (commit_head_of f b)
+unfolding commit_head_of
+commit_sized f b k h = record {
+  number = dec_part_lt b 0 8 k (omega arith);
+  time = dec_part_lt b 8 8 k (omega arith);
+  user = dec_part_lt b 16 (user_bytes_of f) k (omega arith);
 }
 
 pub pair_sized : (b : List ℕ) → Bytes b → 16 ≤ length b → PairSized (pair_of b)

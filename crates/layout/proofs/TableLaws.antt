@@ -17,7 +17,7 @@ use Rattle.layout.specs.declared.item.Pair.{Pair}
 use Rattle.fields.proofs.PartLaws.{length_splice, part_splice, part_before, part_after, part_part}
 use Rattle.fields.proofs.FieldLaws.{Bytes, length_enc, bytes_enc}
 use Rattle.fields.proofs.WriteLaws.{splice_then}
-use Rattle.layout.proofs.RecordLaws.{PairSized, length_pair_bytes, pair_back, commit_again}
+use Rattle.layout.proofs.RecordLaws.{PairSized, length_pair_bytes, pair_back, pair_same}
 use Rattle.fields.proofs.CellLaws.{Cells, each_of, bytes_append, bytes_flat, length_flat, cell_at, cell_set}
 use Rattle.fields.proofs.BlockLaws.{blk_same, blk_other}
 
@@ -33,7 +33,7 @@ pair_bytes_law : (p : Pair) → PairSized p → pair_of (pair_bytes p) ≡ p
 pair_bytes_law p s = rw append-nil at (pair_back p [] s)
 
 pub pair_again : (b : List ℕ) → length b ≡ 16 → Bytes b → pair_bytes (pair_of b) ≡ b
-pair_again b h k = commit_again b k (omega arith) ∙ take_all 16 b (omega arith)
+pair_again b h k = pair_same b k (omega arith) ∙ take_all 16 b (omega arith)
 
 -- a place of a block that was written, and another
 pub length_put_pair : (b : List ℕ) (i : ℕ) (p : Pair) → length (put_pair b i p) ≡ length b

@@ -6,10 +6,9 @@ use Rattle.fields.specs.Equal.{all_zero}
 use Rattle.fields.specs.Block.{zeros}
 use Rattle.fields.specs.Cells.{flat}
 use Rattle.layout.specs.Slot.{key_form, kind_form}
-use Rattle.layout.specs.Item.{bytes_of, tag_of, item_bytes, item_of, value_of}
-use Rattle.layout.specs.Table.{pair_bytes}
+use Rattle.layout.specs.Item.{bytes_of, tag_of, user_bytes_of, commit_tag_of, item_bytes, item_of, value_of}
 use Rattle.layout.specs.declared.item.VersionHead.{VersionHead}
-use Rattle.layout.specs.declared.item.Pair.{Pair}
+use Rattle.layout.specs.declared.item.CommitHead.{CommitHead}
 use Rattle.layout.specs.declared.item.Area.TheVariants.{Journal}
 use Rattle.layout.specs.declared.item.Item.{Item}
 use Rattle.layout.specs.declared.item.Item.TheVariants.{End, Version, Commit, Number, Damaged}
@@ -17,21 +16,25 @@ use Rattle.layout.specs.declared.item.Item.TheVariants.{End, Version, Commit, Nu
 -- a record of the log: a version with its value, or a commit
 pub data Record : Type 0 where
   version : VersionHead → List ℕ → Record
-  commit : Pair → Record
+  commit : CommitHead → Record
 
 unfoldable pub version_body : VersionHead → List ℕ → List ℕ
 version_body h v =
     enc 2 h.slot ++ (enc (bytes_of h.width) h.key ++ (h.kind ∷ (enc 2 h.earlier ++ (enc 8 h.number.0 ++ v))))
 
--- 01: "Tag 1, version", "Tag 2, commit"; 02, #104: tag 3, version
+-- 01: "commit, body 16: number, time"; 02, #105: "body 20: number, time, user"
+unfoldable pub commit_body : CommitHead → List ℕ
+commit_body p = enc 8 p.number.0 ++ (enc 8 p.time.0 ++ enc (user_bytes_of p.form) p.user)
+
+-- 01: "Tag 1, version", "Tag 2, commit"; 02, #104: tag 3, version; 02, #105: "log tag 4 is commit with user"
 unfoldable pub record_bytes : Record → List ℕ
 record_bytes (version h v) = item_bytes (tag_of h.width) (version_body h v)
-record_bytes (commit p) = item_bytes 2 (pair_bytes p)
+record_bytes (commit p) = item_bytes (commit_tag_of p.form) (commit_body p)
 
--- 01: "A record is tag, length, body": 3 + 30 bytes, 3 + 16 bytes; 02, #104: "records of 34 bytes"
+-- 01: "A record is tag, length, body": 3 + 30 bytes, 3 + 16 bytes; 02, #104: "records of 34 bytes"; 02, #105: "body 20"
 unfoldable pub record_size : Record → ℕ
 record_size (version h v) = 32 + bytes_of h.width
-record_size (commit p) = 19
+record_size (commit p) = 19 + user_bytes_of p.form
 
 -- 01: "sequence (8 bytes), used bytes counted from the block's start (2, from 10 to 512), records, zeros"
 unfoldable pub log_bytes : ℕ → List Record → List ℕ
@@ -57,7 +60,7 @@ abbrev pub parse_more : Item → List ℕ → (ℕ → Parsed) → Parsed
 parse_more End bs rest = record { records = []; whole = true }
 parse_more (Version h) bs rest =
     onward (version h (value_of h.width (drop 3 bs))) (rest (32 + bytes_of h.width))
-parse_more (Commit p) bs rest = onward (commit p) (rest 19)
+parse_more (Commit p) bs rest = onward (commit p) (rest (19 + user_bytes_of p.form))
 parse_more (Number t n) bs rest = record { records = []; whole = false }
 parse_more Damaged bs rest = record { records = []; whole = false }
 

@@ -3,4 +3,5 @@ pub mod Page
 pub mod Item
 pub mod Journal
 pub mod Table
+pub mod UserLines
 pub mod Master

@@ -1,6 +1,6 @@
 // Tag, length, content: log records and master fields.
 ghost use Rattle.std.specs.Prelude.{◌≡◌, ◌+◌, ◌≤◌, ◌<◌, length};
-ghost use Rattle.layout.specs.Item.{bytes_of, tag_of, head_of, pair_of, item_of, number_item, version_item, commit_item};
+ghost use Rattle.layout.specs.Item.{bytes_of, tag_of, user_bytes_of, commit_tag_of, head_of, pair_of, commit_head_of, item_of, number_item, version_item, commit_item};
 
 use crate::{CommitTime, TxNumber};
 
@@ -22,11 +22,27 @@ pub struct VersionHead {
     pub number: TxNumber,
 }
 
-// A transaction and its commit time: a commit record, or a place of the pair table.
+// A transaction and its commit time: a place of the pair table.
 #[derive(Clone, Copy)]
 pub struct Pair {
     pub number: TxNumber,
     pub time: CommitTime,
+}
+
+// Whether a commit record has a user: none under tag 2, one of four bytes under tag 4.
+#[derive(Clone, Copy)]
+pub enum Form {
+    Plain,
+    Signed,
+}
+
+// The fields of a commit record. Without a user it has user 0.
+#[derive(Clone, Copy)]
+pub struct CommitHead {
+    pub form: Form,
+    pub number: TxNumber,
+    pub time: CommitTime,
+    pub user: u32,
 }
 
 // What an item belongs to: the same tag means other things in the log and in the master.
@@ -40,7 +56,7 @@ pub enum Area {
 pub enum Item {
     End,
     Version(VersionHead),
-    Commit(Pair),
+    Commit(CommitHead),
     Number(u8, u64),
     Damaged,
 }
@@ -62,6 +78,26 @@ pub(crate) fn tag(width: Width) -> u8
     match width {
         Width::One => 1,
         Width::Two => 3,
+    }
+}
+
+// The bytes of a user in a commit record.
+pub fn user_bytes(form: Form) -> usize
+    ensures { result ≡ user_bytes_of form }
+{
+    match form {
+        Form::Plain => 0,
+        Form::Signed => 4,
+    }
+}
+
+// The tag of a commit record.
+pub(crate) fn commit_tag(form: Form) -> u8
+    ensures { result ≡ commit_tag_of form }
+{
+    match form {
+        Form::Plain => 2,
+        Form::Signed => 4,
     }
 }
 
@@ -92,6 +128,20 @@ pub fn read_pair(body: &[u8]) -> Pair
     }
 }
 
+// The fields of a commit record's body.
+fn commit_head(form: Form, body: &[u8]) -> CommitHead
+    requires { 16 + user_bytes_of form ≤ length body.now }
+    ensures { result ≡ commit_head_of form body.now }
+{
+    let n = user_bytes(form);
+    CommitHead {
+        form: form,
+        number: TxNumber(fields::field::get8(body, 0)),
+        time: CommitTime(fields::field::get8(body, 8)),
+        user: fields::field::get(&body[16..16 + n]) as u32,
+    }
+}
+
 fn version_item(width: Width, len: u64, body: &[u8]) -> Item
     ensures { result ≡ version_item width len body.now }
 {
@@ -105,16 +155,17 @@ fn version_item(width: Width, len: u64, body: &[u8]) -> Item
     Item::Version(version_head(width, body))
 }
 
-fn commit_item(len: u64, body: &[u8]) -> Item
-    ensures { result ≡ commit_item len body.now }
+fn commit_item(form: Form, len: u64, body: &[u8]) -> Item
+    ensures { result ≡ commit_item form len body.now }
 {
-    if len != 16 {
+    let want = 16 + user_bytes(form);
+    if len != want as u64 {
         return Item::Damaged;
     }
-    if body.len() < 16 {
+    if body.len() < want {
         return Item::Damaged;
     }
-    Item::Commit(read_pair(body))
+    Item::Commit(commit_head(form, body))
 }
 
 fn number_item(tag: u8, want: usize, len: u64, body: &[u8]) -> Item
@@ -150,7 +201,7 @@ pub fn read(area: Area, bytes: &[u8]) -> Item
             Area::Master => number_item(1, 2, len, body),
         },
         2 => match area {
-            Area::Journal => commit_item(len, body),
+            Area::Journal => commit_item(Form::Plain, len, body),
             Area::Master => number_item(2, 2, len, body),
         },
         3 => match area {
@@ -158,12 +209,16 @@ pub fn read(area: Area, bytes: &[u8]) -> Item
             Area::Master => number_item(3, 8, len, body),
         },
         4 => match area {
-            Area::Journal => Item::Damaged,
+            Area::Journal => commit_item(Form::Signed, len, body),
             Area::Master => number_item(4, 8, len, body),
         },
         5 => match area {
             Area::Journal => Item::Damaged,
             Area::Master => number_item(5, 8, len, body),
+        },
+        6 => match area {
+            Area::Journal => Item::Damaged,
+            Area::Master => number_item(6, 2, len, body),
         },
         _ => Item::Damaged,
     }

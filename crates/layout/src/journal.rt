@@ -2,11 +2,10 @@
 ghost use Rattle.std.specs.Prelude.{◌≡◌, ◌+◌, ◌≤◌, ◌<◌, length};
 ghost use Rattle.fields.specs.Field.{enc};
 ghost use Rattle.fields.specs.Part.{splice};
-ghost use Rattle.layout.specs.Item.{bytes_of};
-ghost use Rattle.layout.specs.Journal.{version, commit, version_body, sequence_of, used_of, empty_block, add_record, used_form};
-ghost use Rattle.layout.specs.Table.{pair_bytes};
+ghost use Rattle.layout.specs.Item.{bytes_of, user_bytes_of};
+ghost use Rattle.layout.specs.Journal.{version, commit, version_body, commit_body, sequence_of, used_of, empty_block, add_record, used_form};
 
-use crate::item::{Pair, VersionHead};
+use crate::item::{CommitHead, VersionHead};
 
 // The sequence of a block.
 pub fn sequence(block: &[u8]) -> u64
@@ -59,13 +58,24 @@ fn write_version(body: &mut [u8], head: VersionHead, value: &[u8])
     fields::block::copy(&mut body[a..a + 16], value);
 }
 
-// Writes the body of a commit record.
-fn write_commit(body: &mut [u8], pair: Pair)
-    requires { length body.old ≡ 16 }
-    ensures { body.new ≡ pair_bytes pair }
+// Writes a user of n bytes behind the time of a commit record.
+fn write_user(body: &mut [u8], n: usize, user: u32)
+    requires { 16 + n ≤ length body.old }
+    ensures { body.new ≡ splice body.old 16 (enc n user) }
 {
-    fields::field::put8(body, 0, pair.number.0);
-    fields::field::put8(body, 8, pair.time.0);
+    fields::field::put(&mut body[16..16 + n], user as u64);
+}
+
+// Writes the body of a commit record.
+fn write_commit(body: &mut [u8], head: CommitHead)
+    requires { length body.old ≡ 16 + user_bytes_of head.form }
+    ensures { body.new ≡ commit_body head }
+{
+    let form = head.form;
+    let n = crate::item::user_bytes(form);
+    fields::field::put8(body, 0, head.number.0);
+    fields::field::put8(body, 8, head.time.0);
+    write_user(body, n, head.user);
 }
 
 // Puts a version record behind the used bytes.
@@ -86,17 +96,19 @@ pub fn add_version(block: &mut [u8], head: VersionHead, value: &[u8])
 }
 
 // Puts a commit record behind the used bytes.
-pub fn add_commit(block: &mut [u8], pair: Pair)
+pub fn add_commit(block: &mut [u8], head: CommitHead)
     requires block_len { length block.old ≡ 512 }
-    requires bound { (10 ≤ used_of block.old) × (used_of block.old + 19 ≤ 512) }
-    ensures { block.new ≡ add_record block.old (commit pair) }
+    requires bound { (10 ≤ used_of block.old) × (used_of block.old + 19 + user_bytes_of head.form ≤ 512) }
+    ensures { block.new ≡ add_record block.old (commit head) }
 {
     let at = used(block) as usize;
-    block[at] = 2;
-    fields::field::put2(block, at + 1, 16);
+    let form = head.form;
+    let size = 16 + crate::item::user_bytes(form);
+    block[at] = crate::item::commit_tag(form);
+    fields::field::put2(block, at + 1, size as u64);
     let a = at + 3;
-    write_commit(&mut block[a..a + 16], pair);
-    fields::field::put2(block, 8, (at + 19) as u64);
+    write_commit(&mut block[a..a + size], head);
+    fields::field::put2(block, 8, (a + size) as u64);
 }
 
 // Are the used bytes in range, and zeros behind them?

@@ -1,8 +1,9 @@
-// The bytes of the medium: fields, slots, pages, log records and blocks, the pair table and the master.
+// The bytes of the medium: fields, slots, pages, log records and blocks, the pair table, the user lines and the master.
 #![tactic(auto)]
 
 pub mod item;
 pub mod journal;
+pub mod line;
 pub mod master;
 pub mod page;
 pub mod place;

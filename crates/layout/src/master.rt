@@ -1,19 +1,20 @@
-// The master: five fields, then zeros.
+// The master: five fields, the area's where there is one, then zeros.
 ghost use Rattle.std.specs.Prelude.{◌≡◌, ◌+◌, ◌≤◌, length};
 ghost use Rattle.fields.specs.Part.{splice};
 ghost use Rattle.fields.specs.Field.{enc};
 ghost use Rattle.layout.specs.Item.{item_bytes};
-ghost use Rattle.layout.specs.Master.{master_bytes, field_of, master_of, oldest_on};
+ghost use Rattle.layout.specs.Master.{master_bytes, field_of, area_of, master_of, oldest_on};
 
 use crate::item::{Area, Item};
 use crate::{CommitTime, TxNumber};
 
-// The master's numbers: log blocks (L), pages (D), the oldest log block's sequence, the next transaction number and
-// the last stored commit time.
+// The master's numbers: log blocks (L), pages (D), the blocks of the area of user lines (A), the oldest log block's
+// sequence, the next transaction number and the last stored commit time.
 #[derive(Clone, Copy)]
 pub struct Fields {
     pub blocks: u64,
     pub pages: u64,
+    pub area: u64,
     pub oldest: u64,
     pub next: TxNumber,
     pub last: CommitTime,
@@ -51,6 +52,23 @@ fn field(tag: u8, bytes: &[u8]) -> Value
     }
 }
 
+// A, by the bytes behind the five fields: five zeros, or the area's field.
+fn area(bytes: &[u8]) -> Value
+    requires { 5 ≤ length bytes.now }
+    ensures { result ≡ area_of bytes.now }
+{
+    if fields::block::all_zero(&bytes[..5]) {
+        return Value::Of(0);
+    }
+    let Value::Of(n) = field(6, bytes) else {
+        return Value::Missing;
+    };
+    if n == 0 {
+        return Value::Missing;
+    }
+    Value::Of(n)
+}
+
 // The master's fields, or that the block is no master.
 pub fn read(block: &[u8]) -> Found
     requires { length block.now ≡ 512 }
@@ -71,12 +89,16 @@ pub fn read(block: &[u8]) -> Found
     let Value::Of(t) = field(5, &block[32..]) else {
         return Found::Broken;
     };
-    if !fields::block::all_zero(&block[43..]) {
+    let Value::Of(a) = area(&block[43..]) else {
+        return Found::Broken;
+    };
+    if !fields::block::all_zero(&block[48..]) {
         return Found::Broken;
     }
     Found::Whole(Fields {
         blocks: l,
         pages: d,
+        area: a,
         oldest: o,
         next: TxNumber(n),
         last: CommitTime(t),
@@ -114,6 +136,9 @@ pub fn write(block: &mut [u8], f: Fields)
     put_long(block, 10, 3, f.oldest);
     put_long(block, 21, 4, f.next.0);
     put_long(block, 32, 5, f.last.0);
+    if f.area != 0 {
+        put_short(block, 43, 6, f.area);
+    }
 }
 
 // The oldest log block's sequence, by its place alone.

@@ -1,6 +1,6 @@
 // Where things lie.
 ghost use Rattle.std.specs.Prelude.{◌≡◌, ◌+◌, ◌≤◌, ◌<◌, ◌*◌, ◌^◌};
-ghost use Rattle.fields.specs.Block.{log_block_at, page_block_at, medium_length, cache_length, page_of, slot_in, slot_at, end_place, block_of_end};
+ghost use Rattle.fields.specs.Block.{log_block_at, page_block_at, area_block_at, medium_length, cache_length, page_of, slot_in, slot_at, end_place, block_of_end};
 
 use crate::EndPlace;
 
@@ -20,12 +20,20 @@ pub fn page_block(blocks: u64, page: u64) -> usize
     (3 + blocks + page) as usize
 }
 
-// The length of a medium.
-pub fn medium_length(blocks: u64, pages: u64) -> usize
-    requires { (blocks ≤ 32) × (pages ≤ 64) }
-    ensures { result ≡ medium_length blocks pages }
+// The block of a block of the area.
+pub fn area_block(blocks: u64, pages: u64, i: u64) -> usize
+    requires { (blocks ≤ 32) × (pages ≤ 64) × (i ≤ 16) }
+    ensures { result ≡ area_block_at blocks pages i }
 {
-    (512 * (3 + blocks + pages)) as usize
+    (3 + blocks + pages + i) as usize
+}
+
+// The length of a medium.
+pub fn medium_length(blocks: u64, pages: u64, area: u64) -> usize
+    requires { (blocks ≤ 32) × (pages ≤ 64) × (area ≤ 16) }
+    ensures { result ≡ medium_length blocks pages area }
+{
+    (512 * (3 + blocks + pages + area)) as usize
 }
 
 // The length of a cache.

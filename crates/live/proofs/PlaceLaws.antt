@@ -1,17 +1,19 @@
 -- A place is read from five words: what the questions about it ask of these words, and which place the words give once some
 -- of them are set. By the cases of its kind. Assumes nothing.
 use mathlib.Core.Path.{◌≡◌, refl, sym, ap, ◌∙◌}
-use mathlib.Core.Bool.{Bool, true, false, cond, false≢true}
+use mathlib.Core.Bool.{Bool, true, false, cond, ◌&&◌, false≢true}
 use mathlib.Core.List.{List}
 use Prim.Native.Nat.{ℕ, ◌+◌, ◌<◌}
+use native.Mathlib.Omega.{arith}
 use lib.ListN.{get_or}
-use lib.Dec.{eqb}
-use borrow.Author.Tests.{eq-eqb, ne_eqb, eqb-true}
+use lib.Dec.{eqb, ltb}
+use borrow.Author.Tests.{eq-eqb, ne_eqb, eqb-true, lt-ltb}
 use Rattle.store.specs.declared.Life.{Life}
 use Rattle.store.specs.declared.Life.TheVariants.{Free, Active, Committed}
 use Rattle.store.specs.declared.Place.{Place}
 use Rattle.store.specs.declared.Timing.TheVariants.{Timed, Untimed}
-use Rattle.store.specs.Places.{place_at, active_as, committed_as, time_of}
+use Rattle.store.specs.declared.Area.{Area}
+use Rattle.store.specs.Places.{place_at, active_as, committed_as, time_of, misses_line}
 use Rattle.memory.specs.Memory.{life_by, place_in, places_of}
 use Rattle.memory.proofs.ColumnLaws.{place_at_law}
 
@@ -79,3 +81,29 @@ module _ (w : List ℕ) (i : ℕ) (h : i < 64) where
       go true b q = absurd (false≢true q)
       go false true q = refl
       go false false q = absurd (false≢true q)
+
+  -- the line of a place that is not committed is not missing; where it is committed, by its end place and time
+  pub misses_not : (a : Area) → (get_or w (128 + i) 0 ≡ 2 → ⊥) → misses_line a (place_at (places_of w) i).life ≡ false
+  misses_not a d = life_at (misses_line a) ∙ simp (ne_eqb _ _ d) (go (eqb (get_or w (128 + i) 0) 1))
+    where
+      go : (b : Bool) → cond b false false ≡ false
+      go true = refl
+      go false = refl
+
+  pub misses_by : (a : Area) → get_or w (128 + i) 0 ≡ 2
+      → misses_line a (place_at (places_of w) i).life ≡ ltb 0 a.blocks && (ltb 0 (get_or w (320 + i) 0) && ltb a.last.0 (get_or w (256 + i) 0))
+  misses_by a e = life_at (misses_line a) ∙ simp e
+
+  pub misses_none_logged : (a : Area) → get_or w (128 + i) 0 ≡ 2 → get_or w (320 + i) 0 ≡ 0 → misses_line a (place_at (places_of w) i).life ≡ false
+  misses_none_logged a e z = misses_by a e ∙ simp z (and_none (ltb 0 a.blocks))
+    where
+      and_none : (b : Bool) → b && false ≡ false
+      and_none true = refl
+      and_none false = refl
+
+  pub misses_timed : (a : Area) → (a.blocks ≡ 0 → ⊥) → get_or w (128 + i) 0 ≡ 2 → (get_or w (320 + i) 0 ≡ 0 → ⊥)
+      → misses_line a (place_at (places_of w) i).life ≡ ltb a.last.0 (get_or w (256 + i) 0)
+  misses_timed a d e z =
+      let p : 0 < a.blocks = omega arith in
+      let q : 0 < get_or w (320 + i) 0 = omega arith in
+      misses_by a e ∙ simp (lt-ltb _ _ p, lt-ltb _ _ q)

@@ -1,17 +1,18 @@
 // The places of live transactions, in the words of the state.
 ghost use Rattle.std.specs.Prelude.{◌≡◌, List, ℕ, ◌<◌, length};
 ghost use Rattle.store.specs.declared.Life.TheVariants.{Active, Committed};
-ghost use Rattle.store.specs.Places.{free_place, place_at, is_free, active_as, committed_as, clock_of, find_active, find_committed, find_free, raised, lowered};
+ghost use Rattle.store.specs.Places.{free_place, place_at, is_free, active_as, committed_as, clock_of, find_active, find_committed, find_free, misses_line, raised, lowered};
+ghost use Rattle.store.specs.Users.{time_in, relined_as};
 ghost use Rattle.store.specs.State.{with_place};
-ghost use Rattle.memory.specs.Memory.{places_of, state_of};
+ghost use Rattle.memory.specs.Memory.{places_of, area_of, state_of};
 
 use layout::{CommitTime, EndPlace, TxNumber};
-use memory::{COUNTS, ENDS, KINDS, NUMBERS, TIMES};
+use memory::{AREA, COUNTS, ENDS, KINDS, LINED, NUMBERS, TIMES, USERS};
 use store::Found;
 
 // Is place i active under the number?
 fn is_active(words: &[u64], i: usize, n: u64) -> bool
-    requires words_len { length words.now ≡ 448 }
+    requires words_len { length words.now ≡ 512 }
     requires i_bound { i < 64 }
     ensures { result ≡ active_as (place_at (places_of words.now) i).life n }
 {
@@ -23,7 +24,7 @@ fn is_active(words: &[u64], i: usize, n: u64) -> bool
 
 // Is it committed under the number?
 fn is_committed(words: &[u64], i: usize, n: u64) -> bool
-    requires words_len { length words.now ≡ 448 }
+    requires words_len { length words.now ≡ 512 }
     requires i_bound { i < 64 }
     ensures { result ≡ committed_as (place_at (places_of words.now) i).life n }
 {
@@ -35,7 +36,7 @@ fn is_committed(words: &[u64], i: usize, n: u64) -> bool
 
 // Is it free?
 fn is_free(words: &[u64], i: usize) -> bool
-    requires words_len { length words.now ≡ 448 }
+    requires words_len { length words.now ≡ 512 }
     requires i_bound { i < 64 }
     ensures { result ≡ is_free (place_at (places_of words.now) i).life }
 {
@@ -47,7 +48,7 @@ fn is_free(words: &[u64], i: usize) -> bool
 
 // The first place that is active under the number.
 pub fn find_active(words: &[u64], n: u64) -> Found
-    requires { length words.now ≡ 448 }
+    requires { length words.now ≡ 512 }
     ensures { result ≡ find_active (places_of words.now) n }
 {
     let mut i: usize = 0;
@@ -62,7 +63,7 @@ pub fn find_active(words: &[u64], n: u64) -> Found
 
 // The first place that is committed under the number.
 pub fn find_committed(words: &[u64], n: u64) -> Found
-    requires { length words.now ≡ 448 }
+    requires { length words.now ≡ 512 }
     ensures { result ≡ find_committed (places_of words.now) n }
 {
     let mut i: usize = 0;
@@ -77,7 +78,7 @@ pub fn find_committed(words: &[u64], n: u64) -> Found
 
 // How far behind `ring` the first free place is, round the ring.
 pub fn find_free(words: &[u64], ring: u64) -> Found
-    requires { length words.now ≡ 448 }
+    requires { length words.now ≡ 512 }
     ensures { result ≡ find_free (places_of words.now) ring }
 {
     let from = ring % 64;
@@ -94,7 +95,7 @@ pub fn find_free(words: &[u64], ring: u64) -> Found
 
 // The clock at begin of the transaction in place i; 0 if none is active there.
 pub fn clock_at(words: &[u64], i: usize) -> u64
-    requires words_len { length words.now ≡ 448 }
+    requires words_len { length words.now ≡ 512 }
     requires i_bound { i < 64 }
     ensures { result ≡ clock_of (place_at (places_of words.now) i).life }
 {
@@ -106,16 +107,40 @@ pub fn clock_at(words: &[u64], i: usize) -> u64
 
 // How many versions of place i wait.
 pub fn waiting_at(words: &[u64], i: usize) -> u64
-    requires words_len { length words.now ≡ 448 }
+    requires words_len { length words.now ≡ 512 }
     requires i_bound { i < 64 }
     ensures { result ≡ (place_at (places_of words.now) i).waiting }
 {
     words[COUNTS + i]
 }
 
+// The commit time of the transaction in place i; 0 if none is committed there.
+pub fn time_at(words: &[u64], i: usize) -> u64
+    requires words_len { length words.now ≡ 512 }
+    requires i_bound { i < 64 }
+    ensures { result ≡ time_in (place_at (places_of words.now) i).life }
+{
+    if words[KINDS + i] == 2 {
+        return words[TIMES + i];
+    }
+    0
+}
+
+// Its user; 0 if none is committed there.
+pub fn user_at(words: &[u64], i: usize) -> u32
+    requires words_len { length words.now ≡ 512 }
+    requires i_bound { i < 64 }
+    ensures { result ≡ (place_at (places_of words.now) i).user }
+{
+    if words[KINDS + i] == 2 {
+        return (words[USERS + i] % 4294967296) as u32;
+    }
+    0
+}
+
 // Makes place i free.
 pub fn free(words: &mut [u64], i: usize)
-    requires words_len { length words.old ≡ 448 }
+    requires words_len { length words.old ≡ 512 }
     requires i_bound { i < 64 }
     ensures { (tail : List ℕ) → state_of words.new tail ≡ with_place (state_of words.old tail) i free_place }
 {
@@ -125,9 +150,9 @@ pub fn free(words: &mut [u64], i: usize)
 
 // Puts an active transaction without versions into place i.
 pub fn put_active(words: &mut [u64], i: usize, number: TxNumber, clock: u64)
-    requires words_len { length words.old ≡ 448 }
+    requires words_len { length words.old ≡ 512 }
     requires i_bound { i < 64 }
-    ensures { (tail : List ℕ) → state_of words.new tail ≡ with_place (state_of words.old tail) i (record { life = Active number clock; waiting = 0 }) }
+    ensures { (tail : List ℕ) → state_of words.new tail ≡ with_place (state_of words.old tail) i (record { life = Active number clock; waiting = 0; user = 0 }) }
 {
     words[KINDS + i] = 1;
     words[NUMBERS + i] = number.0;
@@ -136,20 +161,28 @@ pub fn put_active(words: &mut [u64], i: usize, number: TxNumber, clock: u64)
 }
 
 // Makes the transaction in place i a committed one.
-pub fn put_committed(words: &mut [u64], i: usize, number: TxNumber, time: CommitTime, end: EndPlace)
-    requires words_len { length words.old ≡ 448 }
+pub fn put_committed(
+    words: &mut [u64],
+    i: usize,
+    number: TxNumber,
+    time: CommitTime,
+    end: EndPlace,
+    user: u32,
+)
+    requires words_len { length words.old ≡ 512 }
     requires i_bound { i < 64 }
-    ensures { (tail : List ℕ) → state_of words.new tail ≡ with_place (state_of words.old tail) i (record { life = Committed number time end; waiting = (place_at (places_of words.old) i).waiting }) }
+    ensures { (tail : List ℕ) → state_of words.new tail ≡ with_place (state_of words.old tail) i (record { life = Committed number time end; waiting = (place_at (places_of words.old) i).waiting; user = user }) }
 {
     words[KINDS + i] = 2;
     words[NUMBERS + i] = number.0;
     words[TIMES + i] = time.0;
     words[ENDS + i] = end.0;
+    words[USERS + i] = user as u64;
 }
 
 // One waiting version more; a count that a foreign state could overflow stays at the highest.
 pub fn raise(words: &mut [u64], i: usize)
-    requires words_len { length words.old ≡ 448 }
+    requires words_len { length words.old ≡ 512 }
     requires i_bound { i < 64 }
     ensures { (tail : List ℕ) → state_of words.new tail ≡ with_place (state_of words.old tail) i (raised (place_at (places_of words.old) i)) }
 {
@@ -160,16 +193,56 @@ pub fn raise(words: &mut [u64], i: usize)
     words[COUNTS + i] = w + 1;
 }
 
-// One waiting version less; at none the place is free.
-pub fn lower(words: &mut [u64], i: usize)
-    requires words_len { length words.old ≡ 448 }
+// Is the line of the transaction in place i missing?
+pub fn misses_line(words: &[u64], i: usize) -> bool
+    requires words_len { length words.now ≡ 512 }
     requires i_bound { i < 64 }
-    ensures { (tail : List ℕ) → state_of words.new tail ≡ with_place (state_of words.old tail) i (lowered (place_at (places_of words.old) i)) }
+    ensures { result ≡ misses_line (area_of words.now) (place_at (places_of words.now) i).life }
+{
+    if words[AREA] == 0 {
+        return false;
+    }
+    if words[KINDS + i] != 2 {
+        return false;
+    }
+    if words[ENDS + i] == 0 {
+        return false;
+    }
+    words[LINED] < words[TIMES + i]
+}
+
+// One waiting version less; at none the place is free, unless its line is missing.
+pub fn lower(words: &mut [u64], i: usize)
+    requires words_len { length words.old ≡ 512 }
+    requires i_bound { i < 64 }
+    ensures { (tail : List ℕ) → state_of words.new tail ≡ with_place (state_of words.old tail) i (lowered (area_of words.old) (place_at (places_of words.old) i)) }
 {
     let w = words[COUNTS + i];
     if w <= 1 {
+        if misses_line(words, i) {
+            words[COUNTS + i] = 0;
+            return;
+        }
         free(words, i);
         return;
     }
     words[COUNTS + i] = w - 1;
+}
+
+// Makes place i free if lines that are stored now leave it committed with no waiting version and no missing line.
+pub fn reline(words: &mut [u64], i: usize)
+    requires words_len { length words.old ≡ 512 }
+    requires i_bound { i < 64 }
+    ensures { (tail : List ℕ) → state_of words.new tail ≡ with_place (state_of words.old tail) i (relined_as (place_at (places_of words.old) i).life (area_of words.old) (place_at (places_of words.old) i)) }
+{
+    if words[KINDS + i] != 2 {
+        return;
+    }
+    if words[COUNTS + i] != 0 {
+        return;
+    }
+    if misses_line(words, i) {
+        return;
+    }
+    free(words, i);
 }

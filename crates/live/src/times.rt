@@ -9,7 +9,7 @@ use store::{Found, Timing};
 
 // The commit time of a number by its place.
 pub fn time_under(words: &[u64], n: u64) -> Timing
-    requires { length words.now ≡ 448 }
+    requires { length words.now ≡ 512 }
     ensures { result ≡ time_under (places_of words.now) n }
 {
     let f = crate::places::find_committed(words, n);

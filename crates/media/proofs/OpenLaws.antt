@@ -18,12 +18,12 @@ use Rattle.store.specs.OpenLog.{last_time}
 use Rattle.store.specs.OpenConditions.{well_formed, redone}
 use Rattle.store.specs.Open.{opened_state, refused_cache, open_if, open_of}
 use Rattle.store.proofs.FitLaws.{InRange, range_of}
-use Rattle.memory.specs.Memory.{life_by, place_in, listed, places_of, first_of, phase_by, state_by, state_of, blank}
+use Rattle.memory.specs.Memory.{life_by, user_by, place_in, listed, places_of, first_of, phase_by, state_by, state_of, blank}
 use Rattle.conditions.specs.Cursor.{Ready}
 
 -- words and tail of zeros hold the state of zeros
 pub cleared : (w t : List ℕ) → w ≡ blank → t ≡ zeros 512 → state_of w t ≡ no_state
-unfolding no_state state_of state_by first_of places_of listed place_in life_by phase_by blank
+unfolding no_state state_of state_by first_of places_of listed place_in life_by user_by phase_by blank
 cleared w t e f = ap (λ (x : List ℕ). state_of x t) e ∙ ap (state_of blank) f
 
 -- a refusal with it
@@ -31,25 +31,25 @@ pub refused_is : (m c : List ℕ) (s : State) (why : Refusal) → s ≡ no_state
 refused_is m c s why e = rw e
 
 -- t is what was found of the sizes
-module _ (m c : List ℕ) (l d : ℕ) (t : Bool) (sizes : t ≡ in_range l d && eqb (length m) (medium_length l d)) where
-  pub bad_sizes : t ≡ false → refuses BadSizes no_state m c ≡ open_of m c l d
+module _ (m c : List ℕ) (l d a : ℕ) (t : Bool) (sizes : t ≡ in_range l d a && eqb (length m) (medium_length l d a)) where
+  pub bad_sizes : t ≡ false → refuses BadSizes no_state m c ≡ open_of m c l d a
   unfolding open_of open_if refused_cache refusal_number
   bad_sizes e = sym (rw (← sizes, e))
 
   module _ (right : t ≡ true) where
-    sized : in_range l d && eqb (length m) (medium_length l d) ≡ true
+    sized : in_range l d a && eqb (length m) (medium_length l d a) ≡ true
     sized = sym sizes ∙ right
 
-    pub range : InRange l d
-    range = range_of l d (and_0 (in_range l d) (eqb (length m) (medium_length l d)) sized)
+    pub range : InRange l d a
+    range = range_of l d a (and_0 (in_range l d a) (eqb (length m) (medium_length l d a)) sized)
 
-    pub medium_is : length m ≡ medium_length l d
-    medium_is = eqb-true (length m) (medium_length l d) (and_1 (in_range l d) (eqb (length m) (medium_length l d)) sized)
+    pub medium_is : length m ≡ medium_length l d a
+    medium_is = eqb-true (length m) (medium_length l d a) (and_1 (in_range l d a) (eqb (length m) (medium_length l d a)) sized)
 
     pub ready : Ready l (length m)
-    ready = record { low = range.blocks_low; high = range.blocks_high; pages = d; few = range.pages_high; medium = medium_is }
+    ready = record { low = range.blocks_low; high = range.blocks_high; pages = d; few = range.pages_high; area = a; medium = medium_is }
 
-    pub bad_cache : (length c ≡ cache_length d → ⊥) → refuses BadCache no_state m c ≡ open_of m c l d
+    pub bad_cache : (length c ≡ cache_length d → ⊥) → refuses BadCache no_state m c ≡ open_of m c l d a
     unfolding open_of open_if refused_cache refusal_number
     bad_cache n = sym (rw (sized, ne_eqb (length c) (cache_length d) n))
 
@@ -58,11 +58,11 @@ module _ (m c : List ℕ) (l d : ℕ) (t : Bool) (sizes : t ≡ in_range l d && 
       unfolding cache_length
       cache_is = fits
 
-      pub bad_medium : well_formed m l d ≡ false → (z : List ℕ) → z ≡ zeros (length c) → refuses Malformed no_state m z ≡ open_of m c l d
+      pub bad_medium : well_formed m l d a ≡ false → (z : List ℕ) → z ≡ zeros (length c) → refuses Malformed no_state m z ≡ open_of m c l d a
       unfolding open_of open_if refused_cache refusal_number
       bad_medium w z e = sym (rw (sized, eq-eqb (length c) (cache_length d) fits, w, e))
 
-      pub opens : well_formed m l d ≡ true → (s : State) (last : ℕ) (k : List ℕ) → s ≡ opened_state m l d → last ≡ last_time m l → k ≡ (redone m l d).cache
-          → leaves (Opened (record { 0 = last })) s m k ≡ open_of m c l d
+      pub opens : well_formed m l d a ≡ true → (s : State) (last : ℕ) (k : List ℕ) → s ≡ opened_state m l d a → last ≡ last_time m l → k ≡ (redone m l d).cache
+          → leaves (Opened (record { 0 = last })) s m k ≡ open_of m c l d a
       unfolding open_of open_if
       opens w s last k e f g = sym (rw (sized, eq-eqb (length c) (cache_length d) fits, w, e, f, g))

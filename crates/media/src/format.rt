@@ -8,20 +8,20 @@ use layout::master::Fields;
 use layout::{CommitTime, TxNumber};
 use store::{Answer, Refusal};
 
-// Are L and D in range, and is the medium's length right?
-pub(crate) fn sizes_fit(medium: usize, blocks: u64, pages: u64) -> bool
-    ensures { result ≡ (in_range blocks pages && eqb medium (medium_length blocks pages)) }
+// Are L, D and A in range, and is the medium's length right?
+pub(crate) fn sizes_fit(medium: usize, blocks: u64, pages: u64, area: u64) -> bool
+    ensures { result ≡ (in_range blocks pages area && eqb medium (medium_length blocks pages area)) }
 {
-    if !memory::fit::in_range(blocks, pages) {
+    if !memory::fit::in_range(blocks, pages, area) {
         return false;
     }
-    medium == layout::place::medium_length(blocks, pages)
+    medium == layout::place::medium_length(blocks, pages, area)
 }
 
 // A fresh master, and zeros in all other blocks.
-fn lay(medium: &mut [u8], blocks: u64, pages: u64)
-    requires { length medium.old ≡ medium_length blocks pages }
-    ensures { medium.new ≡ fresh_medium blocks pages }
+fn lay(medium: &mut [u8], blocks: u64, pages: u64, area: u64)
+    requires { length medium.old ≡ medium_length blocks pages area }
+    ensures { medium.new ≡ fresh_medium blocks pages area }
 {
     fields::block::clear(medium);
     layout::master::write(
@@ -29,6 +29,7 @@ fn lay(medium: &mut [u8], blocks: u64, pages: u64)
         Fields {
             blocks: blocks,
             pages: pages,
+            area: area,
             oldest: 1,
             next: TxNumber(1),
             last: CommitTime(0),
@@ -36,12 +37,12 @@ fn lay(medium: &mut [u8], blocks: u64, pages: u64)
     );
 }
 
-pub fn format(medium: &mut [u8], blocks: u64, pages: u64) -> Answer
-    ensures { record { answer = result; medium = medium.new } ≡ format_of medium.old blocks pages }
+pub fn format(medium: &mut [u8], blocks: u64, pages: u64, area: u64) -> Answer
+    ensures { record { answer = result; medium = medium.new } ≡ format_of medium.old blocks pages area }
 {
-    if !sizes_fit(medium.len(), blocks, pages) {
+    if !sizes_fit(medium.len(), blocks, pages, area) {
         return Answer::Refused(Refusal::BadSizes);
     }
-    lay(medium, blocks, pages);
+    lay(medium, blocks, pages, area);
     Answer::Done
 }

@@ -1,4 +1,4 @@
--- Words that are set in one column of rows 2 to 6 change one place: another place is read from other columns, and nothing
+-- Words that are set in one column of rows 2 to 7 change one place: another place is read from other columns, and nothing
 -- else of the state from these rows. Assumes nothing.
 use mathlib.Core.Path.{◌≡◌, refl, sym, ap, ◌∙◌}
 use mathlib.Core.Bool.{Bool, true, false}
@@ -64,6 +64,7 @@ apart {w} {v} {i} c h j g d =
       c.other (256 + j) (λ e. d (omega arith)),
       c.other (320 + j) (λ e. d (omega arith)),
       c.other (384 + j) (λ e. d (omega arith)),
+      c.other (448 + j) (λ e. d (omega arith)),
     )
 
 places_column : {w v : List ℕ} {i : ℕ} → Column w v i → i < 64 → places_of v ≡ set (places_of w) i (place_in v i)

@@ -11,7 +11,7 @@ use lib.Dec.{eqb}
 use borrow.Author.Tests.{eqb-true, eqb-false}
 use Rattle.fields.specs.Part.{part}
 use Rattle.store.specs.declared.Place.{Place}
-use Rattle.memory.specs.With.{with_slots, with_next, with_last, with_saved, with_end, with_ring}
+use Rattle.memory.specs.With.{with_slots, with_next, with_last, with_saved, with_end, with_ring, with_area}
 use Rattle.memory.specs.Memory.{place_in, listed, places_of, first_of, state_by, state_of, with_first}
 
 pub number_set : (w : List ℕ) (k j v : ℕ) → k < length w → get_or (set w k v) j 0 ≡ cond (eqb j k) v (get_or w j 0)
@@ -31,7 +31,7 @@ places_kept w k v h = ap (λ (f : ℕ → Place). listed f 0 64) (fun_ext same)
     other j g = get_or-set_other w k j v 0 (λ e. omega arith)
 
     same : (i : ℕ) → place_in (set w k v) i ≡ place_in w i
-    same i = simp (other (128 + i) (omega arith), other (192 + i) (omega arith), other (256 + i) (omega arith), other (320 + i) (omega arith), other (384 + i) (omega arith))
+    same i = simp (other (128 + i) (omega arith), other (192 + i) (omega arith), other (256 + i) (omega arith), other (320 + i) (omega arith), other (384 + i) (omega arith), other (448 + i) (omega arith))
 
 -- ---- the first changes are row 1
 
@@ -53,13 +53,13 @@ pub first_set : (w : List ℕ) (p v : ℕ) → p < 64 → first_of (set w (64 + 
 unfolding first_of
 first_set w p v h = rw (drop-set-add 64 w p v) (take-set-lt 64 (drop 64 w) p v h)
 
--- ---- the state takes eleven numbers
+-- ---- the state takes fourteen numbers
 
-pub numbers_same : (n m : ℕ → ℕ) (first : List ℕ) (ps : List Place) (tail : List ℕ) → ((j : ℕ) → j < 11 → n j ≡ m j)
+pub numbers_same : (n m : ℕ → ℕ) (first : List ℕ) (ps : List Place) (tail : List ℕ) → ((j : ℕ) → j < 14 → n j ≡ m j)
     → state_by n first ps tail ≡ state_by m first ps tail
 unfolding state_by
 numbers_same n m first ps tail f =
-    let at : (j : ℕ) → j < 11 → n j ≡ m j = f in
+    let at : (j : ℕ) → j < 14 → n j ≡ m j = f in
     simp (
       at 0 (omega arith),
       at 1 (omega arith),
@@ -72,10 +72,13 @@ numbers_same n m first ps tail f =
       at 8 (omega arith),
       at 9 (omega arith),
       at 10 (omega arith),
+      at 11 (omega arith),
+      at 12 (omega arith),
+      at 13 (omega arith),
     )
 
 -- a number set: with a numeral for k the right side computes to the state with that field changed
-pub state_number : (w tail : List ℕ) (k v : ℕ) → k < 64 → length w ≡ 448
+pub state_number : (w tail : List ℕ) (k v : ℕ) → k < 64 → length w ≡ 512
     → state_of (set w k v) tail ≡ state_by (λ j. cond (eqb j k) v (get_or w j 0)) (first_of w) (places_of w) tail
 unfolding state_of
 state_number w tail k v h len =
@@ -92,7 +95,7 @@ state_first w tail p v h =
 
 -- ---- each number by its name
 
-module _ (w tail : List ℕ) (v : ℕ) (len : length w ≡ 448) where
+module _ (w tail : List ℕ) (v : ℕ) (len : length w ≡ 512) where
   pub set_slots : state_of (set w 2 v) tail ≡ with_slots (state_of w tail) v
   unfolding state_of state_by with_slots
   set_slots = state_number w tail 2 v (omega arith) len
@@ -116,3 +119,12 @@ module _ (w tail : List ℕ) (v : ℕ) (len : length w ≡ 448) where
   pub set_ring : state_of (set w 7 v) tail ≡ with_ring (state_of w tail) v
   unfolding state_of state_by with_ring
   set_ring = state_number w tail 7 v (omega arith) len
+
+  -- a line more in the area: how many there are, then the last one's time
+  pub set_lines : state_of (set w 12 v) tail ≡ with_area (state_of w tail) (record { blocks = get_or w 11 0; lines = v; last = record { 0 = get_or w 13 0 } })
+  unfolding state_of state_by with_area
+  set_lines = state_number w tail 12 v (omega arith) len
+
+  pub set_line : state_of (set w 13 v) tail ≡ with_area (state_of w tail) (record { blocks = get_or w 11 0; lines = get_or w 12 0; last = record { 0 = v } })
+  unfolding state_of state_by with_area
+  set_line = state_number w tail 13 v (omega arith) len

@@ -1,12 +1,14 @@
--- The state as a caller lends it to a call: 448 words, seven rows of 64, and the tail block. Row 0 has the numbers of the
--- state, row 1 the first changes of the pages, rows 2 to 6 the places: kind, number, time, end place, waiting versions.
-use Rattle.std.specs.Prelude.{ℕ, zero, suc, ◌+◌, cond, List, [], ◌∷◌, get_or, replicate, eqb}
+-- The state as a caller lends it to a call: 512 words, eight rows of 64, and the tail block. Row 0 has the numbers of the
+-- state, row 1 the first changes of the pages, rows 2 to 7 the places: kind, number, time, end place, waiting versions, user.
+-- Any words are a state.
+use Rattle.std.specs.Prelude.{ℕ, zero, suc, ◌+◌, ◌%◌, ◌^◌, cond, List, [], ◌∷◌, get_or, replicate, eqb}
 use Rattle.fields.specs.Part.{part}
 use Rattle.store.specs.declared.Life.{Life}
 use Rattle.store.specs.declared.Life.TheVariants.{Free, Active, Committed}
 use Rattle.store.specs.declared.Place.{Place}
+use Rattle.store.specs.declared.Area.{Area}
 use Rattle.store.specs.declared.Phase.{Phase}
-use Rattle.store.specs.declared.Phase.TheVariants.{Idle, FirstStored, SecondStored}
+use Rattle.store.specs.declared.Phase.TheVariants.{Idle, LinesStored, FirstStored, SecondStored}
 use Rattle.store.specs.declared.State.{State}
 
 -- a place by its kind: 1 active, with its clock as the time, 2 committed, any other free
@@ -15,11 +17,16 @@ life_by kind n t e =
     cond (eqb kind 1) (Active (record { 0 = n }) t)
     (cond (eqb kind 2) (Committed (record { 0 = n }) (record { 0 = t }) (record { 0 = e })) Free)
 
+-- the user of a committed place, below 2^32; 0 for another
+unfoldable pub user_by : ℕ → ℕ → ℕ
+user_by kind u = cond (eqb kind 2) (u % 2 ^ 32) 0
+
 -- place i: a word of each of its rows
 unfoldable pub place_in : List ℕ → ℕ → Place
 place_in w i = record {
   life = life_by (get_or w (128 + i) 0) (get_or w (192 + i) 0) (get_or w (256 + i) 0) (get_or w (320 + i) 0);
   waiting = get_or w (384 + i) 0;
+  user = user_by (get_or w (128 + i) 0) (get_or w (448 + i) 0);
 }
 
 -- what f says of the k numbers from i on
@@ -33,16 +40,24 @@ places_of w = listed (place_in w) 0 64
 unfoldable pub first_of : List ℕ → List ℕ
 first_of w = part w 64 64
 
--- a checkpoint under way by its kind: 1 after its first store, 2 after its second, any other none
+-- a checkpoint under way by its kind: 1 after the store of table block 1, 2 after that of block 2, 3 after that of a block of
+-- user lines, any other none
 unfoldable pub phase_by : ℕ → ℕ → ℕ → Phase
 phase_by kind o t =
-    cond (eqb kind 1) (FirstStored o (record { 0 = t })) (cond (eqb kind 2) (SecondStored o (record { 0 = t })) Idle)
+    cond (eqb kind 1) (FirstStored o (record { 0 = t }))
+    (cond (eqb kind 2) (SecondStored o (record { 0 = t }))
+    (cond (eqb kind 3) (LinesStored o (record { 0 = t })) Idle))
+
+-- the area of user lines: A, the lines, and the time of the last one
+abbrev pub area_of : List ℕ → Area
+area_of w = record { blocks = get_or w 11 0; lines = get_or w 12 0; last = record { 0 = get_or w 13 0 } }
 
 -- the state with the numbers that n gives
 unfoldable pub state_by : (ℕ → ℕ) → List ℕ → List Place → List ℕ → State
 state_by n first ps tail = record {
   blocks = n 0;
   pages = n 1;
+  area = record { blocks = n 11; lines = n 12; last = record { 0 = n 13 } };
   slots = n 2;
   next = record { 0 = n 3 };
   last = record { 0 = n 4 };
@@ -61,13 +76,14 @@ state_of w tail = state_by (λ k. get_or w k 0) (first_of w) (places_of w) tail
 
 -- words of zeros: the state of zeros, with a tail of zeros
 unfoldable pub blank : List ℕ
-blank = replicate 448 0
+blank = replicate 512 0
 
 -- the state with other first changes
 unfoldable pub with_first : State → List ℕ → State
 with_first s first = record {
   blocks = s.blocks;
   pages = s.pages;
+  area = s.area;
   slots = s.slots;
   next = s.next;
   last = s.last;
@@ -85,6 +101,7 @@ unfoldable pub with_places : State → List Place → State
 with_places s ps = record {
   blocks = s.blocks;
   pages = s.pages;
+  area = s.area;
   slots = s.slots;
   next = s.next;
   last = s.last;

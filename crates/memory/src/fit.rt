@@ -4,11 +4,11 @@ ghost use Rattle.store.specs.State.{in_range, fits};
 ghost use Rattle.memory.specs.Memory.{state_of};
 ghost use Rattle.memory.specs.Tail.{tail_in_range};
 
-use crate::{BLOCKS, PAGES, SLOTS};
+use crate::{AREA, BLOCKS, PAGES, SLOTS};
 
-// Are L and D in range?
-pub fn in_range(blocks: u64, pages: u64) -> bool
-    ensures { result ≡ in_range blocks pages }
+// Are L, D and A in range?
+pub fn in_range(blocks: u64, pages: u64, area: u64) -> bool
+    ensures { result ≡ in_range blocks pages area }
 {
     if blocks < 2 {
         return false;
@@ -19,7 +19,10 @@ pub fn in_range(blocks: u64, pages: u64) -> bool
     if pages < 1 {
         return false;
     }
-    pages <= 64
+    if 64 < pages {
+        return false;
+    }
+    area <= 16
 }
 
 // Are the tail's used bytes and its sequence in range?
@@ -43,15 +46,16 @@ fn tail_fits(tail: &[u8]) -> bool
 
 // Do the state and the buffers fit?
 pub fn is_fit(words: &[u64], tail: &[u8], medium: usize, cache: usize) -> bool
-    requires { (length words.now ≡ 448) × (length tail.now ≡ 512) }
+    requires { (length words.now ≡ 512) × (length tail.now ≡ 512) }
     ensures { result ≡ fits (state_of words.now tail.now) medium cache }
 {
     let blocks = words[BLOCKS];
     let pages = words[PAGES];
-    if !in_range(blocks, pages) {
+    let area = words[AREA];
+    if !in_range(blocks, pages, area) {
         return false;
     }
-    if medium != layout::place::medium_length(blocks, pages) {
+    if medium != layout::place::medium_length(blocks, pages, area) {
         return false;
     }
     if cache != layout::place::cache_length(pages) {

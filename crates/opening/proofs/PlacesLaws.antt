@@ -1,10 +1,10 @@
 -- The places that table and log give: how many slots wait under a number, the table's places one after the other, and
 -- the log's: leaving a number out when its turn comes is leaving it out of the list. Assumes nothing.
 use mathlib.Core.Path.{◌≡◌, refl, sym, ap, ◌∙◌}
-use mathlib.Core.Bool.{Bool, true, false, cond, not, ◌&&◌, and-true, false≢true}
-use mathlib.Core.Option.{Option}
+use mathlib.Core.Bool.{Bool, true, false, cond, not, ◌&&◌, ◌||◌, and-true, false≢true}
+use mathlib.Core.Option.{Option, some}
 use mathlib.Core.List.{List, [], ◌∷◌}
-use Prim.Native.Nat.{ℕ, zero, suc, ◌+◌, ◌%◌, ◌≤◌, ◌<◌}
+use Prim.Native.Nat.{ℕ, zero, suc, ◌+◌, ◌%◌, ◌≤◌, ◌<◌, ◌^◌}
 use native.Mathlib.Numerals.{add-one}
 use native.Mathlib.Omega.{arith}
 use native.Mathlib.Decide.{ℕ_discrete, dec_lt}
@@ -13,6 +13,7 @@ use lib.Seq.{get_or-set_same, get_or-set_other, set-get_or, set-set, ext_get_or,
 use lib.Dec.{eqb, ltb}
 use borrow.Author.Tests.{lt-ltb, le-ltb, ltb-true, ltb-false, eq-eqb, ne_eqb, eqb-true, eqb-false}
 use Rattle.layout.specs.Table.{table_pair}
+use Rattle.layout.specs.declared.TxNumber.{TxNumber}
 use Rattle.layout.specs.declared.CommitTime.{CommitTime}
 use Rattle.layout.specs.declared.EndPlace.{EndPlace}
 use Rattle.layout.specs.declared.item.Pair.{Pair}
@@ -20,6 +21,7 @@ use Rattle.layout.specs.declared.slot.Slot.{Slot}
 use Rattle.layout.specs.declared.slot.Slot.TheVariants.{Empty, Waiting, Stamped}
 use Rattle.fields.proofs.Choose.{cond_elim}
 use Rattle.store.specs.declared.Place.{Place}
+use Rattle.store.specs.declared.Area.{Area}
 use Rattle.store.specs.declared.State.{State}
 use Rattle.store.specs.State.{with_place}
 use Rattle.memory.specs.Memory.{listed, places_of, state_by, state_of, with_places}
@@ -28,20 +30,20 @@ use Rattle.live.proofs.SetLaws.{state_count}
 use Rattle.store.specs.declared.Life.TheVariants.{Committed}
 use Rattle.store.specs.declared.Found.{Found as Finding}
 use Rattle.store.specs.declared.Found.TheVariants.{At, Nothing}
-use Rattle.store.specs.Places.{first, is_at, is_free, place_at, free_place, ring_place, find_free}
+use Rattle.store.specs.Places.{first, is_at, is_free, place_at, free_place, ring_place, find_free, misses_line}
 use Rattle.store.specs.Chain.{cell_at, is_timed}
-use Rattle.store.specs.OpenLog.{Placed, Commitment, commit_under}
-use Rattle.store.specs.OpenPairs.{table_find, table_or, time_of_commitment, end_of_commitment, pair_time, count_waiting, insert, insert_if, with_waiting, waiting_numbers, live_place, table_places, time_or_zero, take_at, take_free, is_paired, in_log_alone, open_places}
+use Rattle.store.specs.OpenLog.{Placed, Commitment, commit_under, number_in}
+use Rattle.store.specs.OpenPairs.{table_find, table_or, time_of_commitment, end_of_commitment, user_of_commitment, pair_time, count_waiting, insert, insert_if, with_waiting, waiting_numbers, unlined, with_unlined, live_numbers, pair_life, live_place, table_places, time_or_zero, take_at, take_free, is_paired, in_log_alone, open_places}
 use Rattle.conditions.specs.declared.log.Match.{Match}
 use Rattle.conditions.specs.declared.log.Match.TheVariants.{Found, Absent}
 use Rattle.conditions.specs.Lookup.{commits_of, commit_among, match_of, Extent}
-use Rattle.opening.specs.Waits.{Above, Rising, waiting_under, Gathered}
+use Rattle.opening.specs.Waits.{Above, Rising, waiting_under, Holding}
 use Rattle.opening.specs.Placing.{place_of, table_place, free_unless, take_one, take_all}
 use Rattle.conditions.proofs.TableLaws.{match_some, match_none}
 use Rattle.store.proofs.SearchLaws.{first_found, first_nothing, first_same}
 use Rattle.conditions.proofs.GatherLaws.{among_commits}
-use Rattle.opening.proofs.WaitLaws.{under_count}
-use Rattle.opening.proofs.InsertLaws.{above_lower, insert_front, rising_waiting}
+use Rattle.opening.proofs.LiveLaws.{live_count}
+use Rattle.opening.proofs.InsertLaws.{above_lower, insert_front, rising_if, rising_waiting}
 
 -- ---- the places in the words: those of v, and all else as in w
 
@@ -86,63 +88,85 @@ place_again : (s : State) (i : ℕ) (q r : Place) → with_place (with_place s i
 unfolding with_place
 place_again s i q r = rw (set-set s.places i q r)
 
-module _ (w v : List ℕ) (i : ℕ) (q : Place) (h : i < 64) (len : length v ≡ 448) (one : (tail : List ℕ) → state_of v tail ≡ with_place (state_of w tail) i q) where
+module _ (w v : List ℕ) (i : ℕ) (q : Place) (h : i < 64) (len : length v ≡ 512) (one : (tail : List ℕ) → state_of v tail ≡ with_place (state_of w tail) i q) where
   place_put : place_at (places_of v) i ≡ q
   unfolding place_at
   place_put = rw (one_places w v i q one) (get_or-set_same (places_of w) i q free_place (rw (length_places w) h))
 
-  pub place_counted : (k : ℕ) (tail : List ℕ) → state_of (set v (384 + i) k) tail ≡ with_place (state_of w tail) i (record { life = q.life; waiting = k })
+  pub place_counted : (k : ℕ) (tail : List ℕ) → state_of (set v (384 + i) k) tail ≡ with_place (state_of w tail) i (record { life = q.life; waiting = k; user = q.user })
   place_counted k tail =
-      state_count v i h len k tail ∙ ap (λ (p : Place). with_place (state_of v tail) i (record { life = p.life; waiting = k })) place_put
-      ∙ ap (λ (s : State). with_place s i (record { life = q.life; waiting = k })) (one tail) ∙ place_again (state_of w tail) i q (record { life = q.life; waiting = k })
+      state_count v i h len k tail ∙ ap (λ (p : Place). with_place (state_of v tail) i (record { life = p.life; waiting = k; user = p.user })) place_put
+      ∙ ap (λ (s : State). with_place s i (record { life = q.life; waiting = k; user = q.user })) (one tail)
+      ∙ place_again (state_of w tail) i q (record { life = q.life; waiting = k; user = q.user })
 
 -- ---- what the log's commit record says: x is what the code found
 
 module _ (o : Option Commitment) (x : Match) (found : x ≡ match_of o) where
-  pub end_found : (t : CommitTime) (e : EndPlace) → x ≡ Found t e → e ≡ record { 0 = end_of_commitment o }
-  end_found t e g = simp (match_some o t e (sym g ∙ found))
+  pub end_found : (t : CommitTime) (e : EndPlace) (u : ℕ) → x ≡ Found t e u → e ≡ record { 0 = end_of_commitment o }
+  end_found t e u g = simp (match_some o t e u (sym g ∙ found))
 
   pub end_absent : x ≡ Absent → ◌≡◌ {A = EndPlace} (record { 0 = 0 }) (record { 0 = end_of_commitment o })
   end_absent g = simp (match_none o (sym g ∙ found))
 
-  pub logged_found : (n waiting : ℕ) (t : CommitTime) (e : EndPlace) → x ≡ Found t e
-      → record { life = Committed (record { 0 = n }) t e; waiting = waiting } ≡ place_of o (record { 0 = n }) (record { 0 = time_or_zero o }) waiting
+  -- its user has four bytes
+  module _ (low : (y : Commitment) → o ≡ some y → y.user < 2 ^ 32) where
+    pub user_found : (t : CommitTime) (e : EndPlace) (u : ℕ) → x ≡ Found t e u → u < 2 ^ 32
+    user_found t e u g = low _ (match_some o t e u (sym g ∙ found))
+
+  pub live_found : (n : TxNumber) (t : CommitTime) (waiting : ℕ) (s : CommitTime) (e : EndPlace) (u : ℕ) → x ≡ Found s e u
+      → record { life = Committed n t e; waiting = waiting; user = u } ≡ place_of o n t waiting
   unfolding place_of
-  logged_found n waiting t e g = simp (match_some o t e (sym g ∙ found))
+  live_found n t waiting s e u g = simp (match_some o s e u (sym g ∙ found))
+
+  pub logged_found : (n waiting : ℕ) (t : CommitTime) (e : EndPlace) (u : ℕ) → x ≡ Found t e u
+      → record { life = Committed (record { 0 = n }) t e; waiting = waiting; user = u } ≡ place_of o (record { 0 = n }) (record { 0 = time_or_zero o }) waiting
+  unfolding place_of
+  logged_found n waiting t e u g = simp (match_some o t e u (sym g ∙ found))
+
+  pub live_absent : (n : TxNumber) (t : CommitTime) (waiting : ℕ) → x ≡ Absent
+      → record { life = Committed n t (record { 0 = 0 }); waiting = waiting; user = 0 } ≡ place_of o n t waiting
+  unfolding place_of
+  live_absent n t waiting g = simp (match_none o (sym g ∙ found))
 
   pub logged_absent : (n waiting : ℕ) → x ≡ Absent
-      → record { life = Committed (record { 0 = n }) (record { 0 = 0 }) (record { 0 = 0 }); waiting = waiting } ≡ place_of o (record { 0 = n }) (record { 0 = time_or_zero o }) waiting
+      → record { life = Committed (record { 0 = n }) (record { 0 = 0 }) (record { 0 = 0 }); waiting = waiting; user = 0 } ≡ place_of o (record { 0 = n }) (record { 0 = time_or_zero o }) waiting
   unfolding place_of
   logged_absent n waiting g = simp (match_none o (sym g ∙ found))
 
 -- ---- the place of table place i: p is what the code read there, k how many versions wait under its number
 
-module _ (m : List ℕ) (log : List Placed) (f : ℕ → ℕ) (i : ℕ) where
-  pub place_vacant : (p : Pair) → p ≡ table_pair m i → p.number.0 ≡ 0 → free_place ≡ table_place m log f i
+module _ (a : Area) (m : List ℕ) (log : List Placed) (f : ℕ → ℕ) (i : ℕ) where
+  pub place_vacant : (p : Pair) → p ≡ table_pair m i → p.number.0 ≡ 0 → free_place ≡ table_place a m log f i
   unfolding table_place
   place_vacant p e z = simp (← e, eq-eqb p.number.0 0 z)
 
-  module _ (p : Pair) (k : ℕ) (read : p ≡ table_pair m i) (some : p.number.0 ≡ 0 → ⊥) (waits : k ≡ f p.number.0) where
-    pub place_dead : k ≡ 0 → free_place ≡ table_place m log f i
-    unfolding table_place
-    place_dead h = simp (← read, ne_eqb p.number.0 0 some, ← waits, le-ltb 0 k (omega arith))
+  -- b is whether it is live
+  module _ (p : Pair) (k : ℕ) (read : p ≡ table_pair m i) (some : p.number.0 ≡ 0 → ⊥) (waits : k ≡ f p.number.0)
+      (cs : List ℕ) (commits : cs ≡ commits_of log) (b : Bool)
+      (judged : b ≡ (ltb 0 k || misses_line a (Committed p.number p.time (record { 0 = end_of_commitment (commit_among cs p.number.0) })))) where
+    live_is : b ≡ (ltb 0 (f p.number.0) || misses_line a (pair_life log p.number.0 p.time.0))
+    unfolding pair_life
+    live_is = rw (commits, among_commits log p.number.0, waits) at judged
 
-    pub place_live : (k ≡ 0 → ⊥) → (e : EndPlace) (cs : List ℕ) → cs ≡ commits_of log → e ≡ record { 0 = end_of_commitment (commit_among cs p.number.0) }
-        → record { life = Committed p.number p.time e; waiting = k } ≡ table_place m log f i
-    unfolding table_place place_of
-    place_live h e cs g q =
-        let z : e ≡ record { 0 = end_of_commitment (commit_under log p.number.0) } = q ∙ rw (g, among_commits log p.number.0) in
-        sym (simp (← read, ne_eqb p.number.0 0 some, ← waits, lt-ltb 0 k (omega arith), z))
+    pub place_dead : b ≡ false → free_place ≡ table_place a m log f i
+    unfolding table_place
+    place_dead h = simp (← read, ne_eqb p.number.0 0 some, ← live_is, h)
+
+    pub place_live : b ≡ true → (q : Place) → q ≡ place_of (commit_among cs p.number.0) p.number p.time k → q ≡ table_place a m log f i
+    unfolding table_place
+    place_live h q e =
+        let z : q ≡ place_of (commit_under log p.number.0) p.number p.time (f p.number.0) = rw (commits, among_commits log p.number.0, waits) at e in
+        sym (simp (← read, ne_eqb p.number.0 0 some, ← live_is, h, z))
 
 -- ---- all places of the table: the first i are laid in v, the others are free
 
-pub record Laying (m : List ℕ) (log : List Placed) (f : ℕ → ℕ) (w v : List ℕ) (i : ℕ) : Type 0 where
+pub record Laying (a : Area) (m : List ℕ) (log : List Placed) (f : ℕ → ℕ) (w v : List ℕ) (i : ℕ) : Type 0 where
   pub laid : Laid w v
-  pub done : (j : ℕ) → j < i → place_at (places_of v) j ≡ table_place m log f j
+  pub done : (j : ℕ) → j < i → place_at (places_of v) j ≡ table_place a m log f j
   pub free : (j : ℕ) → i ≤ j → j < 64 → place_at (places_of v) j ≡ free_place
 
-module _ (m : List ℕ) (log : List Placed) (f : ℕ → ℕ) (w : List ℕ) where
-  pub laying_start : places_of w ≡ replicate 64 free_place → Laying m log f w w 0
+module _ (a : Area) (m : List ℕ) (log : List Placed) (f : ℕ → ℕ) (w : List ℕ) where
+  pub laying_start : places_of w ≡ replicate 64 free_place → Laying a m log f w w 0
   unfolding place_at
   laying_start e = record {
     laid = laid_none w;
@@ -150,33 +174,33 @@ module _ (m : List ℕ) (log : List Placed) (f : ℕ → ℕ) (w : List ℕ) whe
     free = λ j h l. rw e (get_or-replicate 64 j free_place free_place l);
   }
 
-  pub laying_turn : (v u : List ℕ) (i : ℕ) → i < 64 → Laying m log f w v i → ((tail : List ℕ) → state_of u tail ≡ with_place (state_of v tail) i (table_place m log f i))
-      → Laying m log f w u (i + 1)
+  pub laying_turn : (v u : List ℕ) (i : ℕ) → i < 64 → Laying a m log f w v i → ((tail : List ℕ) → state_of u tail ≡ with_place (state_of v tail) i (table_place a m log f i))
+      → Laying a m log f w u (i + 1)
   unfolding place_at
   laying_turn v u i h l one = record {
-    laid = laid_one v u i (table_place m log f i) one w l.laid;
-    done = λ j g. rw (one_places v u i (table_place m log f i) one) (at j g (eqb j i) refl);
-    free = λ j g k. rw (one_places v u i (table_place m log f i) one) (get_or-set_other (places_of v) i j (table_place m log f i) free_place (λ e. omega arith) ∙ l.free j (omega arith) k);
+    laid = laid_one v u i (table_place a m log f i) one w l.laid;
+    done = λ j g. rw (one_places v u i (table_place a m log f i) one) (at j g (eqb j i) refl);
+    free = λ j g k. rw (one_places v u i (table_place a m log f i) one) (get_or-set_other (places_of v) i j (table_place a m log f i) free_place (λ e. omega arith) ∙ l.free j (omega arith) k);
   }
     where
-      at : (j : ℕ) → j < i + 1 → (b : Bool) → eqb j i ≡ b → get_or (set (places_of v) i (table_place m log f i)) j free_place ≡ table_place m log f j
-      at j g true e = rw (eqb-true j i e) (get_or-set_same (places_of v) i (table_place m log f i) free_place (rw (length_places v) h))
-      at j g false e = let d = eqb-false j i e in get_or-set_other (places_of v) i j (table_place m log f i) free_place d ∙ l.done j (omega (arith, d))
+      at : (j : ℕ) → j < i + 1 → (b : Bool) → eqb j i ≡ b → get_or (set (places_of v) i (table_place a m log f i)) j free_place ≡ table_place a m log f j
+      at j g true e = rw (eqb-true j i e) (get_or-set_same (places_of v) i (table_place a m log f i) free_place (rw (length_places v) h))
+      at j g false e = let d = eqb-false j i e in get_or-set_other (places_of v) i j (table_place a m log f i) free_place d ∙ l.done j (omega (arith, d))
 
   -- the table's places from i on are empty
-  pub laying_end : (v : List ℕ) (i : ℕ) → Extent m i → Laying m log f w v i → (tail : List ℕ) → state_of v tail ≡ with_places (state_of w tail) (listed (table_place m log f) 0 64)
+  pub laying_end : (v : List ℕ) (i : ℕ) → Extent m i → Laying a m log f w v i → (tail : List ℕ) → state_of v tail ≡ with_places (state_of w tail) (listed (table_place a m log f) 0 64)
   unfolding place_at
   laying_end v i x l = λ tail. l.laid tail ∙ ap (with_places (state_of w tail)) same
     where
-      at : (j : ℕ) → j < 64 → (b : Bool) → ltb j i ≡ b → get_or (places_of v) j free_place ≡ table_place m log f j
+      at : (j : ℕ) → j < 64 → (b : Bool) → ltb j i ≡ b → get_or (places_of v) j free_place ≡ table_place a m log f j
       at j h true e = l.done j (ltb-true j i e)
-      at j h false e = let g = ltb-false j i e in l.free j g h ∙ place_vacant m log f j (table_pair m j) refl (x.empty j g h)
+      at j h false e = let g = ltb-false j i e in l.free j g h ∙ place_vacant a m log f j (table_pair m j) refl (x.empty j g h)
 
-      same : places_of v ≡ listed (table_place m log f) 0 64
+      same : places_of v ≡ listed (table_place a m log f) 0 64
       same =
-          ext_get_or free_place (places_of v) (listed (table_place m log f) 0 64) (length_places v ∙ sym (length_listed (table_place m log f) 0 64))
+          ext_get_or free_place (places_of v) (listed (table_place a m log f) 0 64) (length_places v ∙ sym (length_listed (table_place a m log f) 0 64))
           (λ j h. let g : j < 64 = rw (length_places v) at h in
-          at j g (ltb j i) refl ∙ sym (get_d_listed (table_place m log f) 0 64 j free_place g ∙ ap (table_place m log f) (omega arith)))
+          at j g (ltb j i) refl ∙ sym (get_d_listed (table_place a m log f) 0 64 j free_place g ∙ ap (table_place a m log f) (omega arith)))
 
 -- by the list they are the places of the definition: a number of the table has a pair
 tabled_paired : (m : List ℕ) (log : List Placed) (i n : ℕ) → i < 64 → (table_pair m i).number.0 ≡ n → (n ≡ 0 → ⊥) → is_paired m log n ≡ true
@@ -187,16 +211,23 @@ tabled_paired m log i n h e z = rw (ne_eqb n 0 z) (go (first (λ j. eqb (table_p
     go (At j) q = refl
     go Nothing q = absurd (false≢true (sym (first_nothing _ 64 0 q i (omega arith) (omega arith)) ∙ eq-eqb (table_pair m i).number.0 n e))
 
-module _ (m : List ℕ) (log : List Placed) (c : List ℕ) (slots : ℕ) (f : ℕ → ℕ) (counted : (n : ℕ) → is_paired m log n ≡ true → f n ≡ count_waiting c n slots) where
-  tabled_same : (i k : ℕ) → i + k ≤ 64 → listed (table_place m log f) i k ≡ table_places m log c slots i k
-  unfolding listed table_places table_place place_of live_place
+module _ (a : Area) (m : List ℕ) (log : List Placed) (c : List ℕ) (slots : ℕ) (f : ℕ → ℕ) (counted : (n : ℕ) → is_paired m log n ≡ true → f n ≡ count_waiting c n slots) where
+  tabled_same : (i k : ℕ) → i + k ≤ 64 → listed (table_place a m log f) i k ≡ table_places a m log c slots i k
+  unfolding listed table_places table_place place_of live_place pair_life
   tabled_same i zero h = refl
   tabled_same i (suc k) h = rw (tabled_same (i + 1) k (omega arith)) (go (eqb (table_pair m i).number.0 0) refl)
     where
+      placed : ℕ → Place
+      placed waiting = record {
+        life = Committed (table_pair m i).number (table_pair m i).time (record { 0 = end_of_commitment (commit_under log (table_pair m i).number.0) });
+        waiting = waiting;
+        user = user_of_commitment (commit_under log (table_pair m i).number.0);
+      }
+
       go : (b : Bool) → eqb (table_pair m i).number.0 0 ≡ b
-          → let n = (table_pair m i).number.0 in let t = (table_pair m i).time.0 in let e = end_of_commitment (commit_under log n) in
-          cond (not b && ltb 0 (f n)) (record { life = Committed (record { 0 = n }) (record { 0 = t }) (record { 0 = e }); waiting = f n }) free_place ∷ table_places m log c slots (i + 1) k
-          ≡ cond (not b && ltb 0 (count_waiting c n slots)) (record { life = Committed (record { 0 = n }) (record { 0 = t }) (record { 0 = e }); waiting = count_waiting c n slots }) free_place ∷ table_places m log c slots (i + 1) k
+          → let n = (table_pair m i).number.0 in let x = misses_line a (pair_life log n (table_pair m i).time.0) in
+          cond (not b && (ltb 0 (f n) || x)) (placed (f n)) free_place ∷ table_places a m log c slots (i + 1) k
+          ≡ cond (not b && (ltb 0 (count_waiting c n slots) || x)) (placed (count_waiting c n slots)) free_place ∷ table_places a m log c slots (i + 1) k
       go true e = refl
       go false e = rw (counted (table_pair m i).number.0 (tabled_paired m log i (table_pair m i).number.0 (omega arith) refl (eqb-false (table_pair m i).number.0 0 e)))
 
@@ -290,6 +321,26 @@ module _ (p q r : ℕ → Bool) (h : (n : ℕ) → p n && q n ≡ r n) where
   keep_waiting c (suc k) =
       keep_with (cell_at c k).state (waiting_numbers c p k) (rising_waiting c p k) ∙ ap (with_waiting (cell_at c k).state r) (keep_waiting c k)
 
+  rising_unlined : (a : Area) (log : List Placed) (xs : List ℕ) → Rising xs → Rising (with_unlined a p log xs)
+  unfolding with_unlined
+  rising_unlined a [] xs w = w
+  rising_unlined a (x ∷ log) xs w = rising_if (unlined a x.rec && p (number_in x.rec)) (number_in x.rec) (with_unlined a p log xs) (rising_unlined a log xs w)
+
+  keep_unlined : (a : Area) (log : List Placed) (xs : List ℕ) → Rising xs → keep q (with_unlined a p log xs) ≡ with_unlined a r log (keep q xs)
+  unfolding with_unlined
+  keep_unlined a [] xs w = refl
+  keep_unlined a (x ∷ log) xs w =
+      go (unlined a x.rec) (with_unlined a p log xs) (rising_unlined a log xs w)
+      ∙ ap (insert_if (unlined a x.rec && r (number_in x.rec)) (number_in x.rec)) (keep_unlined a log xs w)
+    where
+      go : (b : Bool) (ys : List ℕ) → Rising ys → keep q (insert_if (b && p (number_in x.rec)) (number_in x.rec) ys) ≡ insert_if (b && r (number_in x.rec)) (number_in x.rec) (keep q ys)
+      go true ys v = keep_if (number_in x.rec) ys (p (number_in x.rec)) (q (number_in x.rec)) refl refl v
+      go false ys v = refl
+
+  keep_live : (a : Area) (log : List Placed) (c : List ℕ) (k : ℕ) → keep q (live_numbers a log c p k) ≡ live_numbers a log c r k
+  unfolding live_numbers
+  keep_live a log c k = keep_unlined a log (waiting_numbers c p k) (rising_waiting c p k) ∙ ap (with_unlined a r log) (keep_waiting c k)
+
 -- ---- the log's places
 
 module _ (m : List ℕ) (log : List Placed) (c : List ℕ) (slots : ℕ) where
@@ -314,23 +365,26 @@ module _ (m : List ℕ) (log : List Placed) (c : List ℕ) (slots : ℕ) where
       go (At i) = refl
       go Nothing = and-true (is_timed (time_of_commitment (commit_under log n)))
 
-  pub take_all_waiting : (ps : List Place) → take_all m log c slots ps (waiting_numbers c (is_paired m log) slots) ≡ take_free m log c slots ps (waiting_numbers c (in_log_alone m log) slots)
-  take_all_waiting ps = take_kept ps (waiting_numbers c (is_paired m log) slots) ∙ ap (take_free m log c slots ps) (keep_waiting (is_paired m log) untabled (in_log_alone m log) alone c slots)
+  module _ (a : Area) where
+    take_all_live : (ps : List Place) → take_all m log c slots ps (live_numbers a log c (is_paired m log) slots) ≡ take_free m log c slots ps (live_numbers a log c (in_log_alone m log) slots)
+    take_all_live ps =
+        take_kept ps (live_numbers a log c (is_paired m log) slots)
+        ∙ ap (take_free m log c slots ps) (keep_live (is_paired m log) untabled (in_log_alone m log) alone a log c slots)
+
+    pub taken_start : (list : List ℕ) (total : ℕ) → Holding (λ n. count_waiting c n slots) (live_numbers a log c (is_paired m log) slots) list total
+        → (ps : List Place) → ps ≡ listed (table_place a m log (waiting_under list total)) 0 64 → take_all m log c slots ps (slice 0 total list) ≡ open_places a m log c slots
+    unfolding open_places
+    taken_start list total g ps e =
+        rw (g.numbers, e, tabled_same a m log c slots (waiting_under list total) (live_count m log a c slots list total g) 0 64 (omega arith))
+        (take_all_live (table_places a m log c slots 0 64))
 
   -- the numbers from the i-th on: next is what the code made of ps and the i-th
-  pub taken_start : (ps : List Place) (list : List ℕ) (total : ℕ) → Gathered c (is_paired m log) slots list total
-      → ps ≡ listed (table_place m log (waiting_under list total)) 0 64 → take_all m log c slots ps (slice 0 total list) ≡ open_places m log c slots
-  unfolding open_places
-  taken_start ps list total g e =
-      rw (g.numbers, e, tabled_same m log c slots (waiting_under list total) (under_count c (is_paired m log) slots list total g) 0 64 (omega arith))
-      (take_all_waiting (table_places m log c slots 0 64))
-
-  pub taken_turn : (ps next : List Place) (list cs : List ℕ) (i total : ℕ) → i < total → Gathered c (is_paired m log) slots list total → cs ≡ commits_of log
+  pub taken_turn : (xs list : List ℕ) (total : ℕ) → Holding (λ n. count_waiting c n slots) xs list total → (ps next : List Place) (cs : List ℕ) (i : ℕ) → i < total → cs ≡ commits_of log
       → let n = get_or list i 0 in
       next ≡ take_at (free_unless (table_find m n) ps) ps (place_of (commit_among cs n) (record { 0 = n }) (record { 0 = time_or_zero (commit_among cs n) }) (get_or list (64 + i) 0))
       → take_all m log c slots next (slice (i + 1) total list) ≡ take_all m log c slots ps (slice i total list)
-  unfolding take_all take_one live_place place_of
-  taken_turn ps next list cs i total h g e w =
+  unfolding take_all take_one live_place place_of pair_life
+  taken_turn xs list total g ps next cs i h e w =
       let q : next ≡ take_one m log c slots ps (get_or list i 0) = w ∙ rw (e, among_commits log (get_or list i 0), g.counts i h) in
       rw (q, add-one) (sym (ap (take_all m log c slots ps) (slice-cons i total list 0 h (omega (arith, g.few, g.size)))))
 

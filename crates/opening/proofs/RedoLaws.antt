@@ -12,7 +12,7 @@ use Rattle.fields.specs.Block.{blk, page_of}
 use Rattle.layout.specs.Page.{page_used, put_version}
 use Rattle.layout.specs.Journal.{version, commit}
 use Rattle.layout.specs.declared.item.VersionHead.{VersionHead}
-use Rattle.layout.specs.declared.item.Pair.{Pair}
+use Rattle.layout.specs.declared.item.CommitHead.{CommitHead}
 use Rattle.fields.proofs.Choose.{and_0, and_1}
 use Rattle.layout.proofs.CacheLaws.{length_put_version}
 use Rattle.layout.proofs.PlaceLaws.{slot_page_below}
@@ -89,7 +89,7 @@ module _ {m : List ℕ} {l d : ℕ} {c : Cursor} {now start : Redone} {whole : L
     rest_below : slots_below d (x ∷ rest_of m l e) ≡ true
     rest_below = rw n.rest at g.below
 
-    pub going_commit : (p : Pair) → x.rec ≡ commit p → Going m l d e now start whole
+    pub going_commit : (p : CommitHead) → x.rec ≡ commit p → Going m l d e now start whole
     unfolding redo_ok redo redo_one slots_below
     going_commit p f = record {
       valid = n.valid;

@@ -43,11 +43,11 @@ told_yes r x e t = sym e ∙ not-false r t
 
 -- ---- the master: r is what was read of it
 
-pub master_broken : (m : List ℕ) (l d : ℕ) (r : Found) → r ≡ master_of (blk m 0) → r ≡ Broken → false ≡ master_ok m l d
+pub master_broken : (m : List ℕ) (l d z : ℕ) (r : Found) → r ≡ master_of (blk m 0) → r ≡ Broken → false ≡ master_ok m l d z
 unfolding master_ok
-master_broken m l d r e f = sym (rw (sym e ∙ f))
+master_broken m l d z r e f = sym (rw (sym e ∙ f))
 
-module _ (m : List ℕ) (l d : ℕ) (r : Found) (f : Fields) (read : r ≡ master_of (blk m 0)) (whole : r ≡ Whole f) where
+module _ (m : List ℕ) (l d z : ℕ) (r : Found) (f : Fields) (read : r ≡ master_of (blk m 0)) (whole : r ≡ Whole f) where
   fields : MasterParts (blk m 0) f
   fields = master_parts (blk m 0) f (sym read ∙ whole)
 
@@ -58,28 +58,31 @@ module _ (m : List ℕ) (l d : ℕ) (r : Found) (f : Fields) (read : r ≡ maste
   unfolding next_on
   next_is = ap dec (sym (part_blk m 0 24 8 (omega arith))) ∙ sym fields.next
 
-  master_is : master_ok m l d ≡ ((eqb f.blocks l && eqb f.pages d) && (leb 1 f.oldest && (ltb f.oldest (2 ^ 48) && leb 1 f.next.0)))
+  master_is : master_ok m l d z ≡ ((eqb f.blocks l && (eqb f.pages d && eqb f.area z)) && (leb 1 f.oldest && (ltb f.oldest (2 ^ 48) && leb 1 f.next.0)))
   unfolding master_ok
   master_is = rw (sym read ∙ whole, oldest_is, next_is)
 
-  pub master_blocks : (f.blocks ≡ l → ⊥) → false ≡ master_ok m l d
+  pub master_blocks : (f.blocks ≡ l → ⊥) → false ≡ master_ok m l d z
   master_blocks a = sym (master_is ∙ rw (ne_eqb f.blocks l a))
 
-  pub master_pages : f.blocks ≡ l → (f.pages ≡ d → ⊥) → false ≡ master_ok m l d
+  pub master_pages : f.blocks ≡ l → (f.pages ≡ d → ⊥) → false ≡ master_ok m l d z
   master_pages a b = sym (master_is ∙ rw (eq-eqb f.blocks l a, ne_eqb f.pages d b))
 
-  module _ (a : f.blocks ≡ l) (b : f.pages ≡ d) where
-    pub master_none : f.oldest ≡ 0 → false ≡ master_ok m l d
-    master_none o = sym (master_is ∙ rw (eq-eqb f.blocks l a, eq-eqb f.pages d b, lt-leb 1 f.oldest (omega arith)))
+  pub master_area : f.blocks ≡ l → f.pages ≡ d → (f.area ≡ z → ⊥) → false ≡ master_ok m l d z
+  master_area a b c = sym (master_is ∙ rw (eq-eqb f.blocks l a, eq-eqb f.pages d b, ne_eqb f.area z c))
+
+  module _ (a : f.blocks ≡ l) (b : f.pages ≡ d) (c : f.area ≡ z) where
+    pub master_none : f.oldest ≡ 0 → false ≡ master_ok m l d z
+    master_none o = sym (master_is ∙ rw (eq-eqb f.blocks l a, eq-eqb f.pages d b, eq-eqb f.area z c, lt-leb 1 f.oldest (omega arith)))
 
     module _ (o : f.oldest ≡ 0 → ⊥) where
-      pub master_high : 2 ^ 48 ≤ f.oldest → false ≡ master_ok m l d
+      pub master_high : 2 ^ 48 ≤ f.oldest → false ≡ master_ok m l d z
       master_high h =
-          sym (master_is ∙ rw (eq-eqb f.blocks l a, eq-eqb f.pages d b, le-leb 1 f.oldest (omega arith), le-ltb f.oldest (2 ^ 48) h))
+          sym (master_is ∙ rw (eq-eqb f.blocks l a, eq-eqb f.pages d b, eq-eqb f.area z c, le-leb 1 f.oldest (omega arith), le-ltb f.oldest (2 ^ 48) h))
 
-      pub master_next : f.oldest < 2 ^ 48 → not (eqb f.next.0 0) ≡ master_ok m l d
+      pub master_next : f.oldest < 2 ^ 48 → not (eqb f.next.0 0) ≡ master_ok m l d z
       master_next h =
-          sym (master_is ∙ rw (eq-eqb f.blocks l a, eq-eqb f.pages d b, le-leb 1 f.oldest (omega arith), lt-ltb f.oldest (2 ^ 48) h, one_up))
+          sym (master_is ∙ rw (eq-eqb f.blocks l a, eq-eqb f.pages d b, eq-eqb f.area z c, le-leb 1 f.oldest (omega arith), lt-ltb f.oldest (2 ^ 48) h, one_up))
 
 -- ---- the tail and the end of the log: s is the oldest sequence, k the count of blocks read
 
@@ -150,18 +153,18 @@ used_turn c p n u a ha hn hu = rw (add-one, ← hn, ← ha, hu, lent_part c a 51
 
 -- ---- the medium
 
-module _ (m : List ℕ) (l d : ℕ) where
-  pub no_master : master_ok m l d ≡ false → medium_ok m l d ≡ false
+module _ (m : List ℕ) (l d z : ℕ) where
+  pub no_master : master_ok m l d z ≡ false → medium_ok m l d z ≡ false
   unfolding medium_ok
   no_master e = rw e
 
-  pub oldest_low : master_ok m l d ≡ true → oldest_on m < 2 ^ 48
+  pub oldest_low : master_ok m l d z ≡ true → oldest_on m < 2 ^ 48
   unfolding master_ok
   oldest_low e =
       let a = leb 1 (oldest_on m) in
       let b = ltb (oldest_on m) (2 ^ 48) in
       let c = leb 1 (next_on m) in
-      let f : a && (b && c) ≡ true = and_1 (sizes_are (master_of (blk m 0)) l d) (a && (b && c)) e in
+      let f : a && (b && c) ≡ true = and_1 (sizes_are (master_of (blk m 0)) l d z) (a && (b && c)) e in
       ltb-true (oldest_on m) (2 ^ 48) (and_0 b c (and_1 a (b && c) f))
 
   pub blocks_below : (low s k : ℕ) → blocks_ok m l d low s k ≡ true → s ≤ 2 ^ 48 → s + k ≤ 2 ^ 48
@@ -184,15 +187,15 @@ module _ (m : List ℕ) (l d : ℕ) where
     pub count_low : k ≤ l
     count_low = rw count (matching_low m l s l)
 
-    module _ (master : master_ok m l d ≡ true) where
-      pub no_blocks : blocks_ok m l d 0 s k ≡ false → medium_ok m l d ≡ false
+    module _ (master : master_ok m l d z ≡ true) where
+      pub no_blocks : blocks_ok m l d 0 s k ≡ false → medium_ok m l d z ≡ false
       unfolding medium_ok
       no_blocks e = rw (master, ← oldest, ← count_is, e)
 
-      pub no_pages : blocks_ok m l d 0 s k ≡ true → all_of (page_ok m l d) 0 d ≡ false → medium_ok m l d ≡ false
+      pub no_pages : blocks_ok m l d 0 s k ≡ true → all_of (page_ok m l d) 0 d ≡ false → medium_ok m l d z ≡ false
       unfolding medium_ok
       no_pages e f = rw (master, ← oldest, ← count_is, e, f)
 
-      pub all_in_form : blocks_ok m l d 0 s k ≡ true → all_of (page_ok m l d) 0 d ≡ true → medium_ok m l d ≡ true
+      pub all_in_form : blocks_ok m l d 0 s k ≡ true → all_of (page_ok m l d) 0 d ≡ true → medium_ok m l d z ≡ true
       unfolding medium_ok
       all_in_form e f = rw (master, ← oldest, ← count_is, e, f)

@@ -1,28 +1,31 @@
 -- The places that table and log give, as the code lays them.
-use Rattle.std.specs.Prelude.{ℕ, cond, not, ◌&&◌, List, [], ◌∷◌, eqb, ltb}
+use Rattle.std.specs.Prelude.{ℕ, cond, not, ◌&&◌, ◌||◌, List, [], ◌∷◌, eqb, ltb}
 use Rattle.std.proofs.Math.Option.{Option}
 use Rattle.layout.specs.Table.{table_pair}
 use Rattle.layout.specs.declared.TxNumber.{TxNumber}
 use Rattle.layout.specs.declared.CommitTime.{CommitTime}
 use Rattle.store.specs.declared.Life.TheVariants.{Committed}
 use Rattle.store.specs.declared.Place.{Place}
+use Rattle.store.specs.declared.Area.{Area}
 use Rattle.store.specs.declared.Found.{Found}
 use Rattle.store.specs.declared.Found.TheVariants.{At, Nothing}
-use Rattle.store.specs.Places.{first, is_free, place_at, free_place}
+use Rattle.store.specs.Places.{first, is_free, place_at, free_place, misses_line}
 use Rattle.store.specs.OpenLog.{Placed, Commitment, commit_under}
-use Rattle.store.specs.OpenPairs.{end_of_commitment, table_find, live_place, take_at, time_or_zero}
+use Rattle.store.specs.OpenPairs.{end_of_commitment, user_of_commitment, table_find, pair_life, live_place, take_at, time_or_zero}
 
 -- a live committed transaction's place, with its commit in the log, if there is one, and its waiting versions counted
 unfoldable pub place_of : Option Commitment → TxNumber → CommitTime → ℕ → Place
 place_of found n t waiting = record {
   life = Committed n t (record { 0 = end_of_commitment found });
   waiting = waiting;
+  user = user_of_commitment found;
 }
 
 -- the place that table place i gives, with f for how many versions wait under a number
-unfoldable pub table_place : List ℕ → List Placed → (ℕ → ℕ) → ℕ → Place
-table_place m log f i =
-    cond (not (eqb (table_pair m i).number.0 0) && ltb 0 (f (table_pair m i).number.0))
+unfoldable pub table_place : Area → List ℕ → List Placed → (ℕ → ℕ) → ℕ → Place
+table_place a m log f i =
+    cond (not (eqb (table_pair m i).number.0 0)
+    && (ltb 0 (f (table_pair m i).number.0) || misses_line a (pair_life log (table_pair m i).number.0 (table_pair m i).time.0)))
     (place_of (commit_under log (table_pair m i).number.0) (table_pair m i).number (table_pair m i).time (f (table_pair m i).number.0))
     free_place
 

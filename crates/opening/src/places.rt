@@ -1,13 +1,13 @@
 // The places of live transactions that table and log give.
-ghost use Rattle.std.specs.Prelude.{◌≡◌, true, List, ℕ, ◌*◌, ◌<◌, ◌≤◌, length, replicate, leb};
+ghost use Rattle.std.specs.Prelude.{◌≡◌, true, ◌||◌, List, ℕ, ◌*◌, ◌<◌, ◌≤◌, length, replicate, leb, ltb};
 ghost use Rattle.store.specs.declared.Life.TheVariants.{Committed};
-ghost use Rattle.store.specs.Places.{free_place, place_at};
+ghost use Rattle.store.specs.Places.{free_place, place_at, misses_line};
 ghost use Rattle.store.specs.State.{with_place};
 ghost use Rattle.store.specs.OpenLog.{read_log};
-ghost use Rattle.store.specs.OpenPairs.{table_find, end_of_commitment, time_or_zero, take_at, is_paired, waiting_numbers, open_places};
+ghost use Rattle.store.specs.OpenPairs.{table_find, end_of_commitment, time_or_zero, take_at, is_paired, live_numbers, open_places};
 ghost use Rattle.memory.specs.Memory.{listed, places_of, state_of, with_places};
 ghost use Rattle.conditions.specs.Cursor.{Ready};
-ghost use Rattle.conditions.specs.Lookup.{Extent, Known, commits_of, commit_among};
+ghost use Rattle.conditions.specs.Lookup.{Extent, Known, UsersLow, commits_of, commit_among};
 ghost use Rattle.opening.specs.Waits.{waiting_under};
 ghost use Rattle.opening.specs.Placing.{place_of, table_place, free_unless};
 
@@ -15,7 +15,7 @@ use crate::waiting::Inserted;
 use conditions::log::Match;
 use layout::{CommitTime, EndPlace, TxNumber};
 use memory::COUNTS;
-use store::Found;
+use store::{Area, Found};
 
 // How many versions wait under a number, by the list.
 fn waiting_under(list: &[u64; 128], total: u64, n: u64) -> u64
@@ -35,9 +35,25 @@ fn end_under(commits: &[u64], n: u64) -> EndPlace
 {
     let c = conditions::log::commit_under(commits, n);
     match c {
-        Match::Found(_, e) => e,
+        Match::Found(_, e, _) => e,
         Match::Absent => EndPlace(0),
     }
+}
+
+// Is the transaction of a table pair live: do versions wait under its number, or is its line missing?
+fn is_live(commits: &[u64], area: Area, number: TxNumber, time: CommitTime, waiting: u64) -> bool
+    ensures { result ≡ (ltb 0 waiting || misses_line area (Committed number time (record { 0 = end_of_commitment (commit_among commits.now number.0) }))) }
+{
+    if waiting != 0 {
+        return true;
+    }
+    if area.blocks == 0 {
+        return false;
+    }
+    if time.0 <= area.last.0 {
+        return false;
+    }
+    0 < end_under(commits, number.0).0
 }
 
 // Puts a committed transaction with its waiting versions into place i.
@@ -47,31 +63,33 @@ fn put_live(
     number: TxNumber,
     time: CommitTime,
     end: EndPlace,
+    user: u32,
     waiting: u64,
 )
-    requires words_len { length words.old ≡ 448 }
+    requires words_len { length words.old ≡ 512 }
     requires i_bound { i < 64 }
-    ensures { (tail : List ℕ) → state_of words.new tail ≡ with_place (state_of words.old tail) i (record { life = Committed number time end; waiting = waiting }) }
+    ensures { (tail : List ℕ) → state_of words.new tail ≡ with_place (state_of words.old tail) i (record { life = Committed number time end; waiting = waiting; user = user }) }
 {
-    live::places::put_committed(words, i, number, time, end);
+    live::places::put_committed(words, i, number, time, end, user);
     words[COUNTS + i] = waiting;
 }
 
-// Puts the transaction of a table place into its place: live if versions wait under its number.
+// Puts the transaction of a table place into its place, if it is live, with end place and user of its commit record.
 fn take_table(
     medium: &[u8],
     blocks: u64,
+    area: Area,
     commits: &[u64],
     list: &[u64; 128],
     total: u64,
-    words: &mut [u64; 448],
+    words: &mut [u64; 512],
     i: usize,
 )
     requires ready { Ready blocks (length medium.now) }
-    requires commits_value { commits.now ≡ commits_of (read_log medium.now blocks) }
+    requires commits_value { (commits.now ≡ commits_of (read_log medium.now blocks)) × UsersLow commits.now }
     requires total_bound { (total ≤ 64) × (i < 64) }
     requires i_value { place_at (places_of words.old) i ≡ free_place }
-    ensures { (tail : List ℕ) → state_of words.new tail ≡ with_place (state_of words.old tail) i (table_place medium.now (read_log medium.now blocks) (waiting_under list.now total) i) }
+    ensures { (tail : List ℕ) → state_of words.new tail ≡ with_place (state_of words.old tail) i (table_place area medium.now (read_log medium.now blocks) (waiting_under list.now total) i) }
 {
     let p = layout::table::read(medium, i);
     let n = p.number;
@@ -80,37 +98,42 @@ fn take_table(
         return;
     }
     let k = waiting_under(list, total, n.0);
-    if k == 0 {
+    if !is_live(commits, area, n, t, k) {
         return;
     }
-    put_live(words, i, n, t, end_under(commits, n.0), k);
+    let c = conditions::log::commit_under(commits, n.0);
+    match c {
+        Match::Found(_, e, u) => put_live(words, i, n, t, e, u as u32, k),
+        Match::Absent => put_live(words, i, n, t, EndPlace(0), 0, k),
+    }
 }
 
 // The places of the table's live pairs.
 fn table_places(
     medium: &[u8],
     blocks: u64,
+    area: Area,
     used: usize,
     commits: &[u64],
     list: &[u64; 128],
     total: u64,
-    words: &mut [u64; 448],
+    words: &mut [u64; 512],
 )
     requires ready { Ready blocks (length medium.now) }
     requires known { Known medium.now blocks used commits.now }
     requires total_bound { total ≤ 64 }
     requires words_value { places_of words.old ≡ replicate 64 free_place }
-    ensures { (tail : List ℕ) → state_of words.new tail ≡ with_places (state_of words.old tail) (listed (table_place medium.now (read_log medium.now blocks) (waiting_under list.now total)) 0 64) }
+    ensures { (tail : List ℕ) → state_of words.new tail ≡ with_places (state_of words.old tail) (listed (table_place area medium.now (read_log medium.now blocks) (waiting_under list.now total)) 0 64) }
 {
     let mut i: usize = 0;
     while i < used {
-        take_table(medium, blocks, commits, list, total, words, i);
+        take_table(medium, blocks, area, commits, list, total, words, i);
         i += 1;
     }
 }
 
 // Where a live pair of the log is put: the first free place, if the table has none for it.
-fn place_for(medium: &[u8], used: usize, words: &[u64; 448], n: u64) -> Found
+fn place_for(medium: &[u8], used: usize, words: &[u64; 512], n: u64) -> Found
     requires in_bounds { 1536 ≤ length medium.now }
     requires extent { Extent medium.now used }
     ensures { result ≡ free_unless (table_find medium.now n) (places_of words.now) }
@@ -127,12 +150,13 @@ fn take_log(
     medium: &[u8],
     used: usize,
     commits: &[u64],
-    words: &mut [u64; 448],
+    words: &mut [u64; 512],
     n: u64,
     waiting: u64,
 )
     requires in_bounds { 1536 ≤ length medium.now }
     requires extent { Extent medium.now used }
+    requires users_low { UsersLow commits.now }
     ensures { (tail : List ℕ) → state_of words.new tail ≡ with_places (state_of words.old tail) (take_at (free_unless (table_find medium.now n) (places_of words.old)) (places_of words.old) (place_of (commit_among commits.now n) (record { 0 = n }) (record { 0 = time_or_zero (commit_among commits.now n) }) waiting)) }
 {
     let f = place_for(medium, used, words, n);
@@ -142,8 +166,16 @@ fn take_log(
     let i = k as usize;
     let c = conditions::log::commit_under(commits, n);
     match c {
-        Match::Found(t, e) => put_live(words, i, TxNumber(n), t, e, waiting),
-        Match::Absent => put_live(words, i, TxNumber(n), CommitTime(0), EndPlace(0), waiting),
+        Match::Found(t, e, u) => put_live(words, i, TxNumber(n), t, e, u as u32, waiting),
+        Match::Absent => put_live(
+            words,
+            i,
+            TxNumber(n),
+            CommitTime(0),
+            EndPlace(0),
+            0,
+            waiting,
+        ),
     }
 }
 
@@ -152,24 +184,29 @@ pub fn lay(
     medium: &[u8],
     blocks: u64,
     pages: u64,
+    area: Area,
     used: usize,
     commits: &[u64],
     cache: &[u8],
-    words: &mut [u64; 448],
+    words: &mut [u64; 512],
 ) -> bool
     requires ready { Ready blocks (length medium.now) }
     requires known { Known medium.now blocks used commits.now }
     requires pages_bound { (pages ≤ 64) × (length cache.now ≡ 512 * pages) }
     requires words_value { places_of words.old ≡ replicate 64 free_place }
-    ensures { (result ≡ leb (length (waiting_numbers cache.now (is_paired medium.now (read_log medium.now blocks)) (15 * pages))) 64) × (result ≡ true → (tail : List ℕ) → state_of words.new tail ≡ with_places (state_of words.old tail) (open_places medium.now (read_log medium.now blocks) cache.now (15 * pages))) }
+    ensures { (result ≡ leb (length (live_numbers area (read_log medium.now blocks) cache.now (is_paired medium.now (read_log medium.now blocks)) (15 * pages))) 64) × (result ≡ true → (tail : List ℕ) → state_of words.new tail ≡ with_places (state_of words.old tail) (open_places area medium.now (read_log medium.now blocks) cache.now (15 * pages))) }
 {
     let mut list = [0u64; 128];
     let slots = 15 * pages;
     let found = crate::waiting::collect(medium, blocks, used, commits, cache, slots, &mut list);
-    let Inserted::Count(total) = found else {
+    let Inserted::Count(waits) = found else {
         return false;
     };
-    table_places(medium, blocks, used, commits, &list, total, words);
+    let whole = crate::waiting::add_unlined(commits, area, &mut list, waits);
+    let Inserted::Count(total) = whole else {
+        return false;
+    };
+    table_places(medium, blocks, area, used, commits, &list, total, words);
     let mut i: u64 = 0;
     while i < total {
         let k = i as usize;

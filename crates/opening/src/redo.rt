@@ -51,7 +51,7 @@ pub fn run(
     pages: u64,
     from: Cursor,
     cache: &mut [u8],
-    words: &mut [u64; 448],
+    words: &mut [u64; 512],
 ) -> bool
     requires ready { Ready blocks (length medium.now) }
     requires valid { Valid from }

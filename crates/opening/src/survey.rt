@@ -14,7 +14,8 @@ ghost use Rattle.opening.specs.Surveyed.{with_numbers, ReadAs, Applied, OpenedAs
 
 use conditions::cursor::Cursor;
 use layout::master::Found;
-use memory::{BLOCKS, END, LAST, NEXT, PAGES, SAVED, SLOTS};
+use memory::{AREA, BLOCKS, END, LAST, LINED, LINES, NEXT, PAGES, SAVED, SLOTS};
+use store::Area;
 
 // Whether a medium is well formed, and its last time.
 #[derive(Clone, Copy)]
@@ -24,9 +25,9 @@ pub struct Opened {
 }
 
 // Are the master's fields in form, the sizes those given, and its numbers in range?
-fn master_ok(medium: &[u8], blocks: u64, pages: u64) -> bool
+fn master_ok(medium: &[u8], blocks: u64, pages: u64, area: u64) -> bool
     requires { 1536 ≤ length medium.now }
-    ensures { result ≡ master_ok medium.now blocks pages }
+    ensures { result ≡ master_ok medium.now blocks pages area }
 {
     let found = layout::master::read(&medium[0..512]);
     let Found::Whole(f) = found else {
@@ -36,6 +37,9 @@ fn master_ok(medium: &[u8], blocks: u64, pages: u64) -> bool
         return false;
     }
     if f.pages != pages {
+        return false;
+    }
+    if f.area != area {
         return false;
     }
     if f.oldest == 0 {
@@ -70,12 +74,12 @@ pub enum LogFound {
 }
 
 // The master, the log blocks and the pages as they lie on the medium.
-fn read_log(medium: &[u8], blocks: u64, pages: u64) -> LogFound
+fn read_log(medium: &[u8], blocks: u64, pages: u64, area: u64) -> LogFound
     requires ready { Ready blocks (length medium.now) }
-    requires pages_bound { (pages ≤ 64) × (length medium.now ≡ medium_length blocks pages) }
-    ensures { ReadAs medium.now blocks pages result }
+    requires pages_bound { (pages ≤ 64) × (length medium.now ≡ medium_length blocks pages area) }
+    ensures { ReadAs medium.now blocks pages area result }
 {
-    if !master_ok(medium, blocks, pages) {
+    if !master_ok(medium, blocks, pages, area) {
         return LogFound::Bad;
     }
     let oldest = layout::master::oldest(medium);
@@ -105,9 +109,9 @@ fn malformed() -> Opened
 }
 
 // Copies the pages into the cache.
-fn copy_pages(medium: &[u8], blocks: u64, pages: u64, cache: &mut [u8])
+fn copy_pages(medium: &[u8], blocks: u64, pages: u64, area: u64, cache: &mut [u8])
     requires blocks_bound { (blocks ≤ 32) × (pages ≤ 64) }
-    requires medium_len { length medium.now ≡ medium_length blocks pages }
+    requires medium_len { length medium.now ≡ medium_length blocks pages area }
     requires cache_len { length cache.old ≡ 512 * pages }
     ensures { cache.new ≡ pages_on medium.now blocks pages }
 {
@@ -179,13 +183,14 @@ fn put_numbers(
     words: &mut [u64],
     blocks: u64,
     pages: u64,
+    area: Area,
     slots: u64,
     next: u64,
     last: u64,
     end: u64,
 )
-    requires { length words.old ≡ 448 }
-    ensures { (tail : List ℕ) → state_of words.new tail ≡ with_numbers (state_of words.old tail) blocks pages slots next last end }
+    requires { length words.old ≡ 512 }
+    ensures { (tail : List ℕ) → state_of words.new tail ≡ with_numbers (state_of words.old tail) blocks pages area slots next last end }
 {
     words[BLOCKS] = blocks;
     words[PAGES] = pages;
@@ -194,6 +199,9 @@ fn put_numbers(
     words[LAST] = last;
     words[SAVED] = last;
     words[END] = end;
+    words[AREA] = area.blocks;
+    words[LINES] = area.lines;
+    words[LINED] = area.last.0;
 }
 
 // Judges log, table and slots once redo is done, and puts into words and tail what the state is made of.
@@ -201,24 +209,25 @@ fn judge(
     medium: &[u8],
     blocks: u64,
     pages: u64,
+    area: u64,
     log: Cursor,
     end: u64,
     cache: &[u8],
-    words: &mut [u64; 448],
+    words: &mut [u64; 512],
     tail: &mut [u8; 512],
 ) -> Opened
     requires ready { Ready blocks (length medium.now) }
-    requires pages_bound { (pages ≤ 64) × (length cache.now ≡ 512 * pages) }
-    requires applied { Applied medium.now blocks pages log end cache.now (first_of words.old) }
+    requires pages_bound { (pages ≤ 64) × (area ≤ 16) × (length cache.now ≡ 512 * pages) }
+    requires applied { Applied medium.now blocks pages area log end cache.now (first_of words.old) }
     requires by_index { (t : List ℕ) → state_of words.old t ≡ with_first (state_of blank t) (first_of words.old) }
-    requires medium_len { length medium.now ≡ medium_length blocks pages }
-    ensures { OpenedAs medium.now blocks pages words.new tail.new result }
+    requires medium_len { length medium.now ≡ medium_length blocks pages area }
+    ensures { OpenedAs medium.now blocks pages area words.new tail.new result }
 {
-    let mut gathered = [0u64; 2592];
+    let mut gathered = [0u64; 3456];
     let used = conditions::table::extent(medium);
     let n = conditions::log::gather(medium, blocks, log, &mut gathered);
     let commits = &gathered[..n];
-    let tally = conditions::records::all_ok(medium, blocks, log, used, commits);
+    let tally = conditions::records::all_ok(medium, blocks, area, log, used, commits);
     if !tally.ok {
         return malformed();
     }
@@ -229,12 +238,17 @@ fn judge(
     if !cache_ok(medium, blocks, pages, used, commits, cache, next, last) {
         return malformed();
     }
-    if !crate::places::lay(medium, blocks, pages, used, commits, cache, words) {
+    let lined = conditions::lines::all_ok(medium, blocks, pages, area, last);
+    if !lined.ok {
+        return malformed();
+    }
+    let lines = lined.area;
+    if !crate::places::lay(medium, blocks, pages, lines, used, commits, cache, words) {
         return malformed();
     }
     lay_tail(medium, blocks, log, tail);
     let slots = used_slots(cache, pages);
-    put_numbers(words, blocks, pages, slots, next, last, end);
+    put_numbers(words, blocks, pages, lines, slots, next, last, end);
     Opened {
         ok: true,
         last: last,
@@ -246,23 +260,24 @@ pub fn open_state(
     medium: &[u8],
     blocks: u64,
     pages: u64,
+    area: u64,
     cache: &mut [u8],
-    words: &mut [u64; 448],
+    words: &mut [u64; 512],
     tail: &mut [u8; 512],
 ) -> Opened
     requires ready { Ready blocks (length medium.now) }
-    requires pages_bound { (pages ≤ 64) × (length medium.now ≡ medium_length blocks pages) }
+    requires pages_bound { (pages ≤ 64) × (area ≤ 16) × (length medium.now ≡ medium_length blocks pages area) }
     requires cache_len { length cache.old ≡ 512 * pages }
     requires words_value { words.old ≡ blank }
-    ensures { (result.ok ≡ well_formed medium.now blocks pages) × (result.ok ≡ true → (cache.new ≡ (redone medium.now blocks pages).cache) × (state_of words.new tail.new ≡ opened_state medium.now blocks pages) × (result.last ≡ last_time medium.now blocks)) }
+    ensures { (result.ok ≡ well_formed medium.now blocks pages area) × (result.ok ≡ true → (cache.new ≡ (redone medium.now blocks pages).cache) × (state_of words.new tail.new ≡ opened_state medium.now blocks pages area) × (result.last ≡ last_time medium.now blocks)) }
 {
-    let found = read_log(medium, blocks, pages);
+    let found = read_log(medium, blocks, pages, area);
     let LogFound::Good(log, end) = found else {
         return malformed();
     };
-    copy_pages(medium, blocks, pages, cache);
+    copy_pages(medium, blocks, pages, area, cache);
     if !crate::redo::run(medium, blocks, pages, log, cache, words) {
         return malformed();
     }
-    judge(medium, blocks, pages, log, end, cache, words, tail)
+    judge(medium, blocks, pages, area, log, end, cache, words, tail)
 }

@@ -22,7 +22,7 @@ use Rattle.store.specs.declared.Timing.TheVariants.{Timed, Untimed}
 use Rattle.store.specs.Places.{place_at, committed_as, find_committed, time_up_to, at_found, stored_under}
 use Rattle.store.specs.StorePage.{stamp_time, stamp_with, stamp_from, settle_with, settle_from}
 use Rattle.store.proofs.SearchLaws.{first_found}
-use Rattle.memory.specs.Memory.{places_of}
+use Rattle.memory.specs.Memory.{places_of, area_of}
 use Rattle.memory.proofs.ColumnLaws.{length_listed, get_d_listed}
 use Rattle.live.proofs.FirstLaws.{committed_below}
 use Rattle.live.proofs.PlaceLaws.{life_at}
@@ -65,20 +65,20 @@ module _ (w : List ℕ) where
       go Nothing e = refl
   found_time (Stamped t) = refl
 
-  found_lower : (slot : Slot) (ps : List Place) → lower_by (place_for w slot) ps ≡ settle_with (stamp_time pair slot) slot (places_of w) ps
+  found_lower : (slot : Slot) (ps : List Place) → lower_by (area_of w) (place_for w slot) ps ≡ settle_with (area_of w) (stamp_time pair slot) slot (places_of w) ps
   unfolding lower_by place_for stamp_time stored_under
   found_lower Empty ps = refl
   found_lower (Waiting n) ps = sym (go (find_committed (places_of w) n.0) refl)
     where
       by : (i : ℕ) → find_committed (places_of w) n.0 ≡ At i → i < 64 → (b : Bool)
-          → settle_with (cond b (Timed (record { 0 = get_or w (256 + i) 0 })) Untimed) (Waiting n) (places_of w) ps ≡ lower_by (cond b i 64) ps
+          → settle_with (area_of w) (cond b (Timed (record { 0 = get_or w (256 + i) 0 })) Untimed) (Waiting n) (places_of w) ps ≡ lower_by (area_of w) (cond b i 64) ps
       by i e h true = simp (e, lt-ltb _ _ h)
       by i e h false = refl
 
       go : (f : Found) → find_committed (places_of w) n.0 ≡ f
-          → settle_with (at_found f (λ i. time_up_to (place_at (places_of w) i).life (get_or w 6 0))) (Waiting n) (places_of w) ps ≡ lower_by (stored_place w f) ps
+          → settle_with (area_of w) (at_found f (λ i. time_up_to (place_at (places_of w) i).life (get_or w 6 0))) (Waiting n) (places_of w) ps ≡ lower_by (area_of w) (stored_place w f) ps
       go (At i) e =
-          ap (λ (t : Timing). settle_with t (Waiting n) (places_of w) ps) (time_found n.0 i e)
+          ap (λ (t : Timing). settle_with (area_of w) t (Waiting n) (places_of w) ps) (time_found n.0 i e)
           ∙ by i e (committed_below _ _ _ e) (leb (get_or w (320 + i) 0) (get_or w 6 0))
       go Nothing e = refl
   found_lower (Stamped t) ps = refl
@@ -115,16 +115,16 @@ module _ (w : List ℕ) where
     unfolding stamped_under
     stamped_found = stamped_from 15 0 page (omega arith) (λ j g. refl)
 
-    settled_from : (k i : ℕ) (ps : List Place) → i + k ≤ 15 → settle_by found ps i k ≡ settle_from pair (places_of w) page ps i k
+    settled_from : (k i : ℕ) (ps : List Place) → i + k ≤ 15 → settle_by (area_of w) found ps i k ≡ settle_from (area_of w) pair (places_of w) page ps i k
     unfolding settle_by settle_from
     settled_from zero i ps h = refl
     settled_from (suc k) i ps h =
-        let qs = settle_with (stamp_time pair (slot i)) (slot i) (places_of w) ps in
-        let e : lower_by (get_or found i 0) ps ≡ qs =
-        ap (λ (p : ℕ). lower_by p ps) (found_at i (omega arith)) ∙ found_lower (slot i) ps in
+        let qs = settle_with (area_of w) (stamp_time pair (slot i)) (slot i) (places_of w) ps in
+        let e : lower_by (area_of w) (get_or found i 0) ps ≡ qs =
+        ap (λ (p : ℕ). lower_by (area_of w) p ps) (found_at i (omega arith)) ∙ found_lower (slot i) ps in
         rw e (settled_from k (i + 1) qs (omega arith))
 
-    settled_found : settle_by found (places_of w) 0 15 ≡ settled_under w page
+    settled_found : settle_by (area_of w) found (places_of w) 0 15 ≡ settled_under w page
     unfolding settled_under
     settled_found = settled_from 15 0 (places_of w) (omega arith)
 
@@ -134,7 +134,7 @@ module _ (w page found : List ℕ) (e : found ≡ places_for w page) where
   pub stamped_is : stamp_by w found page 0 15 ≡ stamped_under w page
   stamped_is = rw e (stamped_found w page)
 
-  pub settled_is : settle_by found (places_of w) 0 15 ≡ settled_under w page
+  pub settled_is : settle_by (area_of w) found (places_of w) 0 15 ≡ settled_under w page
   settled_is = rw e (settled_found w page)
 
   pub asked : (block : List ℕ) (b : Bool) → b ≡ eq_list block (stamp_by w found page 0 15) → eq_list block (stamped_under w page) ≡ b

@@ -15,7 +15,7 @@ use Rattle.fields.proofs.PartLaws.{lent_part}
 use Rattle.fields.proofs.EqualLaws.{eq_end}
 use Rattle.store.specs.StorePage.{stamp_with}
 use Rattle.store.specs.declared.State.{State}
-use Rattle.memory.specs.Memory.{places_of, state_by, state_of, with_places}
+use Rattle.memory.specs.Memory.{places_of, area_of, state_by, state_of, with_places}
 use Rattle.pages.specs.Stamped.{time_by, stamped_by, stamp_by, lower_by, settle_by}
 use Rattle.pages.proofs.StampLaws.{length_stamp_by, stamp_by_header, stamped_slot}
 
@@ -39,15 +39,14 @@ stamp_done w found page i h = let m : 15 - i ≡ 0 = omega arith in rw m
 
 -- the state once the places that are left are counted down
 unfoldable pub settling : List ℕ → List ℕ → ℕ → List ℕ → State
-settling found w i tail = with_places (state_of w tail) (settle_by found (places_of w) i (15 - i))
+settling found w i tail = with_places (state_of w tail) (settle_by (area_of w) found (places_of w) i (15 - i))
 
 pub settle_turn : (found w v : List ℕ) (i : ℕ) (tail : List ℕ) → i < 15
-    → state_of v tail ≡ with_places (state_of w tail) (lower_by (get_or found i 0) (places_of w)) → settling found v (i + 1) tail ≡ settling found w i tail
+    → state_of v tail ≡ with_places (state_of w tail) (lower_by (area_of w) (get_or found i 0) (places_of w)) → settling found v (i + 1) tail ≡ settling found w i tail
 unfolding settling settle_by state_of state_by with_places
 settle_turn found w v i tail h e =
     let m : 15 - i ≡ suc (15 - (i + 1)) = omega arith in
-    let p : places_of v ≡ lower_by (get_or found i 0) (places_of w) = ap (λ (s : State). s.places) e in
-    ap (λ (s : State). with_places s (settle_by found (places_of v) (i + 1) (15 - (i + 1)))) e ∙ rw (m, p)
+    ap (λ (s : State). with_places s (settle_by s.area found s.places (i + 1) (15 - (i + 1)))) e ∙ rw m
 
 pub settle_done : (found w : List ℕ) (i : ℕ) (tail : List ℕ) → 15 ≤ i → settling found w i tail ≡ state_of w tail
 unfolding settling settle_by state_of state_by with_places

@@ -6,19 +6,20 @@ use Rattle.layout.specs.declared.slot.Slot.{Slot}
 use Rattle.layout.specs.declared.slot.Slot.TheVariants.{Empty, Waiting, Stamped}
 use Rattle.store.specs.declared.Found.{Found}
 use Rattle.store.specs.declared.Found.TheVariants.{At, Nothing}
+use Rattle.store.specs.declared.Area.{Area}
 use Rattle.store.specs.declared.Place.{Place}
 use Rattle.store.specs.declared.Timing.{Timing}
 use Rattle.store.specs.declared.Timing.TheVariants.{Timed, Untimed}
 use Rattle.store.specs.Places.{place_at, find_committed, stored_under, lowered}
 use Rattle.store.specs.StorePage.{stamp_with, stamp_from, settle_from}
-use Rattle.memory.specs.Memory.{listed, places_of}
+use Rattle.memory.specs.Memory.{listed, places_of, area_of}
 
 -- the page stamped by what words hold, and the places once its versions are counted
 unfoldable pub stamped_under : List ℕ → List ℕ → List ℕ
 stamped_under w page = stamp_from (stored_under (places_of w) (get_or w 6 0)) page 0 15
 
 unfoldable pub settled_under : List ℕ → List ℕ → List Place
-settled_under w page = settle_from (stored_under (places_of w) (get_or w 6 0)) (places_of w) page (places_of w) 0 15
+settled_under w page = settle_from (area_of w) (stored_under (places_of w) (get_or w 6 0)) (places_of w) page (places_of w) 0 15
 
 -- ---- by the places found for the slots
 
@@ -52,10 +53,10 @@ stamp_by w found page i zero = page
 stamp_by w found page i (suc k) = stamp_by w found (stamp_with (time_by w (get_or found i 0)) page i) (i + 1) k
 
 -- place p counted down, none from 64 on
-unfoldable pub lower_by : ℕ → List Place → List Place
-lower_by p ps = cond (ltb p 64) (set ps p (lowered (place_at ps p))) ps
+unfoldable pub lower_by : Area → ℕ → List Place → List Place
+lower_by a p ps = cond (ltb p 64) (set ps p (lowered a (place_at ps p))) ps
 
 -- the places found for the k slots from slot i on counted down, one after the other
-unfoldable pub settle_by : List ℕ → List Place → ℕ → ℕ → List Place
-settle_by found ps i zero = ps
-settle_by found ps i (suc k) = settle_by found (lower_by (get_or found i 0) ps) (i + 1) k
+unfoldable pub settle_by : Area → List ℕ → List Place → ℕ → ℕ → List Place
+settle_by a found ps i zero = ps
+settle_by a found ps i (suc k) = settle_by a found (lower_by a (get_or found i 0) ps) (i + 1) k

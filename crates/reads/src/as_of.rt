@@ -8,7 +8,7 @@ use memory::{SAVED, SLOTS};
 use store::{Best, RECORDS, Reading, Refusal};
 
 pub fn as_of(
-    words: &[u64; 448],
+    words: &[u64; 512],
     tail: &[u8; 512],
     medium: &[u8],
     cache: &[u8],

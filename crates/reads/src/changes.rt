@@ -8,7 +8,7 @@ use memory::{SAVED, SLOTS};
 use store::{Answer, Found, RECORDS, Refusal};
 
 pub fn changes(
-    words: &[u64; 448],
+    words: &[u64; 512],
     tail: &[u8; 512],
     medium: &[u8],
     cache: &[u8],

@@ -43,7 +43,7 @@ pub(crate) fn missing() -> Reading
 }
 
 pub fn current_read(
-    words: &[u64; 448],
+    words: &[u64; 512],
     tail: &[u8; 512],
     medium: &[u8],
     cache: &[u8],

@@ -5,3 +5,4 @@
 pub mod as_of;
 pub mod changes;
 pub mod current_read;
+pub mod user;

@@ -39,33 +39,33 @@ module _ (ws w : List ℕ) (i : ℕ) where
   words_end x h g = sym (append-nil x) ∙ (rw (drop_of_length-le ws h) at g)
 
 -- the words that are taken
-pub length_words : (head : List ℕ) → length (words_in head) ≡ 448
+pub length_words : (head : List ℕ) → length (words_in head) ≡ 512
 unfolding words_in
-length_words head = length_listed _ 0 448
+length_words head = length_listed _ 0 512
 
-pub word_at : (head : List ℕ) (i : ℕ) → i < 448 → get_or (words_in head) i 0 ≡ dec (part head (16 + 8 * i) 8)
+pub word_at : (head : List ℕ) (i : ℕ) → i < 512 → get_or (words_in head) i 0 ≡ dec (part head (16 + 8 * i) 8)
 unfolding words_in
-word_at head i h = get_d_listed (λ j. dec (part head (16 + 8 * j) 8)) 0 448 i 0 h ∙ rw zero-add
+word_at head i h = get_d_listed (λ j. dec (part head (16 + 8 * j) 8)) 0 512 i 0 h ∙ rw zero-add
 
--- what is put is read again as the same room: of its 4112 bytes in front the sizes, the words and the tail
-module _ (w t m c : List ℕ) (hw : length w ≡ 448) (ht : length t ≡ 512) where
+-- what is put is read again as the same room: of its 4624 bytes in front the sizes, the words and the tail
+module _ (w t m c : List ℕ) (hw : length w ≡ 512) (ht : length t ≡ 512) where
   abbrev head : List ℕ
-  head = take 4112 (room_bytes w t m c)
+  head = take 4624 (room_bytes w t m c)
 
-  length_words_put : length (flat (enc 8) w) ≡ 3584
+  length_words_put : length (flat (enc 8) w) ≡ 4096
   length_words_put = length_flat (enc 8) 8 w (each_of _ (length_enc 8) w) ∙ omega arith
 
-  in_head : (at n : ℕ) → at + n ≤ 4112 → part head at n ≡ part (room_bytes w t m c) at n
-  in_head at n h = part_part (room_bytes w t m c) 0 4112 at n h ∙ rw zero-add
+  in_head : (at n : ℕ) → at + n ≤ 4624 → part head at n ≡ part (room_bytes w t m c) at n
+  in_head at n h = part_part (room_bytes w t m c) 0 4624 at n h ∙ rw zero-add
 
-  pub sizes_again : length m ≤ 50688 → length c ≤ 32768 → sizes_of head ≡ record { taken = true; medium = length m; cache = length c }
+  pub sizes_again : length m ≤ 58880 → length c ≤ 32768 → sizes_of head ≡ record { taken = true; medium = length m; cache = length c }
   unfolding sizes_of room_bytes
   sizes_again hm hc =
       let a : dec (part head 0 8) ≡ length m = ap dec (in_head 0 8 (omega arith)) ∙ dec_mid [] _ 0 8 (length m) refl (omega arith) in
       let b : dec (part head 8 8) ≡ length c = ap dec (in_head 8 8 (omega arith)) ∙ dec_mid (enc 8 (length m)) _ 8 8 (length c) (length_enc 8 (length m)) (omega arith) in
       simp (a, b, le-leb _ _ hm, le-leb _ _ hc)
 
-  at_word : (i : ℕ) → i < 448 → part (room_bytes w t m c) (16 + 8 * i) 8 ≡ enc 8 (get_or w i 0)
+  at_word : (i : ℕ) → i < 512 → part (room_bytes w t m c) (16 + 8 * i) 8 ≡ enc 8 (get_or w i 0)
   unfolding room_bytes
   at_word i h =
       let e : 16 + 8 * i ≡ length (enc 8 (length m)) + (length (enc 8 (length c)) + 8 * i) = omega (arith, length_enc 8 (length m), length_enc 8 (length c)) in
@@ -78,7 +78,7 @@ module _ (w t m c : List ℕ) (hw : length w ≡ 448) (ht : length t ≡ 512) wh
   words_again b =
       ext_get_or 0 (words_in head) w (length_words head ∙ sym hw)
       (λ i h.
-      let g : i < 448 = omega (arith, length_words head) in
+      let g : i < 512 = omega (arith, length_words head) in
       word_at head i g
       ∙ ap dec (in_head (16 + 8 * i) 8 (omega arith) ∙ at_word i g)
       ∙ dec_enc 8 (get_or w i 0) (each_at (λ (x : ℕ). x < 256 ^ 8) w i 0 b (omega arith)))
@@ -87,7 +87,7 @@ module _ (w t m c : List ℕ) (hw : length w ≡ 448) (ht : length t ≡ 512) wh
   abbrev front : List ℕ
   front = enc 8 (length m) ++ (enc 8 (length c) ++ flat (enc 8) w)
 
-  length_front : length front ≡ 3600
+  length_front : length front ≡ 4112
   length_front = simp (length-append, length_enc, length_words_put)
 
   front_of : room_bytes w t m c ≡ front ++ (t ++ (m ++ c))
@@ -96,9 +96,9 @@ module _ (w t m c : List ℕ) (hw : length w ≡ 448) (ht : length t ≡ 512) wh
 
   pub tail_again : tail_in head ≡ t
   unfolding tail_in
-  tail_again = in_head 3600 512 (omega arith) ∙ rw front_of (part_mid front t (m ++ c) 3600 512 length_front ht)
+  tail_again = in_head 4112 512 (omega arith) ∙ rw front_of (part_mid front t (m ++ c) 4112 512 length_front ht)
 
-  pub rest_again : drop 4112 (room_bytes w t m c) ≡ m ++ c
+  pub rest_again : drop 4624 (room_bytes w t m c) ≡ m ++ c
   rest_again =
-      let e : length (front ++ t) ≡ 4112 = length-append front t ∙ omega (arith, length_front) in
-      ap (drop 4112) (front_of ∙ sym (append_assoc front t (m ++ c))) ∙ drop_at (front ++ t) (m ++ c) 4112 e
+      let e : length (front ++ t) ≡ 4624 = length-append front t ∙ omega (arith, length_front) in
+      ap (drop 4624) (front_of ∙ sym (append_assoc front t (m ++ c))) ∙ drop_at (front ++ t) (m ++ c) 4624 e

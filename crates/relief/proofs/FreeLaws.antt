@@ -26,25 +26,25 @@ module _ (s : State) (m c : List ℕ) (next : Relief) (e : next ≡ relief_of s 
   none zero l = simp (← e)
   none (suc k) l = simp (← e, l)
 
-  module _ (x y : List ℕ) (i : ℕ) (w : Freed) (h : behind x (freed_from (70 - i) s m c) ≡ w) where
-    pub free_turn : (a : Answer) (t : State) (n d : List ℕ) → i < 70 → is_left next ≡ true → leaves a t n d ≡ made_of next s m c
-        → y ≡ x ++ call_text next (answer_number a) → behind y (freed_from (70 - (i + 1)) t n d) ≡ w
+  module _ (x y : List ℕ) (i : ℕ) (w : Freed) (h : behind x (freed_from (74 - i) s m c) ≡ w) where
+    pub free_turn : (a : Answer) (t : State) (n d : List ℕ) → i < 74 → is_left next ≡ true → leaves a t n d ≡ made_of next s m c
+        → y ≡ x ++ call_text next (answer_number a) → behind y (freed_from (74 - (i + 1)) t n d) ≡ w
     free_turn a t n d j l o p =
-        let k : 70 - i ≡ suc (70 - (i + 1)) = omega arith in
-        let g : behind x (freed_from (suc (70 - (i + 1))) s m c) ≡ w = rw k at h in
-        simp (p, append_assoc) (rw (made (70 - (i + 1)) a t n d l o) at g)
+        let k : 74 - i ≡ suc (74 - (i + 1)) = omega arith in
+        let g : behind x (freed_from (suc (74 - (i + 1))) s m c) ≡ w = rw k at h in
+        simp (p, append_assoc) (rw (made (74 - (i + 1)) a t n d l o) at g)
 
     pub free_none : is_left next ≡ false → y ≡ x ++ end_text next → freed y s m c ≡ w
-    free_none l p = simp p (rw (none (70 - i) l) at h)
+    free_none l p = simp p (rw (none (74 - i) l) at h)
 
-    pub free_last : 70 ≤ i → y ≡ x ++ end_text next → freed y s m c ≡ w
+    pub free_last : 74 ≤ i → y ≡ x ++ end_text next → freed y s m c ≡ w
     unfolding freed_from
     free_last j p =
-        let k : 70 - i ≡ 0 = omega arith in
+        let k : 74 - i ≡ 0 = omega arith in
         simp (p, e) (rw k at h)
 
 -- at first nothing is printed
-pub free_start : (s : State) (m c x : List ℕ) → x ≡ [] → behind x (freed_from (70 - 0) s m c) ≡ freed_from 70 s m c
+pub free_start : (s : State) (m c x : List ℕ) → x ≡ [] → behind x (freed_from (74 - 0) s m c) ≡ freed_from 74 s m c
 free_start s m c x e = simp e
 
 -- what is left, and what is printed behind the lines

@@ -14,22 +14,22 @@ medium_in head = dec (part head 0 8)
 abbrev pub cache_in : List ℕ → ℕ
 cache_in head = dec (part head 8 8)
 
--- relief: "The run ends .. at a medium above 50,688 bytes or a cache above 32,768"
+-- relief: "The run ends .. at a medium above 58,880 bytes or a cache above 32,768"
 unfoldable pub sizes_of : List ℕ → Sizes
 sizes_of head =
-    cond (leb (medium_in head) 50688 && leb (cache_in head) 32768)
+    cond (leb (medium_in head) 58880 && leb (cache_in head) 32768)
     (record { taken = true; medium = medium_in head; cache = cache_in head })
     (record { taken = false; medium = 0; cache = 0 })
 
--- relief: "the 448 words of the state (8 bytes each)"
+-- relief: "the 512 words of the state (8 bytes each)"
 unfoldable pub words_in : List ℕ → List ℕ
-words_in head = listed (λ i. dec (part head (16 + 8 * i) 8)) 0 448
+words_in head = listed (λ i. dec (part head (16 + 8 * i) 8)) 0 512
 
 -- relief: "the tail (512 bytes)"
 unfoldable pub tail_in : List ℕ → List ℕ
-tail_in head = part head 3600 512
+tail_in head = part head 4112 512
 
--- relief: "the length of the medium and that of the cache .., the 448 words of the state .., the tail .., the medium, the
+-- relief: "the length of the medium and that of the cache .., the 512 words of the state .., the tail .., the medium, the
 -- cache"
 unfoldable pub room_bytes : List ℕ → List ℕ → List ℕ → List ℕ → List ℕ
 room_bytes words tail m c =

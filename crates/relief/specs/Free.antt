@@ -1,4 +1,4 @@
--- What `relief` does with a room: it asks which call comes next and makes it, until none is left or 70 are made.
+-- What `relief` does with a room: it asks which call comes next and makes it, until none is left or 74 are made.
 use Rattle.std.specs.Prelude.{ℕ, zero, suc, ◌≡◌, Bool, true, false, cond, List, [], ◌∷◌, ◌++◌}
 use Rattle.store.specs.declared.Answer.TheVariants.{Done}
 use Rattle.store.specs.declared.Relief.{Relief}
@@ -63,7 +63,7 @@ behind t f = freed (t ++ f.text) f.state f.medium f.cache
 abbrev pub goes_on : Relief → Outcome → (State → List ℕ → List ℕ → Freed) → Freed
 goes_on next o rest = behind (call_text next (answer_number o.answer)) (rest o.state o.medium o.cache)
 
--- relief: "makes the call that is named, until nothing is left, at most 70 times": at most n times
+-- relief: "makes the call that is named, until nothing is left, at most 74 times": at most n times
 unfoldable pub freed_from : ℕ → State → List ℕ → List ℕ → Freed
 freed_from zero s m c = freed (end_text (relief_of s m c)) s m c
 freed_from (suc n) s m c =

@@ -17,13 +17,13 @@ pub struct Sizes {
 
 // The sizes of a room, from the bytes in front of its medium.
 pub fn read_sizes(head: &[u8]) -> Sizes
-    requires { length head.now ≡ 4112 }
-    ensures medium_bound { (result.medium ≤ 50688) × (result.cache ≤ 32768) }
+    requires { length head.now ≡ 4624 }
+    ensures medium_bound { (result.medium ≤ 58880) × (result.cache ≤ 32768) }
     ensures value { result ≡ sizes_of head.now }
 {
     let medium = field::get8(head, 0);
     let cache = field::get8(head, 8);
-    if 50688 < medium {
+    if 58880 < medium {
         return Sizes {
             taken: false,
             medium: 0,
@@ -46,7 +46,7 @@ pub fn read_sizes(head: &[u8]) -> Sizes
 
 // Takes the words of the state from the bytes in front of the medium.
 fn take_words(words: &mut [u64], head: &[u8])
-    requires { (length words.old ≡ 448) × (length head.now ≡ 4112) }
+    requires { (length words.old ≡ 512) × (length head.now ≡ 4624) }
     ensures { words.new ≡ words_in head.now }
 {
     let mut i: usize = 0;
@@ -57,12 +57,12 @@ fn take_words(words: &mut [u64], head: &[u8])
 }
 
 // Takes the state of a room from there.
-pub fn take_state(words: &mut [u64; 448], tail: &mut [u8; 512], head: &[u8])
-    requires { length head.now ≡ 4112 }
+pub fn take_state(words: &mut [u64; 512], tail: &mut [u8; 512], head: &[u8])
+    requires { length head.now ≡ 4624 }
     ensures { (words.new ≡ words_in head.now) × (tail.new ≡ tail_in head.now) }
 {
     take_words(words, head);
-    block::copy(tail, &head[3600..4112]);
+    block::copy(tail, &head[4112..4624]);
 }
 
 // Puts a number of 8 bytes behind the first n of the output.
@@ -95,13 +95,13 @@ fn put_words(out: &mut [u8], n: usize, words: &[u64]) -> usize
 pub fn put_room(
     out: &mut [u8],
     n: usize,
-    words: &[u64; 448],
+    words: &[u64; 512],
     tail: &[u8; 512],
     medium: &[u8],
     cache: &[u8],
 ) -> usize
-    requires { n + (4112 + (length medium.now + length cache.now)) ≤ length out.old }
-    ensures value { result ≡ n + (4112 + (length medium.now + length cache.now)) }
+    requires { n + (4624 + (length medium.now + length cache.now)) ≤ length out.old }
+    ensures value { result ≡ n + (4624 + (length medium.now + length cache.now)) }
     ensures out_after { take result out.new ≡ take n out.old ++ room_bytes words.now tail.now medium.now cache.now }
 {
     let a = put_number(out, n, medium.len() as u64);

@@ -13,7 +13,7 @@ use store::{Answer, Relief};
 // Makes the call that is named.
 fn make(
     next: Relief,
-    words: &mut [u64; 448],
+    words: &mut [u64; 512],
     tail: &[u8; 512],
     medium: &mut [u8],
     cache: &mut [u8],
@@ -93,9 +93,9 @@ fn put_end(out: &mut [u8], n: usize, next: Relief) -> usize
     print::bytes(out, n, b"N\n")
 }
 
-// Makes the calls that are named, at most 70, and prints their lines from the front of the output on.
+// Makes the calls that are named, at most 74, and prints their lines from the front of the output on.
 fn free(
-    words: &mut [u64; 448],
+    words: &mut [u64; 512],
     tail: &[u8; 512],
     medium: &mut [u8],
     cache: &mut [u8],
@@ -103,11 +103,11 @@ fn free(
 ) -> usize
     requires { 4096 ≤ length out.old }
     ensures upper_bound { result ≤ 4096 }
-    ensures cache_after { freed (take result out.new) (state_of words.new tail.now) medium.new cache.new ≡ freed_from 70 (state_of words.old tail.now) medium.old cache.old }
+    ensures cache_after { freed (take result out.new) (state_of words.new tail.now) medium.new cache.new ≡ freed_from 74 (state_of words.old tail.now) medium.old cache.old }
 {
     let mut n: usize = 0;
     let mut i: usize = 0;
-    while i < 70 {
+    while i < 74 {
         let next = stores::relief::relief(words, tail, medium, cache);
         if !is_left(next) {
             return put_end(out, n, next);
@@ -123,18 +123,18 @@ fn free(
 
 // Frees the log of a room and prints the room behind the lines of its calls.
 pub fn freed_room(
-    words: &mut [u64; 448],
+    words: &mut [u64; 512],
     tail: &[u8; 512],
     medium: &mut [u8],
     cache: &mut [u8],
     out: &mut [u8],
 ) -> usize
-    requires medium_len_bound { length medium.old ≤ 50688 }
+    requires medium_len_bound { length medium.old ≤ 58880 }
     requires cache_len_bound { length cache.old ≤ 32768 }
-    requires out_len { length out.old ≡ 91664 }
-    ensures upper_bound { result ≤ 91664 }
-    ensures left_as { LeftAs (freed_from 70 (state_of words.old tail.now) medium.old cache.old) (state_of words.new tail.now) medium.new cache.new }
-    ensures out_after { take result out.new ≡ (freed_from 70 (state_of words.old tail.now) medium.old cache.old).text ++ room_bytes words.new tail.now medium.new cache.new }
+    requires out_len { length out.old ≡ 100368 }
+    ensures upper_bound { result ≤ 100368 }
+    ensures left_as { LeftAs (freed_from 74 (state_of words.old tail.now) medium.old cache.old) (state_of words.new tail.now) medium.new cache.new }
+    ensures out_after { take result out.new ≡ (freed_from 74 (state_of words.old tail.now) medium.old cache.old).text ++ room_bytes words.new tail.now medium.new cache.new }
 {
     let n = free(words, tail, medium, cache, out);
     form::put_room(out, n, words, tail, medium, cache)

@@ -16,17 +16,17 @@ fn read_all(bytes: &mut [u8]) -> bool {
 
 // Reads a room, frees its log and writes it; false where the run ends.
 fn play(
-    words: &mut [u64; 448],
+    words: &mut [u64; 512],
     tail: &mut [u8; 512],
     medium: &mut [u8],
     cache: &mut [u8],
     out: &mut [u8],
 ) -> bool
-    requires medium_len { length medium.old ≡ 50688 }
+    requires medium_len { length medium.old ≡ 58880 }
     requires cache_len { length cache.old ≡ 32768 }
-    requires out_len { length out.old ≡ 91664 }
+    requires out_len { length out.old ≡ 100368 }
 {
-    let mut head = [0u8; 4112];
+    let mut head = [0u8; 4624];
     if !read_all(&mut head) {
         return false;
     }
@@ -47,13 +47,13 @@ fn play(
     io::write_all(STDOUT_FILENO, &out[..n])
 }
 
-// The buffers are as long as the largest sizes ask, and as the lines of 70 calls with the room behind them.
+// The buffers are as long as the largest sizes ask, and as the lines of 74 calls with the room behind them.
 fn main() {
-    let mut words = [0u64; 448];
+    let mut words = [0u64; 512];
     let mut tail = [0u8; 512];
-    let mut medium = [0u8; 50688];
+    let mut medium = [0u8; 58880];
     let mut cache = [0u8; 32768];
-    let mut out = [0u8; 91664];
+    let mut out = [0u8; 100368];
     // A proved loop has to end: it counts its turns down, from a number that no run uses up.
     let mut turns = u64::MAX;
     while turns > 0 {

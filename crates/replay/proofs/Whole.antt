@@ -21,7 +21,7 @@ use Rattle.rooms.specs.Steps.{step_of, says, does}
 use Rattle.replay.specs.Whole.{prints_of}
 
 -- the program begins without a medium
-pub room_first : (m c : List ℕ) (s : State) → room_of (record { stage = 1; blocks = 0; pages = 0; bytes = 0 }) m c s ≡ gone
+pub room_first : (m c : List ℕ) (s : State) → room_of (record { stage = 1; blocks = 0; pages = 0; area = 0; bytes = 0 }) m c s ≡ gone
 unfolding room_of
 room_first m c s = refl
 
@@ -33,8 +33,8 @@ same r bs = ap (λ (a : Asked). step_of a r) (line_meaning bs)
 other_stops : (r : Room) → step_of (replay_of other) r ≡ stops
 unfolding step_of plays plan_of replay_of plain
 other_stops gone = refl
-other_stops (shut l d m) = refl
-other_stops (ready l d m c s) = refl
+other_stops (shut l d a m) = refl
+other_stops (ready l d a m c s) = refl
 
 -- a line without a letter is one
 no_letter : (l : Line) → l.letter ≡ 0 → seen_of l ≡ other

@@ -19,14 +19,14 @@ use script::line;
 fn play_out(
     run: Run,
     bytes: &[u8],
-    words: &mut [u64; 448],
+    words: &mut [u64; 512],
     tail: &mut [u8; 512],
     medium: &mut [u8],
     cache: &mut [u8],
     buffer: &mut [u8],
     out: &mut [u8],
 ) -> Run
-    requires medium_len { length medium.old ≡ 50688 }
+    requires medium_len { length medium.old ≡ 58880 }
     requires cache_len { length cache.old ≡ 32768 }
     requires buffer_len { length buffer.old ≡ 40000 }
     requires out_len { length out.old ≡ 200000 }
@@ -48,14 +48,14 @@ fn play_out(
 fn play_all(
     run: Run,
     bytes: &[u8],
-    words: &mut [u64; 448],
+    words: &mut [u64; 512],
     tail: &mut [u8; 512],
     medium: &mut [u8],
     cache: &mut [u8],
     buffer: &mut [u8],
     out: &mut [u8],
 ) -> Run
-    requires medium_len { length medium.old ≡ 50688 }
+    requires medium_len { length medium.old ≡ 58880 }
     requires cache_len { length cache.old ≡ 32768 }
     requires buffer_len { length buffer.old ≡ 40000 }
     requires out_len { length out.old ≡ 200000 }
@@ -76,14 +76,14 @@ fn play_all(
 // The end of the input, which ends a line that was begun.
 fn finish(
     run: Run,
-    words: &mut [u64; 448],
+    words: &mut [u64; 512],
     tail: &mut [u8; 512],
     medium: &mut [u8],
     cache: &mut [u8],
     buffer: &mut [u8],
     out: &mut [u8],
 ) -> Run
-    requires medium_len { length medium.old ≡ 50688 }
+    requires medium_len { length medium.old ≡ 58880 }
     requires cache_len { length cache.old ≡ 32768 }
     requires buffer_len { length buffer.old ≡ 40000 }
     requires out_len { length out.old ≡ 200000 }
@@ -105,14 +105,14 @@ fn finish(
 // Reads once and plays what came.
 fn read_some(
     run: Run,
-    words: &mut [u64; 448],
+    words: &mut [u64; 512],
     tail: &mut [u8; 512],
     medium: &mut [u8],
     cache: &mut [u8],
     buffer: &mut [u8],
     out: &mut [u8],
 ) -> Run
-    requires medium_len { length medium.old ≡ 50688 }
+    requires medium_len { length medium.old ≡ 58880 }
     requires cache_len { length cache.old ≡ 32768 }
     requires buffer_len { length buffer.old ≡ 40000 }
     requires out_len { length out.old ≡ 200000 }
@@ -128,9 +128,9 @@ fn read_some(
 
 // The buffers are as long as the largest sizes ask, 32 log blocks and 64 pages, and as the longest answer buffer.
 fn main() {
-    let mut words = [0u64; 448];
+    let mut words = [0u64; 512];
     let mut tail = [0u8; 512];
-    let mut medium = [0u8; 50688];
+    let mut medium = [0u8; 58880];
     let mut cache = [0u8; 32768];
     let mut buffer = [0u8; 40000];
     let mut out = [0u8; 200000];
@@ -138,6 +138,7 @@ fn main() {
         stage: 1,
         blocks: 0,
         pages: 0,
+        area: 0,
         bytes: 0,
     };
     let mut run = Run {

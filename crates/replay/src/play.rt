@@ -40,7 +40,7 @@ fn stands(line: Line, standing: Standing, on: bool, n: usize, next: usize) -> Ru
 pub fn play(
     begun: Line,
     standing: Standing,
-    words: &mut [u64; 448],
+    words: &mut [u64; 512],
     tail: &mut [u8; 512],
     bytes: &[u8],
     medium: &mut [u8],
@@ -48,7 +48,7 @@ pub fn play(
     buffer: &mut [u8],
     out: &mut [u8],
 ) -> Run
-    requires medium_len { length medium.old ≡ 50688 }
+    requires medium_len { length medium.old ≡ 58880 }
     requires cache_len { length cache.old ≡ 32768 }
     requires buffer_len { length buffer.old ≡ 40000 }
     requires out_len { length out.old ≡ 200000 }

@@ -14,7 +14,7 @@ use Rattle.store.specs.declared.Answer.TheVariants.{Done}
 use Rattle.store.specs.declared.State.{State}
 use Rattle.store.specs.Answer.{leaves}
 use Rattle.script.specs.declared.call.Call.{Call}
-use Rattle.script.specs.declared.call.Call.TheVariants.{Format, Open, OpenSized, Cut, Begin, Write, Erase, Read, Commit, Abort, Hand, AsOf, Changes, StoreLog, StorePage, Checkpoint, Block, Page, Poke, Other}
+use Rattle.script.specs.declared.call.Call.TheVariants.{Format, Open, OpenSized, Cut, Begin, Write, Erase, Read, Commit, Abort, Hand, AsOf, Changes, StoreLog, StorePage, Checkpoint, Block, Page, User, Poke, Other}
 use Rattle.script.specs.contracts.call.Call.{the_type}
 use Rattle.fields.proofs.Choose.{bool_case, no}
 use Rattle.rooms.specs.declared.parts.Standing.{Standing}
@@ -37,7 +37,7 @@ within_fits bytes stage n h g = within_case bytes stage (λ a e. (a, rw e at h))
 
 pub turn_calls : (k : Call) (v : List ℕ) (r : Room) → (plan_of k).stage ≡ 3 → eqb (plan_of k).letter 72 ≡ false → calling k v r ≡ turn_by k v r
 unfolding plan_of turn_by
-turn_calls (Format l d) v r e h = absurd (omega arith)
+turn_calls (Format l d a) v r e h = absurd (omega arith)
 turn_calls (Open byte) v r e h = absurd (omega arith)
 turn_calls (OpenSized bytes) v r e h = within_case bytes 2 (λ a f. absurd (omega arith)) (λ f. absurd (omega arith))
 turn_calls Cut v r e h = absurd (omega arith)
@@ -45,9 +45,9 @@ turn_calls (Begin clock) v r e h = refl
 turn_calls (Write number key) v r e h = refl
 turn_calls (Erase number key) v r e h = refl
 turn_calls (Read number key) v r e h = refl
-turn_calls (Commit number clock) v r e h = refl
+turn_calls (Commit number clock user) v r e h = refl
 turn_calls (Abort number) v r e h = refl
-turn_calls (Hand flight from to began ended) v r e h = no (sym h)
+turn_calls (Hand flight from to began ended user) v r e h = no (sym h)
 turn_calls (AsOf key time) v r e h = refl
 turn_calls (Changes key t1 t2 bytes) v r e h = refl
 turn_calls StoreLog v r e h = refl
@@ -55,16 +55,17 @@ turn_calls (StorePage page) v r e h = refl
 turn_calls Checkpoint v r e h = refl
 turn_calls (Block block) v r e h = absurd (omega arith)
 turn_calls (Page page) v r e h = absurd (omega arith)
+turn_calls (User time) v r e h = absurd (omega arith)
 turn_calls (Poke offset byte) v r e h = absurd (omega arith)
 turn_calls Other v r e h = absurd (omega arith)
 
 -- the lines that the match on the calls leaves to its last arm
 abbrev Calls : List ℕ
-Calls = 0 ∷ 1 ∷ 2 ∷ 3 ∷ 7 ∷ 10 ∷ 11 ∷ 12 ∷ 16 ∷ 17 ∷ 18 ∷ 19 ∷ []
+Calls = 0 ∷ 1 ∷ 2 ∷ 3 ∷ 7 ∷ 10 ∷ 11 ∷ 12 ∷ 16 ∷ 17 ∷ 18 ∷ 19 ∷ 20 ∷ []
 
 pub no_call : (k : Call) (v : List ℕ) (s : State) (m c : List ℕ) → OneOf Calls (tag_of the_type k) → (plan_of k).looks ≡ false → leaves Done s m c ≡ outcome_of k v s m c
 unfolding plan_of outcome_of
-no_call (Format l d) v s m c o e = refl
+no_call (Format l d a) v s m c o e = refl
 no_call (Open byte) v s m c o e = refl
 no_call (OpenSized bytes) v s m c o e = refl
 no_call Cut v s m c o e = refl
@@ -72,9 +73,9 @@ no_call (Begin clock) v s m c o e = absurd (miss Calls 4 tt o)
 no_call (Write number key) v s m c o e = absurd (miss Calls 5 tt o)
 no_call (Erase number key) v s m c o e = absurd (miss Calls 6 tt o)
 no_call (Read number key) v s m c o e = no (sym e)
-no_call (Commit number clock) v s m c o e = absurd (miss Calls 8 tt o)
+no_call (Commit number clock user) v s m c o e = absurd (miss Calls 8 tt o)
 no_call (Abort number) v s m c o e = absurd (miss Calls 9 tt o)
-no_call (Hand flight from to began ended) v s m c o e = refl
+no_call (Hand flight from to began ended user) v s m c o e = refl
 no_call (AsOf key time) v s m c o e = no (sym e)
 no_call (Changes key t1 t2 bytes) v s m c o e = no (sym e)
 no_call StoreLog v s m c o e = absurd (miss Calls 13 tt o)
@@ -82,16 +83,17 @@ no_call (StorePage page) v s m c o e = absurd (miss Calls 14 tt o)
 no_call Checkpoint v s m c o e = absurd (miss Calls 15 tt o)
 no_call (Block block) v s m c o e = refl
 no_call (Page page) v s m c o e = refl
+no_call (User time) v s m c o e = refl
 no_call (Poke offset byte) v s m c o e = refl
 no_call Other v s m c o e = refl
 
 -- the lines that the match on those that change a room leaves to its last arm
 abbrev Rest : List ℕ
-Rest = 4 ∷ 5 ∷ 6 ∷ 7 ∷ 8 ∷ 9 ∷ 10 ∷ 11 ∷ 12 ∷ 13 ∷ 14 ∷ 15 ∷ 16 ∷ 17 ∷ 19 ∷ []
+Rest = 4 ∷ 5 ∷ 6 ∷ 7 ∷ 8 ∷ 9 ∷ 10 ∷ 11 ∷ 12 ∷ 13 ∷ 14 ∷ 15 ∷ 16 ∷ 17 ∷ 18 ∷ 20 ∷ []
 
 pub no_rest : (k : Call) (n : ℕ) → OneOf Rest (tag_of the_type k) → (plan_of k).looks ≡ false → ((plan_of k).stage ≡ 3 → ⊥) → (plan_of k).stage ≤ n → n ≤ 3 → ⊥
 unfolding plan_of
-no_rest (Format l d) n o e f h g = miss Rest 0 tt o
+no_rest (Format l d a) n o e f h g = miss Rest 0 tt o
 no_rest (Open byte) n o e f h g = miss Rest 1 tt o
 no_rest (OpenSized bytes) n o e f h g = miss Rest 2 tt o
 no_rest Cut n o e f h g = miss Rest 3 tt o
@@ -99,9 +101,9 @@ no_rest (Begin clock) n o e f h g = f refl
 no_rest (Write number key) n o e f h g = f refl
 no_rest (Erase number key) n o e f h g = f refl
 no_rest (Read number key) n o e f h g = no (sym e)
-no_rest (Commit number clock) n o e f h g = f refl
+no_rest (Commit number clock user) n o e f h g = f refl
 no_rest (Abort number) n o e f h g = f refl
-no_rest (Hand flight from to began ended) n o e f h g = f refl
+no_rest (Hand flight from to began ended user) n o e f h g = f refl
 no_rest (AsOf key time) n o e f h g = no (sym e)
 no_rest (Changes key t1 t2 bytes) n o e f h g = no (sym e)
 no_rest StoreLog n o e f h g = f refl
@@ -109,7 +111,8 @@ no_rest (StorePage page) n o e f h g = f refl
 no_rest Checkpoint n o e f h g = f refl
 no_rest (Block block) n o e f h g = no (sym e)
 no_rest (Page page) n o e f h g = no (sym e)
-no_rest (Poke offset byte) n o e f h g = miss Rest 18 tt o
+no_rest (User time) n o e f h g = no (sym e)
+no_rest (Poke offset byte) n o e f h g = miss Rest 19 tt o
 no_rest Other n o e f h g = omega arith
 
 -- a cache of the right length

@@ -11,7 +11,7 @@ use borrow.Author.Tests.{lt-ltb, le-ltb, ltb-true, ltb-false}
 use Rattle.store.specs.declared.State.{State}
 use Rattle.fields.proofs.Choose.{bool_case}
 use Rattle.rooms.specs.declared.parts.Standing.{Standing}
-use Rattle.rooms.specs.Room.{gone, shut, ready, blocks_in, pages_in, medium_in, cache_in, stage_in}
+use Rattle.rooms.specs.Room.{gone, shut, ready, blocks_in, pages_in, area_in, medium_in, cache_in, stage_in}
 use Rattle.rooms.specs.Parts.{stage_of, medium_part, cache_part, room_of}
 
 -- the stages
@@ -42,11 +42,11 @@ module _ (t : Standing) (m c : List ℕ) (s : State) where
   unfolding room_of
   room_gone h = simp (lt-ltb _ _ h)
 
-  pub room_shut : 2 ≤ t.stage → t.stage < 3 → room_of t m c s ≡ shut t.blocks t.pages (take (medium_part t) m)
+  pub room_shut : 2 ≤ t.stage → t.stage < 3 → room_of t m c s ≡ shut t.blocks t.pages t.area (take (medium_part t) m)
   unfolding room_of medium_part
   room_shut h g = simp (le-ltb _ _ h, lt-ltb _ _ g)
 
-  pub room_ready : 3 ≤ t.stage → room_of t m c s ≡ ready t.blocks t.pages (take (medium_part t) m) (take (cache_part t) c) s
+  pub room_ready : 3 ≤ t.stage → room_of t m c s ≡ ready t.blocks t.pages t.area (take (medium_part t) m) (take (cache_part t) c) s
   unfolding room_of medium_part cache_part
   room_ready h = let k : 2 ≤ t.stage = omega arith in simp (le-ltb _ _ k, le-ltb _ _ h)
 
@@ -77,8 +77,12 @@ module _ (t : Standing) (m c : List ℕ) (s : State) where
   pages_in_law k =
       stage_case t (λ h. absurd (omega arith)) (λ h g. ap pages_in (room_shut h g)) (λ h. ap pages_in (room_ready h))
 
+  pub area_in_law : 2 ≤ t.stage → area_in (room_of t m c s) ≡ t.area
+  area_in_law k =
+      stage_case t (λ h. absurd (omega arith)) (λ h g. ap area_in (room_shut h g)) (λ h. ap area_in (room_ready h))
+
 -- the medium's part does not depend on the stage where there is a medium
-pub medium_part_law : (t : Standing) → 2 ≤ t.stage → medium_part t ≡ min t.bytes 50688
+pub medium_part_law : (t : Standing) → 2 ≤ t.stage → medium_part t ≡ min t.bytes 58880
 unfolding medium_part
 medium_part_law t h = simp (le-ltb _ _ h)
 

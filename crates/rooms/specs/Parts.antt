@@ -9,15 +9,15 @@ use Rattle.rooms.specs.declared.parts.Standing.{Standing}
 use Rattle.answers.specs.Text.{answer_text}
 use Rattle.rooms.specs.Room.{Room, gone, shut, ready, Turn, right_length}
 
--- replay: "any other line but `F`", "the only calls are `O`, `o`, `X`, `F` (and `M`, `V`, `Z`)": the stage, 1 without a
+-- replay: "any other line but `F`", "the only calls are `O`, `o`, `X`, `F` (and `M`, `V`, `U`, `Z`)": the stage, 1 without a
 -- medium, 2 with one, 3 with one that is opened
 unfoldable pub stage_of : Standing → ℕ
 stage_of t = cond (ltb t.stage 2) 1 (cond (ltb t.stage 3) 2 3)
 
--- 01: "The medium is 512 × (3 + L + D) bytes": how many bytes of the buffer are the medium; a buffer of the longest medium
+-- 01: "The medium is 512 × (3 + L + D) bytes"; 02, #105: "The length in 1 includes A": how many bytes of the buffer are the medium; a buffer of the longest medium
 -- has no more
 unfoldable pub medium_part : Standing → ℕ
-medium_part t = cond (ltb t.stage 2) 0 (min t.bytes 50688)
+medium_part t = cond (ltb t.stage 2) 0 (min t.bytes 58880)
 
 -- 01: "The cache is 512 × D bytes": how many bytes of the buffer are the cache
 unfoldable pub cache_part : Standing → ℕ
@@ -28,10 +28,10 @@ cache_part t = cond (ltb t.stage 3) 0 (right_length t.pages)
 unfoldable pub room_of : Standing → List ℕ → List ℕ → State → Room
 room_of t m c s =
     cond (ltb t.stage 2) gone
-    (cond (ltb t.stage 3) (shut t.blocks t.pages (take (min t.bytes 50688) m))
-    (ready t.blocks t.pages (take (min t.bytes 50688) m) (take (right_length t.pages) c) s))
+    (cond (ltb t.stage 3) (shut t.blocks t.pages t.area (take (min t.bytes 58880) m))
+    (ready t.blocks t.pages t.area (take (min t.bytes 58880) m) (take (right_length t.pages) c) s))
 
--- replay, `F L D`: "after a refusal, there is no medium": the stage behind a formatting
+-- replay, `F L D A`: "after a refusal, there is no medium": the stage behind a formatting
 unfoldable pub stage_after : Answer → ℕ
 stage_after a = cond (eqb (answer_number a) 0) 2 1
 

@@ -1,10 +1,11 @@
 -- What a line of `replay` does to the room, and what it prints.
-use Rattle.std.specs.Prelude.{ℕ, ◌+◌, Bool, true, false, cond, List, [], ◌++◌, set, replicate, eqb, leb}
+use Rattle.std.specs.Prelude.{ℕ, ◌+◌, Bool, true, false, cond, List, [], ◌++◌, length, set, replicate, eqb, leb}
 use Rattle.fields.specs.Block.{zeros, medium_length, cache_length}
 use Rattle.store.specs.declared.Answer.TheVariants.{Done}
 use Rattle.store.specs.declared.State.{State}
 use Rattle.store.specs.Answer.{Outcome, answer_number, leaves}
 use Rattle.store.specs.State.{in_range}
+use Rattle.store.specs.Users.{user_known}
 use Rattle.store.specs.Format.{Formatted, format_of}
 use Rattle.store.specs.Open.{open_of}
 use Rattle.store.specs.Begin.{begin_of}
@@ -21,48 +22,54 @@ use Rattle.store.specs.Checkpoint.{checkpoint_of}
 use Rattle.handover.specs.declared.Transfer.{Transfer}
 use Rattle.handover.specs.Hand.{HandOutcome, hand_of}
 use Rattle.script.specs.declared.call.Call.{Call}
-use Rattle.script.specs.declared.call.Call.TheVariants.{Format, Open, OpenSized, Cut, Begin, Write, Erase, Read, Commit, Abort, Hand, AsOf, Changes, StoreLog, StorePage, Checkpoint, Block, Page, Poke, Other}
+use Rattle.script.specs.declared.call.Call.TheVariants.{Format, Open, OpenSized, Cut, Begin, Write, Erase, Read, Commit, Abort, Hand, AsOf, Changes, StoreLog, StorePage, Checkpoint, Block, Page, User, Poke, Other}
 use Rattle.script.specs.declared.call.Asked.{Asked}
 use Rattle.rooms.specs.declared.plan.Plan.{Plan}
-use Rattle.answers.specs.Text.{answer_text, handed_text, list_text, shown_text}
+use Rattle.answers.specs.Text.{answer_text, handed_text, list_text, shown_text, user_text}
 
--- replay: "there is no medium", "After `F` or `X`, until an accepted `O`": no medium; a medium with its sizes L and D,
--- shut; and opened, with a cache and a state
+-- replay: "there is no medium", "After `F` or `X`, until an accepted `O`": no medium; a medium with its sizes L, D
+-- and A, shut; and opened, with a cache and a state
 pub data Room : Type 0 where
   gone : Room
-  shut : ℕ → ℕ → List ℕ → Room  -- L, D, medium
-  ready : ℕ → ℕ → List ℕ → List ℕ → State → Room  -- L, D, medium, cache, state
+  shut : ℕ → ℕ → ℕ → List ℕ → Room  -- L, D, A, medium
+  ready : ℕ → ℕ → ℕ → List ℕ → List ℕ → State → Room  -- L, D, A, medium, cache, state
 
 -- replay: "the sizes of the last accepted `F`": L
 abbrev pub blocks_in : Room → ℕ
 blocks_in gone = 0
-blocks_in (shut l d m) = l
-blocks_in (ready l d m c s) = l
+blocks_in (shut l d a m) = l
+blocks_in (ready l d a m c s) = l
 
 -- replay: "the sizes of the last accepted `F`": D
 abbrev pub pages_in : Room → ℕ
 pages_in gone = 0
-pages_in (shut l d m) = d
-pages_in (ready l d m c s) = d
+pages_in (shut l d a m) = d
+pages_in (ready l d a m c s) = d
+
+-- replay: "the sizes of the last accepted `F`": A
+abbrev pub area_in : Room → ℕ
+area_in gone = 0
+area_in (shut l d a m) = a
+area_in (ready l d a m c s) = a
 
 -- replay: "that block of the medium"
 abbrev pub medium_in : Room → List ℕ
 medium_in gone = []
-medium_in (shut l d m) = m
-medium_in (ready l d m c s) = m
+medium_in (shut l d a m) = m
+medium_in (ready l d a m c s) = m
 
 -- replay: "that cached page; closed ..: `V -`"
 abbrev pub cache_in : Room → List ℕ
 cache_in gone = []
-cache_in (shut l d m) = []
-cache_in (ready l d m c s) = c
+cache_in (shut l d a m) = []
+cache_in (ready l d a m c s) = c
 
--- replay: "any other line but `F`", "the only calls are `O`, `o`, `X`, `F` (and `M`, `V`, `Z`)": 1 without a medium, 2 with
+-- replay: "any other line but `F`", "the only calls are `O`, `o`, `X`, `F` (and `M`, `V`, `U`, `Z`)": 1 without a medium, 2 with
 -- one, 3 with one that is opened
 abbrev pub stage_in : Room → ℕ
 stage_in gone = 1
-stage_in (shut l d m) = 2
-stage_in (ready l d m c s) = 3
+stage_in (shut l d a m) = 2
+stage_in (ready l d a m c s) = 3
 
 -- replay, `o bytes` and `L`: "at most 40000": no line asks for more, and no stage plays a call that would
 unfoldable pub within_buffer : ℕ → ℕ → ℕ
@@ -73,7 +80,7 @@ plan letter stage looks = record { letter = letter; stage = stage; looks = looks
 
 -- replay, the table: a line's letter, the stage from which on it is played, and whether it leaves the room as it is
 unfoldable pub plan_of : Call → Plan
-plan_of (Format l d) = plan 70 1 false
+plan_of (Format l d a) = plan 70 1 false
 plan_of (Open byte) = plan 79 2 false
 plan_of (OpenSized bytes) = plan 111 (within_buffer bytes 2) false
 plan_of Cut = plan 88 2 false
@@ -81,9 +88,9 @@ plan_of (Begin clock) = plan 66 3 false
 plan_of (Write number key) = plan 87 3 false
 plan_of (Erase number key) = plan 69 3 false
 plan_of (Read number key) = plan 82 3 true
-plan_of (Commit number clock) = plan 67 3 false
+plan_of (Commit number clock user) = plan 67 3 false
 plan_of (Abort number) = plan 65 3 false
-plan_of (Hand flight from to began ended) = plan 72 3 false
+plan_of (Hand flight from to began ended user) = plan 72 3 false
 plan_of (AsOf key time) = plan 81 3 true
 plan_of (Changes key t1 t2 bytes) = plan 76 (within_buffer bytes 3) true
 plan_of StoreLog = plan 83 3 false
@@ -91,6 +98,7 @@ plan_of (StorePage page) = plan 80 3 false
 plan_of Checkpoint = plan 75 3 false
 plan_of (Block block) = plan 77 2 true
 plan_of (Page page) = plan 86 2 true
+plan_of (User time) = plan 85 2 true
 plan_of (Poke offset byte) = plan 90 2 false
 plan_of Other = plan 0 4 false
 
@@ -103,14 +111,14 @@ pub record Turn : Type 0 where
   pub room : Room
   pub text : List ℕ
 
--- replay, `F L D`: "format a fresh medium with these sizes": its length; out of range there is none
-unfoldable pub fresh_length : ℕ → ℕ → ℕ
-fresh_length l d = cond (in_range l d) (medium_length l d) 0
+-- replay, `F L D A`: "format a fresh medium with these sizes": its length; out of range there is none
+unfoldable pub fresh_length : ℕ → ℕ → ℕ → ℕ
+fresh_length l d a = cond (in_range l d a) (medium_length l d a) 0
 
--- replay, `F L D`: "drops state and cache", "after a refusal, there is no medium"
-unfoldable pub formatted : ℕ → ℕ → Formatted → Turn
-formatted l d f = record {
-  room = cond (eqb (answer_number f.answer) 0) (shut l d f.medium) gone;
+-- replay, `F L D A`: "drops state and cache", "after a refusal, there is no medium"
+unfoldable pub formatted : ℕ → ℕ → ℕ → Formatted → Turn
+formatted l d a f = record {
+  room = cond (eqb (answer_number f.answer) 0) (shut l d a f.medium) gone;
   text = answer_text 70 f.answer (zeros 16);
 }
 
@@ -121,31 +129,31 @@ right_length d = cond (leb d 64) (cache_length d) 0
 -- replay: "until an accepted `O`": a refused one leaves the room as it is
 unfoldable pub opened : ℕ → Room → Outcome → Turn
 opened letter r o = record {
-  room = cond (eqb (answer_number o.answer) 0) (ready (blocks_in r) (pages_in r) o.medium o.cache o.state) r;
+  room = cond (eqb (answer_number o.answer) 0) (ready (blocks_in r) (pages_in r) (area_in r) o.medium o.cache o.state) r;
   text = answer_text letter o.answer (zeros 16);
 }
 
 -- replay, `O byte`, `o bytes`: "open with the sizes of the last accepted `F`" and this cache
 unfoldable pub opening : ℕ → Room → List ℕ → Turn
-opening letter r given = opened letter r (open_of (medium_in r) given (blocks_in r) (pages_in r))
+opening letter r given = opened letter r (open_of (medium_in r) given (blocks_in r) (pages_in r) (area_in r))
 
 -- replay, `X`: "a power cut: state and cache are lost"
 unfoldable pub cut : Room → Room
 cut gone = gone
-cut (shut l d m) = shut l d m
-cut (ready l d m c s) = shut l d m
+cut (shut l d a m) = shut l d a m
+cut (ready l d a m c s) = shut l d a m
 
 -- replay, `Z offset hexbyte`: "puts one byte (two hex digits) into the medium; out of range: nothing"
 unfoldable pub poked : Room → ℕ → ℕ → Room
 poked gone at byte = gone
-poked (shut l d m) at byte = shut l d (set m at byte)
-poked (ready l d m c s) at byte = ready l d (set m at byte) c s
+poked (shut l d a m) at byte = shut l d a (set m at byte)
+poked (ready l d a m c s) at byte = ready l d a (set m at byte) c s
 
 -- replay: "begin", "write", "erase", "current read", "commit", "abort", "read as of", "list of changes into an answer
 -- buffer of that many bytes .., filled with 170 before", "store log", "store page", "checkpoint call"; v is a write's
 -- value
 unfoldable pub outcome_of : Call → List ℕ → State → List ℕ → List ℕ → Outcome
-outcome_of (Format l d) v s m c = leaves Done s m c
+outcome_of (Format l d a) v s m c = leaves Done s m c
 outcome_of (Open byte) v s m c = leaves Done s m c
 outcome_of (OpenSized bytes) v s m c = leaves Done s m c
 outcome_of Cut v s m c = leaves Done s m c
@@ -153,9 +161,9 @@ outcome_of (Begin clock) v s m c = begin_of s m c clock
 outcome_of (Write number key) v s m c = write_of s m c number key v
 outcome_of (Erase number key) v s m c = erase_of s m c number key
 outcome_of (Read number key) v s m c = current_of s m c number key
-outcome_of (Commit number clock) v s m c = commit_of s m c number clock
+outcome_of (Commit number clock user) v s m c = commit_of s m c number clock user
 outcome_of (Abort number) v s m c = abort_of s m c number
-outcome_of (Hand flight from to began ended) v s m c = leaves Done s m c
+outcome_of (Hand flight from to began ended user) v s m c = leaves Done s m c
 outcome_of (AsOf key time) v s m c = as_of_of s m c key time
 outcome_of (Changes key t1 t2 bytes) v s m c = changes_of s m c (replicate bytes 170) key t1 t2
 outcome_of StoreLog v s m c = store_log_of s m c
@@ -163,34 +171,41 @@ outcome_of (StorePage page) v s m c = store_page_of s m c page
 outcome_of Checkpoint v s m c = checkpoint_of s m c
 outcome_of (Block block) v s m c = leaves Done s m c
 outcome_of (Page page) v s m c = leaves Done s m c
+outcome_of (User time) v s m c = leaves Done s m c
 outcome_of (Poke offset byte) v s m c = leaves Done s m c
 outcome_of Other v s m c = leaves Done s m c
 
 -- replay: "Every accepted-form line prints exactly one line, except `L`"
-unfoldable pub called : ℕ → ℕ → ℕ → Outcome → Turn
-called letter l d o = record {
-  room = ready l d o.medium o.cache o.state;
+unfoldable pub called : ℕ → ℕ → ℕ → ℕ → Outcome → Turn
+called letter l d a o = record {
+  room = ready l d a o.medium o.cache o.state;
   text = answer_text letter o.answer o.value ++ cond (eqb letter 76) (list_text o.answer o.buffer) [];
 }
 
 -- replay: "any other line ends the run": the same on a room; one that is not opened stays, for it does not play the line
 unfoldable pub calling : Call → List ℕ → Room → Turn
 calling call v gone = record { room = gone; text = [] }
-calling call v (shut l d m) = record { room = shut l d m; text = [] }
-calling call v (ready l d m c s) = called (plan_of call).letter l d (outcome_of call v s m c)
+calling call v (shut l d a m) = record { room = shut l d a m; text = [] }
+calling call v (ready l d a m c s) = called (plan_of call).letter l d a (outcome_of call v s m c)
 
 -- replay, `H`: "`H 0 time` or `H n -`": a handover leaves an opened room, and prints its answer
-unfoldable pub handed : ℕ → ℕ → HandOutcome → Turn
-handed l d o = record { room = ready l d o.medium o.cache o.state; text = handed_text o.answer }
+unfoldable pub handed : ℕ → ℕ → ℕ → HandOutcome → Turn
+handed l d a o = record { room = ready l d a o.medium o.cache o.state; text = handed_text o.answer }
 
 -- replay, `H`: "hand the flight over from one sector to the other": on a room; one that is not opened stays, for it does
 -- not play the line
 unfoldable pub handing : Transfer → Room → Turn
 handing h gone = record { room = gone; text = [] }
-handing h (shut l d m) = record { room = shut l d m; text = [] }
-handing h (ready l d m c s) = handed l d (hand_of s m c h)
+handing h (shut l d a m) = record { room = shut l d a m; text = [] }
+handing h (ready l d a m c s) = handed l d a (hand_of s m c h)
 
--- replay, `M` and `V`: "(no call)"
+-- replay, `U time`: "the user of that commit time as the open store knows it, 0 where it knows none", "closed: `U -`"
+unfoldable pub user_seen : Room → ℕ → List ℕ
+user_seen gone time = user_text false 0
+user_seen (shut l d a m) time = user_text false 0
+user_seen (ready l d a m c s) time = user_text true (user_known s m c time)
+
+-- replay, `M`, `V` and `U`: "(no call)"
 abbrev pub stays : Room → List ℕ → Turn
 stays r text = record { room = r; text = text }
 
@@ -200,7 +215,7 @@ moves letter r = record { room = r; text = answer_text letter Done (zeros 16) }
 
 -- replay, the table: what a line leaves and prints where it is played
 unfoldable pub turn_by : Call → List ℕ → Room → Turn
-turn_by (Format l d) v r = formatted l d (format_of (zeros (fresh_length l d)) l d)
+turn_by (Format l d a) v r = formatted l d a (format_of (zeros (fresh_length l d a)) l d a)
 turn_by (Open byte) v r = opening 79 r (replicate (right_length (pages_in r)) byte)
 turn_by (OpenSized bytes) v r = opening 111 r (zeros bytes)
 turn_by Cut v r = moves 88 (cut r)
@@ -208,9 +223,9 @@ turn_by (Begin clock) v r = calling (Begin clock) v r
 turn_by (Write number key) v r = calling (Write number key) v r
 turn_by (Erase number key) v r = calling (Erase number key) v r
 turn_by (Read number key) v r = calling (Read number key) v r
-turn_by (Commit number clock) v r = calling (Commit number clock) v r
+turn_by (Commit number clock user) v r = calling (Commit number clock user) v r
 turn_by (Abort number) v r = calling (Abort number) v r
-turn_by (Hand flight from to began ended) v r = handing (record { flight = flight; from = from; to = to; began = began; ended = ended }) r
+turn_by (Hand flight from to began ended user) v r = handing (record { flight = flight; from = from; to = to; began = began; ended = ended; user = user }) r
 turn_by (AsOf key time) v r = calling (AsOf key time) v r
 turn_by (Changes key t1 t2 bytes) v r = calling (Changes key t1 t2 bytes) v r
 turn_by StoreLog v r = calling StoreLog v r
@@ -218,6 +233,7 @@ turn_by (StorePage page) v r = calling (StorePage page) v r
 turn_by Checkpoint v r = calling Checkpoint v r
 turn_by (Block block) v r = stays r (shown_text 77 (medium_in r) block)
 turn_by (Page page) v r = stays r (shown_text 86 (cache_in r) page)
+turn_by (User time) v r = stays r (user_seen r time)
 turn_by (Poke offset byte) v r = moves 90 (poked r offset byte)
 turn_by Other v r = stays r []
 

@@ -14,7 +14,7 @@ use script::call::{Asked, Call};
 
 // `R`.
 fn current(
-    words: &[u64; 448],
+    words: &[u64; 512],
     tail: &[u8; 512],
     medium: &[u8],
     cache: &[u8],
@@ -25,7 +25,7 @@ fn current(
 ) -> usize
     requires { n + 56 ≤ length out.old }
     ensures upper_bound { result ≤ n + 56 }
-    ensures by_index { (l d : ℕ) → Prints (take n out.old) (take result out.new) (ready l d medium.now cache.now (state_of words.now tail.now)) (called 82 l d (current_of (state_of words.now tail.now) medium.now cache.now number key)) }
+    ensures by_index { (l d a : ℕ) → Prints (take n out.old) (take result out.new) (ready l d a medium.now cache.now (state_of words.now tail.now)) (called 82 l d a (current_of (state_of words.now tail.now) medium.now cache.now number key)) }
 {
     let r = reads::current_read::current_read(words, tail, medium, cache, number, key);
     let answer = r.answer;
@@ -35,7 +35,7 @@ fn current(
 
 // `Q`.
 fn as_of(
-    words: &[u64; 448],
+    words: &[u64; 512],
     tail: &[u8; 512],
     medium: &[u8],
     cache: &[u8],
@@ -46,7 +46,7 @@ fn as_of(
 ) -> usize
     requires { n + 56 ≤ length out.old }
     ensures upper_bound { result ≤ n + 56 }
-    ensures by_index { (l d : ℕ) → Prints (take n out.old) (take result out.new) (ready l d medium.now cache.now (state_of words.now tail.now)) (called 81 l d (as_of_of (state_of words.now tail.now) medium.now cache.now key time)) }
+    ensures by_index { (l d a : ℕ) → Prints (take n out.old) (take result out.new) (ready l d a medium.now cache.now (state_of words.now tail.now)) (called 81 l d a (as_of_of (state_of words.now tail.now) medium.now cache.now key time)) }
 {
     let r = reads::as_of::as_of(words, tail, medium, cache, key, time);
     let answer = r.answer;
@@ -56,7 +56,7 @@ fn as_of(
 
 // `L`, into an answer buffer.
 fn list(
-    words: &[u64; 448],
+    words: &[u64; 512],
     tail: &[u8; 512],
     medium: &[u8],
     cache: &[u8],
@@ -70,7 +70,7 @@ fn list(
     requires buffer_len_bound { length buffer.old ≤ 40000 }
     requires n_in_bounds { n + 94000 ≤ length out.old }
     ensures upper_bound { result ≤ n + 94000 }
-    ensures by_index { (l d : ℕ) → Prints (take n out.old) (take result out.new) (ready l d medium.now cache.now (state_of words.now tail.now)) (called 76 l d (changes_of (state_of words.now tail.now) medium.now cache.now (replicate (length buffer.old) 170) key t1 t2)) }
+    ensures by_index { (l d a : ℕ) → Prints (take n out.old) (take result out.new) (ready l d a medium.now cache.now (state_of words.now tail.now)) (called 76 l d a (changes_of (state_of words.now tail.now) medium.now cache.now (replicate (length buffer.old) 170) key t1 t2)) }
 {
     parts::fill(buffer, 170);
     let answer = reads::changes::changes(words, tail, medium, cache, key, t1, t2, buffer);
@@ -82,7 +82,7 @@ fn list(
 pub fn look(
     asked: Asked,
     t: Standing,
-    words: &[u64; 448],
+    words: &[u64; 512],
     tail: &[u8; 512],
     medium: &[u8],
     cache: &[u8],
@@ -90,7 +90,7 @@ pub fn look(
     out: &mut [u8],
     n: usize,
 ) -> usize
-    requires medium_len { length medium.now ≡ 50688 }
+    requires medium_len { length medium.now ≡ 58880 }
     requires cache_len { length cache.now ≡ 32768 }
     requires buffer_len { length buffer.old ≡ 40000 }
     requires n_in_bounds { n + 94000 ≤ length out.old }
@@ -131,6 +131,10 @@ pub fn look(
         }
         Call::Block(block) => text::put_shown(out, n, b'M', &medium[..m], block),
         Call::Page(page) => text::put_shown(out, n, b'V', &cache[..c], page),
+        Call::User(time) => {
+            let user = reads::user::user_of(words, tail, &medium[..m], &cache[..c], time);
+            text::put_user(out, n, parts::reached(t) == 3, user)
+        }
         _ => n,
     }
 }

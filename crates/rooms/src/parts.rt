@@ -3,13 +3,14 @@ ghost use Rattle.std.specs.Prelude.{◌≡◌, ◌≤◌, length, replicate};
 ghost use Rattle.rooms.specs.Room.{fresh_length, right_length};
 ghost use Rattle.rooms.specs.Parts.{stage_of, medium_part, cache_part};
 
-// The stage is 1 without a medium, 2 with one, 3 with one that is opened; the sizes L and D with which it is opened, and how
+// The stage is 1 without a medium, 2 with one, 3 with one that is opened; the sizes L, D and A with which it is opened, and how
 // many bytes it has.
 #[derive(Clone, Copy)]
 pub struct Standing {
     pub stage: u8,
     pub blocks: u64,
     pub pages: u64,
+    pub area: u64,
     pub bytes: usize,
 }
 
@@ -27,12 +28,12 @@ pub fn reached(t: Standing) -> u8
 }
 
 // The length of a medium of these sizes; 0 where they are out of range.
-pub fn fresh_length(blocks: u64, pages: u64) -> usize
-    ensures value { result ≡ fresh_length blocks pages }
-    ensures upper_bound { result ≤ 50688 }
+pub fn fresh_length(blocks: u64, pages: u64, area: u64) -> usize
+    ensures value { result ≡ fresh_length blocks pages area }
+    ensures upper_bound { result ≤ 58880 }
 {
-    if memory::fit::in_range(blocks, pages) {
-        return layout::place::medium_length(blocks, pages);
+    if memory::fit::in_range(blocks, pages, area) {
+        return layout::place::medium_length(blocks, pages, area);
     }
     0
 }
@@ -51,13 +52,13 @@ pub fn right_length(pages: u64) -> usize
 // How many bytes of the buffer are the medium.
 pub fn medium_part(t: Standing) -> usize
     ensures value { result ≡ medium_part t }
-    ensures upper_bound { result ≤ 50688 }
+    ensures upper_bound { result ≤ 58880 }
 {
     if t.stage < 2 {
         return 0;
     }
-    if 50688 < t.bytes {
-        return 50688;
+    if 58880 < t.bytes {
+        return 58880;
     }
     t.bytes
 }

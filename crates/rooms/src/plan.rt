@@ -48,7 +48,7 @@ pub fn of(call: Call) -> Plan
     ensures { result ≡ plan_of call }
 {
     match call {
-        Call::Format(_, _) => changing(b'F', 1),
+        Call::Format(_, _, _) => changing(b'F', 1),
         Call::Open(_) => changing(b'O', 2),
         Call::OpenSized(bytes) => changing(b'o', within(bytes, 2)),
         Call::Cut => changing(b'X', 2),
@@ -56,9 +56,9 @@ pub fn of(call: Call) -> Plan
         Call::Write(_, _) => changing(b'W', 3),
         Call::Erase(_, _) => changing(b'E', 3),
         Call::Read(_, _) => looking(b'R', 3),
-        Call::Commit(_, _) => changing(b'C', 3),
+        Call::Commit(_, _, _) => changing(b'C', 3),
         Call::Abort(_) => changing(b'A', 3),
-        Call::Hand(_, _, _, _, _) => changing(b'H', 3),
+        Call::Hand(_, _, _, _, _, _) => changing(b'H', 3),
         Call::AsOf(_, _) => looking(b'Q', 3),
         Call::Changes(_, _, _, bytes) => looking(b'L', within(bytes, 3)),
         Call::StoreLog => changing(b'S', 3),
@@ -66,6 +66,7 @@ pub fn of(call: Call) -> Plan
         Call::Checkpoint => changing(b'K', 3),
         Call::Block(_) => looking(b'M', 2),
         Call::Page(_) => looking(b'V', 2),
+        Call::User(_) => looking(b'U', 2),
         Call::Poke(_, _) => changing(b'Z', 2),
         Call::Other => changing(0, 4),
     }

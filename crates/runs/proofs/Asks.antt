@@ -1,14 +1,14 @@
 -- The questions put to a call, and how it ends. It passes when every answer is "yes", and its refusal is that of the
 -- first "no", by induction on the list of questions; so a call ends refused by its first "no", or by its step once all
 -- are passed.
-use Prim.Native.Nat.{ℕ}
+use Prim.Native.Nat.{ℕ, ◌*◌}
 use native.Mathlib.Omega.{arith}
 use mathlib.Core.Path.{◌≡◌, refl, ap}
-use mathlib.Core.Bool.{Bool, true, false}
+use mathlib.Core.Bool.{Bool, true, false, ◌&&◌}
 use mathlib.Core.Option.{Option, none, some}
 use mathlib.Core.List.{List, [], ◌∷◌}
 use lib.ListN.{length}
-use lib.Dec.{eqb}
+use lib.Dec.{eqb, ltb}
 use Rattle.fields.specs.Block.{zeros}
 use Rattle.fields.specs.Part.{splice}
 use Rattle.fields.specs.Cells.{flat}
@@ -22,6 +22,7 @@ use Rattle.store.specs.declared.Best.TheVariants.{Version, Neither}
 use Rattle.store.specs.declared.Found.{Found}
 use Rattle.store.specs.declared.Found.TheVariants.{At, Nothing}
 use Rattle.store.specs.declared.Phase.{Phase}
+use Rattle.store.specs.declared.Phase.TheVariants.{Idle, LinesStored, FirstStored, SecondStored}
 use Rattle.store.specs.declared.Refusal.{Refusal}
 use Rattle.store.specs.declared.State.{State}
 use Rattle.store.specs.Answer.{Outcome, leaves, ask}
@@ -33,13 +34,14 @@ use Rattle.store.specs.Begin.{begin_asks, begun, begin_at, begin_if, begin_of}
 use Rattle.store.specs.Write.{write_asks, new_head, write_step, write_at, write_if, add_of, write_of}
 use Rattle.store.specs.Erase.{erase_of}
 use Rattle.store.specs.CurrentRead.{current_asks, read_cell, current_at, current_if, current_of}
-use Rattle.store.specs.Commit.{commit_asks, commit_time, commit_step, commit_at, commit_if, commit_of}
+use Rattle.store.specs.Commit.{commit_asks, commit_time, new_commit, commit_step, commit_at, commit_if, commit_of}
 use Rattle.store.specs.Abort.{abort_asks, abort_at, abort_if, abort_of}
 use Rattle.store.specs.AsOf.{as_of_asks, as_of_at, as_of_if, as_of_of}
 use Rattle.store.specs.Changes.{line_bytes, changes_asks, change_lines, changes_if, changes_of}
 use Rattle.store.specs.StoreLog.{store_log_asks, store_log_if, store_log_of}
 use Rattle.store.specs.StorePage.{store_page_asks, store_page_if, store_page_of}
-use Rattle.store.specs.Checkpoint.{checkpoint_asks, checkpoint_step, checkpoint_if, checkpoint_of}
+use Rattle.layout.specs.declared.CommitTime.{CommitTime}
+use Rattle.store.specs.Checkpoint.{checkpoint_asks, new_oldest, store_table, new_lines, lined_medium, lines_stored, lines_due, store_lines, checkpoint_step, checkpoint_if, checkpoint_of}
 use Rattle.runs.specs.Event.{Call, begin, write, erase, current_read, commit, abort, as_of, changes, store_log, store_page, checkpoint}
 use Rattle.runs.specs.Machine.{called}
 
@@ -97,7 +99,7 @@ asks m c s (begin k) = begin_asks s m c
 asks m c s (write n key v) = write_asks s m c n key
 asks m c s (erase n key) = write_asks s m c n key
 asks m c s (current_read n key) = current_asks s m c n key
-asks m c s (commit n k) = commit_asks s m c n
+asks m c s (commit n k u) = commit_asks s m c n
 asks m c s (abort n) = abort_asks s m c n
 asks m c s (as_of key t) = as_of_asks s m c key t
 asks m c s (changes key t1 t2 b) = changes_asks s m c key t1 t2 (length b)
@@ -110,7 +112,7 @@ given (begin k) = []
 given (write n key v) = []
 given (erase n key) = []
 given (current_read n key) = []
-given (commit n k) = []
+given (commit n k u) = []
 given (abort n) = []
 given (as_of key t) = []
 given (changes key t1 t2 b) = b
@@ -124,7 +126,7 @@ is_reading (begin k) = false
 is_reading (write n key v) = false
 is_reading (erase n key) = false
 is_reading (current_read n key) = true
-is_reading (commit n k) = false
+is_reading (commit n k u) = false
 is_reading (abort n) = false
 is_reading (as_of key t) = true
 is_reading (changes key t1 t2 b) = true
@@ -135,6 +137,11 @@ is_reading checkpoint = false
 -- an outcome that leaves state, medium and cache: a refusal's, a read's or a list's
 abbrev pub told : Answer → List ℕ → List ℕ → State → List ℕ → List ℕ → Outcome
 told a v b s m c = record { answer = a; value = v; state = s; medium = m; cache = c; buffer = b }
+
+-- a checkpoint that has not come to the table, with its new oldest sequence and its stored time: it begins, or has stored lines
+pub data Starts (s : State) : ℕ → CommitTime → Type 0 where
+  begun_now : s.phase ≡ Idle → Starts s (new_oldest s) s.saved
+  in_lines : (o : ℕ) (t : CommitTime) → s.phase ≡ LinesStored o t → Starts s o t
 
 -- what was asked and found, and what the call then leaves
 pub data Way (m c : List ℕ) (s : State) : Call → Outcome → Type 0 where
@@ -147,17 +154,24 @@ pub data Way (m c : List ℕ) (s : State) : Call → Outcome → Type 0 where
       → Way m c s (erase n key) (write_step s m c i (new_head s c n key 1) (zeros 16))
   looks : (k : Call) (a : Answer) (v b : List ℕ) → is_reading k ≡ true → Passed (asks m c s k) → is_refused a ≡ false
       → length b ≡ length (given k) → Way m c s k (told a v b s m c)
-  commits : (n clock i : ℕ) → Passed (commit_asks s m c n) → find_active s.places n ≡ At i
+  commits : (n clock user i : ℕ) → Passed (commit_asks s m c n) → find_active s.places n ≡ At i
       → eqb (place_at s.places i).waiting 0 ≡ false
-      → Way m c s (commit n clock) (commit_step s m c i n (commit_time s i clock))
-  ends : (n clock i : ℕ) → Passed (commit_asks s m c n) → find_active s.places n ≡ At i
+      → Way m c s (commit n clock user) (commit_step s m c i (new_commit s n (commit_time s i clock) user))
+  ends : (n clock user i : ℕ) → Passed (commit_asks s m c n) → find_active s.places n ≡ At i
       → eqb (place_at s.places i).waiting 0 ≡ true
-      → Way m c s (commit n clock) (leaves Done (with_place s i free_place) m c)
+      → Way m c s (commit n clock user) (leaves Done (with_place s i free_place) m c)
   aborts : (n i : ℕ) → Passed (abort_asks s m c n) → find_active s.places n ≡ At i
       → Way m c s (abort n) (leaves Done (with_place s i free_place) m c)
   logs : Passed (store_log_asks s m c) → Way m c s store_log (store_log_if none s m c)
   pages : (p : ℕ) → Passed (store_page_asks s m c p) → Way m c s (store_page p) (store_page_if none s m c p)
-  checks : (ph : Phase) → Passed (checkpoint_asks s m c) → s.phase ≡ ph → Way m c s checkpoint (checkpoint_step ph s m c)
+  lines : (o : ℕ) (t : CommitTime) → Passed (checkpoint_asks s m c) → Starts s o t → lines_due s t ≡ true
+      → Way m c s checkpoint (leaves Done (lines_stored s (LinesStored o t) (new_lines s t)) (lined_medium s m (new_lines s t)) c)
+  firsts : (o : ℕ) (t : CommitTime) → Passed (checkpoint_asks s m c) → Starts s o t → lines_due s t ≡ false
+      → Way m c s checkpoint (store_table o t s m c)
+  seconds : (o : ℕ) (t : CommitTime) → Passed (checkpoint_asks s m c) → s.phase ≡ FirstStored o t
+      → Way m c s checkpoint (checkpoint_step (FirstStored o t) s m c)
+  thirds : (o : ℕ) (t : CommitTime) → Passed (checkpoint_asks s m c) → s.phase ≡ SecondStored o t
+      → Way m c s checkpoint (checkpoint_step (SecondStored o t) s m c)
 
 module _ (m c : List ℕ) (s : State) where
   begin_way : (clock : ℕ) → Way m c s (begin clock) (begin_of s m c clock)
@@ -216,15 +230,15 @@ module _ (m c : List ℕ) (s : State) where
       at Neither p = looks (as_of key t) Missing (zeros 16) [] refl p refl refl
       at (Version n u) p = cell_way (as_of key t) (cell_at c n) refl refl p
 
-  commit_way : (n clock : ℕ) → Way m c s (commit n clock) (commit_of s m c n clock)
+  commit_way : (n clock user : ℕ) → Way m c s (commit n clock user) (commit_of s m c n clock user)
   unfolding commit_of commit_if
-  commit_way n clock =
-      asked (λ (a : Option Refusal). Way m c s (commit n clock) (commit_if a s m c n clock))
-      (commit_asks s m c n) (refused (commit n clock)) (λ p.
-      found (λ (f : Found). Way m c s (commit n clock) (commit_at f s m c n clock))
+  commit_way n clock user =
+      asked (λ (a : Option Refusal). Way m c s (commit n clock user) (commit_if a s m c n clock user))
+      (commit_asks s m c n) (refused (commit n clock user)) (λ p.
+      found (λ (f : Found). Way m c s (commit n clock user) (commit_at f s m c n clock user))
       (find_active s.places n) p.1.0 (λ i e.
-      cond_elim (Way m c s (commit n clock)) (eqb (place_at s.places i).waiting 0)
-      (ends n clock i p e) (commits n clock i p e)))
+      cond_elim (Way m c s (commit n clock user)) (eqb (place_at s.places i).waiting 0)
+      (ends n clock user i p e) (commits n clock user i p e)))
 
   abort_way : (n : ℕ) → Way m c s (abort n) (abort_of s m c n)
   unfolding abort_of abort_if
@@ -256,10 +270,19 @@ module _ (m c : List ℕ) (s : State) where
       (store_page_asks s m c p) (refused (store_page p)) (pages p)
 
   checkpoint_way : Way m c s checkpoint (checkpoint_of s m c)
-  unfolding checkpoint_of checkpoint_if
+  unfolding checkpoint_of checkpoint_if checkpoint_step store_lines
   checkpoint_way =
       asked (λ (a : Option Refusal). Way m c s checkpoint (checkpoint_if a s m c))
       (checkpoint_asks s m c) (refused checkpoint) (λ p. checks s.phase p refl)
+    where
+      begins_at : (o : ℕ) (t : CommitTime) → Passed (checkpoint_asks s m c) → Starts s o t → Way m c s checkpoint (store_lines o t s m c)
+      begins_at o t p b = cond_elim (Way m c s checkpoint) (lines_due s t) (lines o t p b) (firsts o t p b)
+
+      checks : (ph : Phase) → Passed (checkpoint_asks s m c) → s.phase ≡ ph → Way m c s checkpoint (checkpoint_step ph s m c)
+      checks Idle p e = begins_at (new_oldest s) s.saved p (begun_now e)
+      checks (LinesStored o t) p e = begins_at o t p (in_lines o t e)
+      checks (FirstStored o t) p e = seconds o t p e
+      checks (SecondStored o t) p e = thirds o t p e
 
   pub way : (k : Call) → Way m c s k (called m c s k)
   unfolding called
@@ -267,7 +290,7 @@ module _ (m c : List ℕ) (s : State) where
   way (write n key v) = write_way n key v
   way (erase n key) = erase_way n key
   way (current_read n key) = current_way n key
-  way (commit n k) = commit_way n k
+  way (commit n k u) = commit_way n k u
   way (abort n) = abort_way n
   way (as_of key t) = as_of_way key t
   way (changes key t1 t2 b) = changes_way key t1 t2 b

@@ -3,25 +3,27 @@
 use Prim.Native.Nat.{ℕ, zero, suc, ◌+◌, ◌*◌, ◌≤◌, ◌<◌}
 use native.Mathlib.Omega.{arith}
 use mathlib.Core.Path.{◌≡◌, refl, ap, fun_ext}
-use mathlib.Core.Bool.{Bool, ◌&&◌}
+use mathlib.Core.Bool.{Bool, true, not, ◌&&◌, ◌||◌}
 use mathlib.Core.Option.{Option, none, some}
-use mathlib.Core.List.{List}
+use mathlib.Core.List.{List, [], ◌∷◌, append-nil}
 use lib.ListN.{length}
-use lib.Dec.{eqb}
+use lib.Dec.{eqb, leb}
 use borrow.Author.Tests.{eqb-true}
 use Rattle.fields.specs.Block.{blk, log_block_at, page_block_at, medium_length, cache_length}
-use Rattle.layout.specs.Journal.{parsed, used_form}
+use Rattle.layout.specs.Journal.{Record, version, commit, parsed, used_form}
 use Rattle.layout.specs.Page.{page_form}
 use Rattle.layout.specs.Master.{oldest_on}
 use Rattle.fields.proofs.Choose.{bool_case, and_1}
 use Rattle.fields.proofs.CellLaws.{Each}
 use Rattle.store.specs.declared.Refusal.{Refusal}
-use Rattle.store.specs.State.{in_range}
+use Rattle.store.specs.State.{in_range, no_area}
 use Rattle.store.specs.OpenLog.{Placed, block_of, read_count, read_log, next_number, last_time}
 use Rattle.store.specs.OpenRedo.{pages_on}
-use Rattle.store.specs.OpenConditions.{all_hold, forms_of, block_checks, fields_in_form, records_whole, numbers_left, pairs_once, earlier_true, time_below, not_falling, pair_in_bounds, slot_true, history_true, from_one, few_waiting, copied, redone, applied_next, conditions, well_formed}
+use Rattle.store.specs.OpenPairs.{is_paired, waiting_numbers, line_count, last_line, area_on}
+use Rattle.store.specs.OpenConditions.{holds, all_hold, each, log_checks, forms_of, block_checks, fields_in_form, records_whole, numbers_left, pairs_once, earlier_true, time_below, not_falling, pair_in_bounds, slot_true, history_true, from_one, few_live, copied, redone, applied_next, unsigned, lines_true, conditions, well_formed}
 use Rattle.store.specs.Open.{opened_state, open_if, open_of}
 use Rattle.runs.specs.Earlier.{log_before, parsed_before, forms_before, page_form_before, cell_at_before, next_before, last_before, time_at_before, time_below_before, slot_true_before, pair_in_bounds_before, fields_before, records_before, redone_before, history_before, from_one_before, conditions_before, state_before, open_if_before, open_before, Old, OpensAsBefore}
+use Rattle.store.proofs.UserLaws.{blocks_area_on, live_none}
 use Rattle.runs.proofs.Lengths.{length_pages_on}
 use Rattle.runs.proofs.EarlierReads.{Small, Along, BlockSmall, each_same, bytes_of_law, parsed_same, forms_same, blocks_small, log_small, logged_same, records_same, Low, page_form_same, slot_copied, low_within, low_redo, at_same, version_same, newest_same}
 
@@ -63,7 +65,7 @@ module _ (m : List ℕ) (l d : ℕ) (old : Old m l d) where
   page_form_law p h =
       page_form_same (blk m (page_block_at l p)) (λ i k. rw (slot_copied m l d p i h k) (old.slots (15 * p + i) (omega arith)))
 
-  fields_same : fields_in_form m l d ≡ fields_before m l d
+  fields_same : fields_in_form m l d 0 ≡ fields_before m l d
   unfolding fields_in_form fields_before block_checks
   fields_same =
       rw (
@@ -96,11 +98,11 @@ module _ (m : List ℕ) (l d : ℕ) (old : Old m l d) where
   unfolding redone redone_before
   redone_same = rw log_same
 
-  module _ (size : length m ≡ medium_length l d) where
+  module _ (size : length m ≡ medium_length l d 0) where
     low_redone : Low (redone_before m l d).cache
     unfolding redone_before copied
     low_redone =
-        let q : length (pages_on m l d) ≡ cache_length d = length_pages_on m l d size in
+        let q : length (pages_on m l d) ≡ cache_length d = length_pages_on m l d 0 size in
         low_redo d (copied m l d) (log_before m l) q (rw log_same at records) (low_within (pages_on m l d) d q old.slots)
 
     pub low_opened : Low (redone m l d).cache
@@ -118,29 +120,47 @@ module _ (m : List ℕ) (l d : ℕ) (old : Old m l d) where
         let c = (redone_before m l d).cache in
         rw (redone_same, log_same, fun_ext (at_same c low_redone))
 
-    conditions_same : conditions m l d ≡ conditions_before m l d
-    unfolding conditions conditions_before applied_next numbers_left pairs_once few_waiting
-    conditions_same = rw (fields_same, whole_same, history_same, from_one_same, redone_same, log_same)
+    -- none but one without a user, and no line
+    pub unsigned_all : (xs : List Placed) → Each (λ (x : Placed). Small x.rec) xs → holds (log_checks l (λ r. not (eqb 0 0) || unsigned r) xs) ≡ true
+    unfolding holds log_checks
+    unsigned_all [] e = refl
+    unsigned_all (x ∷ xs) e = rw (plain x.rec e.0) (unsigned_all xs e.1)
+      where
+        plain : (k : Record) → Small k → unsigned k ≡ true
+        plain (version h v) s = refl
+        plain (commit p) s = rw s
 
-    well_same : well_formed m l d ≡ all_hold (conditions_before m l d)
-    unfolding well_formed
-    well_same = rw conditions_same
+    lines_hold : holds (lines_true m l d 0) ≡ true
+    unfolding lines_true each
+    lines_hold = rw (append-nil (log_checks l (λ r. not (eqb 0 0) || unsigned r) (read_log m l))) (unsigned_all (read_log m l) records)
 
-  state_same : opened_state m l d ≡ state_before m l d
+    few_same : few_live m l d (redone m l d).cache 0 ≡ ((leb (length (waiting_numbers (redone_before m l d).cache (is_paired m (log_before m l)) (15 * d))) 64, 0) ∷ [])
+    unfolding few_live
+    few_same = rw (live_none (area_on m l d 0) (blocks_area_on m l d 0) (read_log m l) (redone m l d).cache (is_paired m (read_log m l)) (15 * d), redone_same, log_same)
+
+    well_same : well_formed m l d 0 ≡ all_hold (conditions_before m l d)
+    unfolding well_formed all_hold conditions conditions_before applied_next numbers_left pairs_once
+    well_same = rw (lines_hold, fields_same, whole_same, history_same, from_one_same, few_same, log_same)
+
+  area_same : area_on m l d 0 ≡ no_area
+  unfolding area_on line_count last_line
+  area_same = refl
+
+  state_same : opened_state m l d 0 ≡ state_before m l d
   unfolding opened_state state_before
-  state_same = rw (redone_same, next_same, last_same, log_same)
+  state_same = rw (area_same, redone_same, next_same, last_same, log_same)
 
-  if_same : (a : Option Refusal) (c : List ℕ) → open_if a m c l d ≡ open_if_before a m c l d
+  if_same : (a : Option Refusal) (c : List ℕ) → open_if a m c l d 0 ≡ open_if_before a m c l d
   unfolding open_if open_if_before
   if_same (some r) c = refl
   if_same none c = rw (last_same, state_same, redone_same)
 
-  opens_same : (c : List ℕ) → open_of m c l d ≡ open_before m c l d
+  opens_same : (c : List ℕ) → open_of m c l d 0 ≡ open_before m c l d
   unfolding open_of open_before
   opens_same c =
-      let sizes = in_range l d && eqb (length m) (medium_length l d) in
+      let sizes = in_range l d 0 && eqb (length m) (medium_length l d 0) in
       bool_case sizes
-      (λ t. rw (well_same (eqb-true (length m) (medium_length l d) (and_1 (in_range l d) (eqb (length m) (medium_length l d)) t))) (if_same _ c))
+      (λ t. rw (well_same (eqb-true (length m) (medium_length l d 0) (and_1 (in_range l d 0) (eqb (length m) (medium_length l d 0)) t))) (if_same _ c))
       (λ f. rw f (if_same _ c))
 
 -- 02, #104: "Old media open unchanged"

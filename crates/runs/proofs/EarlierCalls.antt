@@ -21,16 +21,22 @@ use Rattle.store.specs.declared.Refusal.{Refusal}
 use Rattle.store.specs.declared.State.{State}
 use Rattle.store.specs.Answer.{ask}
 use Rattle.store.specs.State.{no_state}
-use Rattle.store.specs.Chain.{held}
+use Rattle.store.specs.declared.Timing.{Timing}
+use Rattle.store.specs.declared.Timing.TheVariants.{Timed, Untimed}
+use Rattle.store.specs.Places.{time_under}
+use Rattle.store.specs.Users.{user_of}
+use Rattle.store.specs.OpenPairs.{area_on}
+use Rattle.store.specs.Chain.{held, version_time}
 use Rattle.store.specs.CurrentRead.{current_if, current_of}
 use Rattle.store.specs.AsOf.{as_of_if, as_of_of}
 use Rattle.store.specs.Changes.{change_lines, changes_of}
 use Rattle.store.specs.Open.{open_asks, opened_state, open_if, open_of}
 use Rattle.runs.specs.Event.{Call, begin, write, erase, current_read, commit, abort, as_of, changes, store_log, store_page, checkpoint}
-use Rattle.runs.specs.Machine.{World, medium_of, called, opens, sight_at, sights_from}
-use Rattle.runs.specs.Earlier.{Old, OpensAsBefore, open_before}
+use Rattle.runs.specs.Machine.{World, medium_of, called, opens, user_in, sight_at, sights_from}
+use Rattle.runs.specs.Earlier.{cell_at_before, Old, OpensAsBefore, open_before}
 use Rattle.runs.specs.EarlierCalls.{held_before, old_current_asks, old_current_if, old_as_of_asks, old_as_of_if, old_lines, old_called, slot_before, version_before, WritesAsBefore}
 use Rattle.runs.specs.OldMedia.{of_byte, old_sight, old_sights, old_opens}
+use Rattle.store.proofs.UserLaws.{user_none}
 use Rattle.runs.proofs.Asks.{asked}
 use Rattle.runs.proofs.EarlierReads.{Low, at_same, newest_same}
 use Rattle.runs.proofs.Earlier.{low_opened, opens_as_before}
@@ -43,7 +49,7 @@ is_adding (begin k) = false
 is_adding (write n key v) = true
 is_adding (erase n key) = true
 is_adding (current_read n key) = false
-is_adding (commit n k) = false
+is_adding (commit n k u) = false
 is_adding (abort n) = false
 is_adding (as_of key t) = false
 is_adding (changes key t1 t2 b) = false
@@ -87,7 +93,7 @@ module _ (m c : List ℕ) (s : State) (low : Low c) where
   call_same (write n key v) a h = absurd (false≢true (sym a))
   call_same (erase n key) a h = absurd (false≢true (sym a))
   call_same (current_read n key) a h = current_same n key (ltb-true key 256 h)
-  call_same (commit n k) a h = refl
+  call_same (commit n k u) a h = refl
   call_same (abort n) a h = refl
   call_same (as_of key t) a h = as_of_same key t (ltb-true key 256 h)
   call_same (changes key t1 t2 b) a h = rw (byte_form key (ltb-true key 256 h), lines_same key t1 t2)
@@ -97,20 +103,28 @@ module _ (m c : List ℕ) (s : State) (low : Low c) where
 
 -- ---- an opening
 
-sights_same : (c : List ℕ) (ps : List Place) → Low c → (n k : ℕ) → old_sights c ps n k ≡ sights_from c ps n k
+sights_same : (who : ℕ → ℕ) (c : List ℕ) (ps : List Place) → ((t : ℕ) → who t ≡ 0) → Low c → (n k : ℕ) → old_sights c ps n k ≡ sights_from who c ps n k
 unfolding old_sights old_sight sights_from sight_at
-sights_same c ps low n zero = refl
-sights_same c ps low n (suc k) = rw (at_same c low n, sights_same c ps low (n + 1) k)
+sights_same who c ps z low n zero = refl
+sights_same who c ps z low n (suc k) =
+    rw (at_same c low n, sights_same who c ps z low (n + 1) k, nobody (version_time (time_under ps) (cell_at_before c n).state))
+  where
+    nobody : (t : Timing) → user_in who t ≡ 0
+    nobody (Timed t) = z t.0
+    nobody Untimed = refl
 
 -- it gives what it gives today, and finds the same
-pub opening_same : (l d : ℕ) (w : World) (y : List ℕ) → Old (medium_of w) l d → length (medium_of w) ≡ medium_length l d
-    → old_opens l d w (open_before (medium_of w) y l d) ≡ opens l d w (open_of (medium_of w) y l d)
+pub opening_same : (l d : ℕ) (w : World) (y : List ℕ) → Old (medium_of w) l d → length (medium_of w) ≡ medium_length l d 0
+    → old_opens l d w (open_before (medium_of w) y l d) ≡ opens l d 0 w (open_of (medium_of w) y l d 0)
 unfolding OpensAsBefore open_of
 opening_same l d w y old size =
     ap (old_opens l d w) (sym (opens_as_before (medium_of w) y l d old))
-    ∙ asked (λ (a : Option Refusal). old_opens l d w (open_if a (medium_of w) y l d) ≡ opens l d w (open_if a (medium_of w) y l d)) (open_asks (medium_of w) y l d)
+    ∙ asked (λ (a : Option Refusal). old_opens l d w (open_if a (medium_of w) y l d 0) ≡ opens l d 0 w (open_if a (medium_of w) y l d 0)) (open_asks (medium_of w) y l d 0)
     (λ r e. unfold old_opens opens open_if no_state old_sights sights_from in refl)
-    (λ p. unfold old_opens opens open_if opened_state in rw (sights_same _ _ (low_opened (medium_of w) l d old size) 0 _))
+    (λ p. unfold old_opens opens open_if opened_state in rw (sights_same _ _ _ nobody (low_opened (medium_of w) l d old size) 0 _))
+  where
+    nobody : (t : ℕ) → user_of (opened_state (medium_of w) l d 0) (medium_of w) t ≡ 0
+    nobody t = user_none (opened_state (medium_of w) l d 0) (medium_of w) t (unfold opened_state area_on in refl)
 
 -- ---- the bytes that were written
 

@@ -1,5 +1,5 @@
 -- An old medium reads as it did. A record number of one byte is that byte, so the two readers of a log record differ only at a
--- whole record of tag 3, which an old log does not have; and where byte 3 of a slot is zero, both readers give byte 1 as its record
+-- whole record of tag 3 or 4, which an old log does not have; and where byte 3 of a slot is zero, both readers give byte 1 as its record
 -- number. Byte 3 stays zero while the log is applied, for a record number of one byte has no high byte.
 use Prim.Native.Nat.{ℕ, zero, suc, ◌+◌, ◌-◌, ◌*◌, ◌/◌, ◌%◌, ◌≤◌, ◌<◌}
 use native.Mathlib.Omega.{arith}
@@ -13,13 +13,15 @@ use borrow.Author.Tests.{ltb-true, lt-ltb}
 use Rattle.fields.specs.Field.{dec}
 use Rattle.fields.specs.Part.{part, splice}
 use Rattle.fields.specs.Block.{blk, put, log_block_at, page_block_at, cache_length, page_of, slot_at}
-use Rattle.layout.specs.Item.{bytes_of, head_of, value_of, of_length, version_item, by_tag, item_of}
+use Rattle.layout.specs.Item.{bytes_of, head_of, value_of, user_bytes_of, commit_head_of, of_length, version_item, commit_item, by_tag, item_of}
 use Rattle.layout.specs.Journal.{Record, version, commit, Parsed, onward, parse_more, parse, used_of, body_of, parsed, record_form}
 use Rattle.layout.specs.Slot.{Cell, slot_bytes, slot_key, cell_of, key_form, slot_form}
 use Rattle.layout.specs.Page.{page_slot, slot_form_at, slots_form, page_form, put_version, cache_slot}
 use Rattle.layout.specs.declared.item.Width.{Width}
 use Rattle.layout.specs.declared.item.Width.TheVariants.{One, Two}
 use Rattle.layout.specs.declared.item.VersionHead.{VersionHead}
+use Rattle.layout.specs.declared.item.Form.{Form}
+use Rattle.layout.specs.declared.item.Form.TheVariants.{Plain, Signed}
 use Rattle.layout.specs.declared.item.Area.TheVariants.{Journal}
 use Rattle.layout.specs.declared.item.Item.{Item}
 use Rattle.layout.specs.declared.item.Item.TheVariants.{End, Version, Commit, Number, Damaged}
@@ -34,7 +36,7 @@ use Rattle.store.specs.Write.{cell_for}
 use Rattle.store.specs.Chain.{cell_at, version_of, newest}
 use Rattle.store.specs.OpenLog.{Placed, place_from, block_of, logged_from}
 use Rattle.store.specs.OpenRedo.{Redone, pages_on, applies, redo_if, redo_record, redo_one, redo}
-use Rattle.store.specs.OpenConditions.{each, forms_of, low_after_all, records_from}
+use Rattle.store.specs.OpenConditions.{is_plain, each, forms_of, low_after_all, records_from}
 use Rattle.store.proofs.CopyLaws.{page_copied}
 use Rattle.runs.specs.Event.{are_bytes}
 use Rattle.runs.specs.Earlier.{head_before, item_before, more_before, parse_before, parsed_before, record_form_before, forms_before, logged_before, records_before, old_width, old_record, old_log, cell_before, slot_form_before, slots_form_before, page_form_before, cell_at_before, version_of_before, newest_before}
@@ -58,7 +60,7 @@ head_same b = rw (dec_one b 2)
 abbrev old_item : Item → Bool
 old_item End = true
 old_item (Version h) = old_width h.width
-old_item (Commit p) = true
+old_item (Commit p) = is_plain p.form
 old_item (Number t n) = true
 old_item Damaged = true
 
@@ -75,7 +77,7 @@ same_both true s t = s
 same_both false s t = t
 
 item_same : (bs : List ℕ) → Same (item_of Journal bs) (item_before bs)
-unfolding item_of item_before by_tag version_item head_of bytes_of
+unfolding item_of item_before by_tag version_item head_of bytes_of commit_item commit_head_of user_bytes_of
 item_same bs =
     same_cond (eqb (length bs) 0) (λ _. refl)
     (same_cond (ltb (length bs) 3) (λ _. refl)
@@ -83,24 +85,29 @@ item_same bs =
     (same_cond (eqb (get_or bs 0 0) 2) (λ _. refl)
     (same_both (eqb (get_or bs 0 0) 3)
     (same_both (eqb (dec (part bs 1 2)) 31) (same_both (leb 31 (length (drop 3 bs))) (λ o. absurd (false≢true o)) (λ _. refl)) (λ _. refl))
-    (same_both (eqb (get_or bs 0 0) 4) (λ _. refl) (same_both (eqb (get_or bs 0 0) 5) (λ _. refl) (λ _. refl)))))))
+    (same_both (eqb (get_or bs 0 0) 4)
+    (same_both (eqb (dec (part bs 1 2)) 20) (same_both (leb 20 (length (drop 3 bs))) (λ o. absurd (false≢true o)) (λ _. refl)) (λ _. refl))
+    (same_both (eqb (get_or bs 0 0) 5) (λ _. refl) (same_both (eqb (get_or bs 0 0) 6) (λ _. refl) (λ _. refl))))))))
 
 -- ---- the records of a block
 
--- what an old record is: one byte of record number, and a value of 16 bytes
+-- what an old record is: one byte of record number and a value of 16 bytes, or a commit without a user
 abbrev pub Small : Record → Type 0
 Small (version h v) = (h.width ≡ One) × (h.key < 256) × (length v ≡ 16)
-Small (commit p) = Unit {0}
+Small (commit p) = p.form ≡ Plain
 
 more_same : (bs : List ℕ) (i j : Item) (f g : ℕ → Parsed) → Same i j → Each Small (parse_more i bs f).records
     → ((n : ℕ) → Each Small (f n).records → f n ≡ g n) → parse_more i bs f ≡ more_before j bs g
-unfolding bytes_of value_of
+unfolding bytes_of value_of user_bytes_of
 more_same bs End j f g s o e = rw (← s refl)
 more_same bs (Version h) j f g s o e =
     let w : h.width ≡ One = o.0.0 in
     let q : Version h ≡ j = s (rw w refl) in
     rw (← q) (ap (onward (version h (value_of h.width (drop 3 bs)))) (e (32 + bytes_of h.width) o.1) ∙ rw w)
-more_same bs (Commit p) j f g s o e = rw (← s refl) (ap (onward (commit p)) (e 19 o.1))
+more_same bs (Commit p) j f g s o e =
+    let w : p.form ≡ Plain = o.0 in
+    let q : Commit p ≡ j = s (rw w refl) in
+    rw (← q) (ap (onward (commit p)) (e (19 + user_bytes_of p.form) o.1) ∙ rw w)
 more_same bs (Number t n) j f g s o e = rw (← s refl)
 more_same bs Damaged j f g s o e = rw (← s refl)
 
@@ -146,13 +153,17 @@ width_old : (w : Width) → old_width w ≡ true → w ≡ One
 width_old One e = refl
 width_old Two e = absurd (false≢true e)
 
+form_old : (f : Form) → is_plain f ≡ true → f ≡ Plain
+form_old Plain e = refl
+form_old Signed e = absurd (false≢true e)
+
 record_small : (r : Record) → RecordSized r → old_record r ≡ true → Small r
 unfolding bytes_of
 record_small (version h v) s o =
     let w : h.width ≡ One = width_old h.width o in
     let k : h.key < 256 = rw w at s.key in
     (w, k, s.size)
-record_small (commit p) s o = tt
+record_small (commit p) s o = form_old p.form o
 
 old_append : (xs ys : List Placed) → old_log (xs ++ ys) ≡ true → (old_log xs ≡ true) × (old_log ys ≡ true)
 unfolding old_log

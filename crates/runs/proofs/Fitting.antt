@@ -19,11 +19,11 @@ use Rattle.layout.specs.declared.slot.Slot.TheVariants.{Empty, Waiting, Stamped}
 use Rattle.fields.proofs.Choose.{and_1}
 use Rattle.fields.proofs.BlockLaws.{length_put}
 use Rattle.layout.proofs.CacheLaws.{length_put_version}
-use Rattle.layout.proofs.RecordLaws.{bytes_few}
+use Rattle.layout.proofs.RecordLaws.{bytes_few, user_few}
 use Rattle.layout.proofs.JournalLaws.{length_empty_block, sequence_empty_block, used_empty_block, length_add_record, sequence_add_record, used_add_record}
 use Rattle.store.specs.declared.Place.{Place}
+use Rattle.store.specs.declared.Area.{Area}
 use Rattle.store.specs.declared.Phase.{Phase}
-use Rattle.store.specs.declared.Phase.TheVariants.{Idle, FirstStored, SecondStored}
 use Rattle.store.specs.declared.Refusal.{Refusal}
 use Rattle.store.specs.declared.Refusal.TheVariants.{Unfit}
 use Rattle.store.specs.declared.Answer.TheVariants.{Refused}
@@ -38,15 +38,16 @@ use Rattle.store.specs.State.{fits, with_place, with_phase}
 use Rattle.store.specs.Tail.{tail_fits, may_log, stored_tail, logged_if, logged}
 use Rattle.store.specs.Begin.{begun}
 use Rattle.store.specs.Write.{new_head, touched, written, write_step}
-use Rattle.store.specs.Commit.{committed, commit_step}
+use Rattle.store.specs.Commit.{new_commit, committed, commit_step}
 use Rattle.store.specs.StoreLog.{log_stored, store_log_if}
 use Rattle.store.specs.StorePage.{stamp_time, lower_at, settle_with, settle_from, settled, page_stored, store_page_if}
-use Rattle.store.specs.Checkpoint.{checkpoint_step}
+use Rattle.store.specs.Checkpoint.{new_lines, lines_stored, store_table, checkpoint_step}
 use Rattle.runs.specs.Event.{Call, begin, write, erase, current_read, commit as commit_call, abort, as_of, changes, store_log, store_page, checkpoint}
 use Rattle.runs.specs.Machine.{called}
 use Rattle.store.proofs.AskLaws.{Passed}
 use Rattle.store.proofs.FitLaws.{TailFit, Fit, fit_of, fit_is}
-use Rattle.runs.proofs.Asks.{asks, Way, refused, begins, writes, erases, looks, commits, ends, aborts, logs, pages, checks, way}
+use Rattle.store.proofs.UserLaws.{blocks_with_lines, length_relined, length_lined_medium}
+use Rattle.runs.proofs.Asks.{asks, Way, refused, begins, writes, erases, looks, commits, ends, aborts, logs, pages, lines, firsts, seconds, thirds, way}
 
 -- ---- the tail once a record is taken
 
@@ -76,7 +77,7 @@ added_fits b r f h =
 small : (r : Record) → record_size r ≤ 34
 unfolding record_size
 small (version h v) = omega (arith, bytes_few h.width)
-small (commit p) = omega arith
+small (commit p) = omega (arith, user_few p.form)
 
 -- question 8 keeps the next block's sequence below 2^48
 pub logged_fits : (s : State) (m : List ℕ) (r : Record) → TailFit s.tail → may_log s m (record_size r) ≡ true → TailFit (logged s m r).tail
@@ -102,17 +103,17 @@ logged_length s m r = go (tail_fits s.tail (record_size r))
 
 -- ---- the places keep their number
 
-pub length_settle_from : (pair : ℕ → Timing) (old : List Place) (page : List ℕ) (ps : List Place) (i k : ℕ)
-    → length (settle_from pair old page ps i k) ≡ length ps
+pub length_settle_from : (a : Area) (pair : ℕ → Timing) (old : List Place) (page : List ℕ) (ps : List Place) (i k : ℕ)
+    → length (settle_from a pair old page ps i k) ≡ length ps
 unfolding settle_from
-length_settle_from pair old page ps i zero = refl
-length_settle_from pair old page ps i (suc k) = length_settle_from pair old page _ (i + 1) k ∙ one (stamp_time pair _) _
+length_settle_from a pair old page ps i zero = refl
+length_settle_from a pair old page ps i (suc k) = length_settle_from a pair old page _ (i + 1) k ∙ one (stamp_time pair _) _
   where
-    lower : (f : Found) → length (lower_at f ps) ≡ length ps
+    lower : (f : Found) → length (lower_at a f ps) ≡ length ps
     lower (At j) = length-set ps j _
     lower Nothing = refl
 
-    one : (t : Timing) (x : Slot) → length (settle_with t x old ps) ≡ length ps
+    one : (t : Timing) (x : Slot) → length (settle_with a t x old ps) ≡ length ps
     one Untimed x = refl
     one (Timed t) Empty = refl
     one (Timed t) (Waiting n) = lower (find_committed old n.0)
@@ -126,7 +127,7 @@ first_asked m c s (begin clock) = refl
 first_asked m c s (write n key v) = refl
 first_asked m c s (erase n key) = refl
 first_asked m c s (current_read n key) = refl
-first_asked m c s (commit_call n clock) = refl
+first_asked m c s (commit_call n clock user) = refl
 first_asked m c s (abort n) = refl
 first_asked m c s (as_of key t) = refl
 first_asked m c s (changes key t1 t2 b) = refl
@@ -195,7 +196,7 @@ write_fits m c s i h v k a b = record {
 }
 
 leaves_way : {m c : List ℕ} {s : State} {k : Call} {o : Outcome} → Way m c s k o → (o.answer ≡ Refused Unfit → ⊥) → Leaves o
-unfolding begun commit_step committed store_log_if log_stored stored_tail store_page_if page_stored settled checkpoint_step record_size new_head bytes_of
+unfolding begun commit_step committed store_log_if log_stored stored_tail store_page_if page_stored settled lines_stored store_table checkpoint_step record_size new_head new_commit bytes_of
 leaves_way {m} {c} {s} (refused k r w) h = refused_fit m c s k r w h
 leaves_way {m} {c} {s} (begins clock i p w) h =
     let k : Fitting m c s = fit_of s _ _ p.0 in
@@ -213,7 +214,7 @@ leaves_way {m} {c} {s} (writes n key i v p w) h =
 leaves_way {m} {c} {s} (erases n key i p w) h =
     write_fits m c s i _ (zeros 16) (fit_of s _ _ p.0) (ltb-true _ _ p.1.1.1.1.0) p.1.1.1.1.1.0
 leaves_way {m} {c} {s} (looks k a v b q p n w) h = passed_fit m c s k p
-leaves_way {m} {c} {s} (commits n clock i p w z) h =
+leaves_way {m} {c} {s} (commits n clock user i p w z) h =
     let k : Fitting m c s = fit_of s _ _ p.0 in
     record {
       range = k.range;
@@ -224,7 +225,7 @@ leaves_way {m} {c} {s} (commits n clock i p w z) h =
       places = length-set s.places i _ ∙ k.places;
       first = k.first;
     }
-leaves_way {m} {c} {s} (ends n clock i p w z) h = place_fits m c s i free_place (fit_of s _ _ p.0)
+leaves_way {m} {c} {s} (ends n clock user i p w z) h = place_fits m c s i free_place (fit_of s _ _ p.0)
 leaves_way {m} {c} {s} (aborts n i p w) h = place_fits m c s i free_place (fit_of s _ _ p.0)
 leaves_way {m} {c} {s} (logs p) h =
     let k : Fitting m c s = fit_of s _ _ p.0 in
@@ -245,12 +246,24 @@ leaves_way {m} {c} {s} (pages n p) h =
       cache = length_put c n _ ∙ k.cache;
       slots = k.slots;
       tail = k.tail;
-      places = length_settle_from _ _ _ s.places 0 15 ∙ k.places;
+      places = length_settle_from s.area _ _ _ s.places 0 15 ∙ k.places;
       first = length-set s.first n 0 ∙ k.first;
     }
-leaves_way {m} {c} {s} (checks Idle p w) h = phase_fits m c s _ 1 _ (fit_of s _ _ p.0)
-leaves_way {m} {c} {s} (checks (FirstStored o t) p w) h = phase_fits m c s _ 2 _ (fit_of s _ _ p.0)
-leaves_way {m} {c} {s} (checks (SecondStored o t) p w) h = phase_fits m c s _ 0 _ (fit_of s _ _ p.0)
+leaves_way {m} {c} {s} (lines o t p b w) h =
+    let k : Fitting m c s = fit_of s _ _ p.0 in
+    let e = blocks_with_lines s.area (new_lines s t) in
+    record {
+      range = rw e k.range;
+      medium = rw e (length_lined_medium s m _ ∙ k.medium);
+      cache = k.cache;
+      slots = k.slots;
+      tail = k.tail;
+      places = length_relined _ s.places ∙ k.places;
+      first = k.first;
+    }
+leaves_way {m} {c} {s} (firsts o t p b w) h = phase_fits m c s _ 1 _ (fit_of s _ _ p.0)
+leaves_way {m} {c} {s} (seconds o t p w) h = phase_fits m c s _ 2 _ (fit_of s _ _ p.0)
+leaves_way {m} {c} {s} (thirds o t p w) h = phase_fits m c s _ 0 _ (fit_of s _ _ p.0)
 
 -- ---- each call
 

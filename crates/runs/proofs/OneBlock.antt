@@ -1,16 +1,16 @@
 -- Each call stores at most one block. A call that is not refused passed the question whether state and buffers fit, so
--- that the block it stores, a tail, a page, a table block or a master, has 512 bytes; and a block of 512 bytes is put
+-- that the block it stores, a tail, a page, user lines, a table block or a master, has 512 bytes; and a block of 512 bytes is put
 -- over no other.
-use Prim.Native.Nat.{ℕ, zero, suc, ◌+◌, ◌*◌}
+use Prim.Native.Nat.{ℕ, zero, suc, ◌+◌, ◌*◌, ◌/◌, ◌%◌, ◌<◌}
 use native.Mathlib.Omega.{arith}
-use mathlib.Core.Path.{◌≡◌, refl, ap, ◌∙◌}
+use mathlib.Core.Path.{◌≡◌, refl, sym, ap, subst, ◌∙◌}
 use mathlib.Core.Logic.{◌≢◌}
-use mathlib.Core.Bool.{Bool, true, false}
+use mathlib.Core.Bool.{Bool, true, false, cond}
 use mathlib.Core.List.{List}
 use lib.ListN.{length}
 use lib.Dec.{ltb}
 use borrow.Author.Tests.{ltb-true}
-use Rattle.fields.specs.Block.{blk, put, log_block_at, page_block_at, cache_length}
+use Rattle.fields.specs.Block.{blk, put, log_block_at, page_block_at, area_block_at, cache_length}
 use Rattle.layout.specs.Journal.{Record, sequence_of, record_size}
 use Rattle.layout.specs.Page.{page_slot}
 use Rattle.layout.specs.Slot.{slot_state}
@@ -18,7 +18,7 @@ use Rattle.fields.proofs.BlockLaws.{length_put, length_blk, blk_other}
 use Rattle.layout.proofs.TableLaws.{length_pairs}
 use Rattle.layout.proofs.MasterLaws.{length_master_bytes}
 use Rattle.store.specs.declared.Phase.{Phase}
-use Rattle.store.specs.declared.Phase.TheVariants.{Idle, FirstStored, SecondStored}
+use Rattle.store.specs.declared.Phase.TheVariants.{Idle, LinesStored, FirstStored, SecondStored}
 use Rattle.store.specs.declared.Place.{Place}
 use Rattle.store.specs.declared.State.{State}
 use Rattle.store.specs.declared.Timing.{Timing}
@@ -29,12 +29,17 @@ use Rattle.store.specs.Write.{write_step}
 use Rattle.store.specs.Commit.{commit_step}
 use Rattle.store.specs.StoreLog.{store_log_if}
 use Rattle.store.specs.StorePage.{stamp_time, stamp_with, stamp_from, stored_pair, stamped_page, store_page_if}
-use Rattle.store.specs.Checkpoint.{pairs_from, table_block, checkpoint_step}
+use Rattle.layout.specs.declared.CommitTime.{CommitTime}
+use Rattle.layout.specs.declared.line.UserLine.{UserLine}
+use Rattle.store.specs.Users.{due_count}
+use Rattle.store.specs.Checkpoint.{pairs_from, table_block, store_table, new_lines, lined_medium, lines_due, checkpoint_step}
 use Rattle.store.specs.Open.{open_of}
 use Rattle.runs.specs.Event.{Call, begin, write, erase, current_read, commit, abort, as_of, changes, store_log, store_page, checkpoint}
 use Rattle.runs.specs.Machine.{called}
-use Rattle.runs.proofs.Asks.{Way, refused, begins, writes, erases, looks, commits, ends, aborts, logs, pages, checks, way}
-use Rattle.store.proofs.FitLaws.{fit_of}
+use Rattle.runs.proofs.Asks.{Starts, begun_now, in_lines, Way, refused, begins, writes, erases, looks, commits, ends, aborts, logs, pages, lines, firsts, seconds, thirds, way}
+use Rattle.fields.proofs.Choose.{and_1}
+use Rattle.store.proofs.FitLaws.{Fit, fit_of}
+use Rattle.store.proofs.UserLaws.{length_lined_block}
 use Rattle.store.proofs.LengthLaws.{length_stamp_with, length_pairs_from}
 use Rattle.runs.proofs.Refusals.{open_medium}
 
@@ -90,10 +95,15 @@ page_length s m c p f h =
 
 -- ---- the block that a call stores, where it stores one
 
-abbrev pub phase_block : Phase → ℕ
-phase_block Idle = 1
-phase_block (FirstStored o t) = 2
-phase_block (SecondStored o t) = 0
+-- of a checkpoint that has not come to the table: the area's next block, or table block 1 where no line is due
+abbrev pub start_block : State → CommitTime → ℕ
+start_block s t = cond (lines_due s t) (area_block_at s.blocks s.pages (s.area.lines / 32)) 1
+
+abbrev pub phase_block : Phase → State → ℕ
+phase_block Idle s = start_block s s.saved
+phase_block (LinesStored o t) s = start_block s t
+phase_block (FirstStored o t) s = 2
+phase_block (SecondStored o t) s = 0
 
 abbrev pub tail_block : State → ℕ
 tail_block s = log_block_at s.blocks (sequence_of s.tail)
@@ -104,29 +114,40 @@ store_block s (begin k) = 0
 store_block s (write n key v) = tail_block s
 store_block s (erase n key) = tail_block s
 store_block s (current_read n key) = 0
-store_block s (commit n k) = tail_block s
+store_block s (commit n k u) = tail_block s
 store_block s (abort n) = 0
 store_block s (as_of key t) = 0
 store_block s (changes key t1 t2 b) = 0
 store_block s store_log = tail_block s
 store_block s (store_page p) = page_block_at s.blocks p
-store_block s checkpoint = phase_block s.phase
+store_block s checkpoint = phase_block s.phase s
+
+starts_at : {s : State} {o : ℕ} {t : CommitTime} → Starts s o t → store_block s checkpoint ≡ start_block s t
+starts_at (begun_now e) = rw e
+starts_at (in_lines o t e) = rw e
+
+-- the area's next block
+lines_stored_law : (s : State) (m : List ℕ) (c : ℕ) (xs : List UserLine) → Fit s (length m) c → s.area.lines < 32 * s.area.blocks
+    → Stores m (area_block_at s.blocks s.pages (s.area.lines / 32)) (lined_medium s m xs)
+unfolding lined_medium
+lines_stored_law s m c xs f h = block _ (length_lined_block m s.blocks s.pages s.area.blocks s.area.lines _ f.medium h)
 
 stores_way : {m c : List ℕ} {s : State} {k : Call} {o : Outcome} → Way m c s k o → Stores m (store_block s k) o.medium
-unfolding write_step commit_step store_log_if store_page_if checkpoint_step stored_tail
+unfolding write_step commit_step store_log_if store_page_if store_table checkpoint_step stored_tail
 stores_way (refused k r w) = nothing
 stores_way (begins clock i p w) = nothing
 stores_way {m} {c} {s} (writes n key i v p w) = log_stores s m _ (fit_of _ _ _ p.0).tail.size
 stores_way {m} {c} {s} (erases n key i p w) = log_stores s m _ (fit_of _ _ _ p.0).tail.size
 stores_way (looks k a v b h p n w) = nothing
-stores_way {m} {c} {s} (commits n clock i p w z) = log_stores s m _ (fit_of _ _ _ p.0).tail.size
-stores_way (ends n clock i p w z) = nothing
+stores_way {m} {c} {s} (commits n clock user i p w z) = log_stores s m _ (fit_of _ _ _ p.0).tail.size
+stores_way (ends n clock user i p w z) = nothing
 stores_way (aborts n i p w) = nothing
 stores_way {m} {c} {s} (logs p) = block s.tail (fit_of _ _ _ p.0).tail.size
 stores_way {m} {c} {s} (pages n p) = block _ (length_stamped_page s (blk c n) ∙ page_length s _ c n p.0 p.1.0)
-stores_way {s = s} (checks Idle p w) = rw w (block _ (length_table_block _ _ _))
-stores_way {s = s} (checks (FirstStored o t) p w) = rw w (block _ (length_table_block _ _ _))
-stores_way {s = s} (checks (SecondStored o t) p w) = rw w (block _ (length_master_bytes _))
+stores_way {m} {c} {s} (lines o t p b w) = subst (λ (k : ℕ). Stores m k (lined_medium s m (new_lines s t))) (sym (starts_at b ∙ rw w)) (lines_stored_law s m (length c) (new_lines s t) (fit_of _ _ _ p.0) (ltb-true s.area.lines (32 * s.area.blocks) (and_1 (ltb 0 (due_count s.area t.0 s.places)) _ w)))
+stores_way {m} {c} {s} (firsts o t p b w) = subst (λ (k : ℕ). Stores m k (put m 1 (table_block s.places o 0))) (sym (starts_at b ∙ rw w)) (block _ (length_table_block _ _ _))
+stores_way {s = s} (seconds o t p w) = rw w (block _ (length_table_block _ _ _))
+stores_way {s = s} (thirds o t p w) = rw w (block _ (length_master_bytes _))
 
 -- ---- each call
 
@@ -137,5 +158,5 @@ pub one_block : (m c : List ℕ) (s : State) (k : Call) → (b : ℕ) × ((j : �
 one_block m c s k = (store_block s k, stores_other (stores m c s k))
 
 -- opening stores none
-pub open_one_block : (m c : List ℕ) (l d : ℕ) → (b : ℕ) × ((j : ℕ) → j ≢ b → blk (open_of m c l d).medium j ≡ blk m j)
-open_one_block m c l d = (0, λ j h. ap (λ (n : List ℕ). blk n j) (open_medium m c l d))
+pub open_one_block : (m c : List ℕ) (l d a : ℕ) → (b : ℕ) × ((j : ℕ) → j ≢ b → blk (open_of m c l d a).medium j ≡ blk m j)
+open_one_block m c l d a = (0, λ j h. ap (λ (n : List ℕ). blk n j) (open_medium m c l d a))

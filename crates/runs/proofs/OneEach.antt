@@ -29,14 +29,14 @@ pub one_of : {m n : List ℕ} {k : ℕ} → Stores m k n → OneStore m n
 one_of nothing = alone
 one_of {k = k} (block b e) = replaced k b e
 
-one_store : (l d : ℕ) (w : World) (e : Event) → OneStore (medium_of w) (medium_of (step l d w e).world)
+one_store : (l d a : ℕ) (w : World) (e : Event) → OneStore (medium_of w) (medium_of (step l d a w e).world)
 unfolding step opens
-one_store l d w (opening c) =
-    subst (OneStore (medium_of w)) (sym (opened_alone (open_of (medium_of w) c l d).answer w (open_of (medium_of w) c l d) (open_medium (medium_of w) c l d))) alone
-one_store l d w cut = alone
-one_store l d (down m) (call k) = alone
-one_store l d (up m c s) (call k) = one_of (stores m c s k)
+one_store l d a w (opening c) =
+    subst (OneStore (medium_of w)) (sym (opened_alone (open_of (medium_of w) c l d a).answer w (open_of (medium_of w) c l d a) (open_medium (medium_of w) c l d a))) alone
+one_store l d a w cut = alone
+one_store l d a (down m) (call k) = alone
+one_store l d a (up m c s) (call k) = one_of (stores m c s k)
 
-pub one_each : (l d : ℕ) (w : World) (es : List Event) → OneEach l d w es
-one_each l d w [] = tt
-one_each l d w (e ∷ es) = (one_store l d w e, one_each l d (step l d w e).world es)
+pub one_each : (l d a : ℕ) (w : World) (es : List Event) → OneEach l d a w es
+one_each l d a w [] = tt
+one_each l d a w (e ∷ es) = (one_store l d a w e, one_each l d a (step l d a w e).world es)

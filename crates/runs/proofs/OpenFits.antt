@@ -24,6 +24,7 @@ use Rattle.layout.proofs.PlaceLaws.{log_in_medium}
 use Rattle.layout.proofs.PageLaws.{page_form_law}
 use Rattle.layout.proofs.CacheLaws.{put_cell_used, length_put_version, put_version_page, put_version_beside}
 use Rattle.store.specs.declared.Place.{Place}
+use Rattle.store.specs.declared.Area.{Area}
 use Rattle.store.specs.declared.Answer.TheVariants.{Opened}
 use Rattle.store.specs.declared.Found.{Found}
 use Rattle.store.specs.declared.Found.TheVariants.{At, Nothing}
@@ -33,7 +34,7 @@ use Rattle.store.specs.State.{in_range, fits}
 use Rattle.store.specs.Write.{cell_for, touched}
 use Rattle.store.specs.OpenLog.{Placed, block_of, matching, read_count, tail_after, read_tail, read_log}
 use Rattle.store.specs.OpenRedo.{pages_on, Redone, applies, redo_if, redo_record, redo_one, redo, used_in, untouched}
-use Rattle.store.specs.OpenPairs.{table_places, take_at, take_free, open_places}
+use Rattle.store.specs.OpenPairs.{area_on, table_places, take_at, take_free, open_places}
 use Rattle.store.specs.OpenConditions.{Checks, holds, all_hold, each, table_checks, block_checks, sizes_are, forms_of, fields_in_form, sequences_in_range, conditions, well_formed, copied, redone}
 use Rattle.store.specs.Open.{opened_state, open_of}
 use Rattle.store.proofs.FitLaws.{InRange, TailFit, Fit, range_of, fit_is}
@@ -79,14 +80,14 @@ length_take_free m log c slots ps (n ∷ ns) =
     one (At i) p = length-set ps i p
     one Nothing p = refl
 
-pub length_table_places : (m : List ℕ) (log : List Placed) (c : List ℕ) (slots i k : ℕ) → length (table_places m log c slots i k) ≡ k
+pub length_table_places : (a : Area) (m : List ℕ) (log : List Placed) (c : List ℕ) (slots i k : ℕ) → length (table_places a m log c slots i k) ≡ k
 unfolding table_places
-length_table_places m log c slots i zero = refl
-length_table_places m log c slots i (suc k) = ap suc (length_table_places m log c slots (i + 1) k)
+length_table_places a m log c slots i zero = refl
+length_table_places a m log c slots i (suc k) = ap suc (length_table_places a m log c slots (i + 1) k)
 
-pub length_open_places : (m : List ℕ) (log : List Placed) (c : List ℕ) (slots : ℕ) → length (open_places m log c slots) ≡ 64
+pub length_open_places : (a : Area) (m : List ℕ) (log : List Placed) (c : List ℕ) (slots : ℕ) → length (open_places a m log c slots) ≡ 64
 unfolding open_places
-length_open_places m log c slots = length_take_free m log c slots _ _ ∙ length_table_places m log c slots 0 64
+length_open_places a m log c slots = length_take_free m log c slots _ _ ∙ length_table_places a m log c slots 0 64
 
 -- ---- redo
 
@@ -161,14 +162,14 @@ matching_at m l s (suc k) n lo hi = go (eqb (sequence_of (block_of m l s)) s) re
 
 -- ---- what the conditions say
 
-module _ (m : List ℕ) (l d : ℕ) (well : well_formed m l d ≡ true) where
-  fields_hold : holds (fields_in_form m l d) ≡ true
+module _ (m : List ℕ) (l d a : ℕ) (well : well_formed m l d a ≡ true) where
+  fields_hold : holds (fields_in_form m l d a) ≡ true
   unfolding well_formed all_hold conditions
-  fields_hold = and_0 (holds (fields_in_form m l d)) _ well
+  fields_hold = and_0 (holds (fields_in_form m l d a)) _ well
 
   sequences_hold : holds (sequences_in_range m l d) ≡ true
   unfolding well_formed all_hold conditions
-  sequences_hold = and_0 (holds (sequences_in_range m l d)) _ (and_1 (holds (fields_in_form m l d)) _ well)
+  sequences_hold = and_0 (holds (sequences_in_range m l d)) _ (and_1 (holds (fields_in_form m l d a)) _ well)
 
   -- condition 1, behind master and table: of the blocks read, and of the pages
   abbrev block_form : ℕ → Bool
@@ -180,7 +181,7 @@ module _ (m : List ℕ) (l d : ℕ) (well : well_formed m l d ≡ true) where
   blocks_pages : holds (block_checks m l d block_form ++ each page_check 0 d) ≡ true
   unfolding fields_in_form holds
   blocks_pages =
-      holds_right (table_checks (λ i. pair_form (table_pair m i))) _ (and_1 (sizes_are (master_of (blk m 0)) l d) _ fields_hold)
+      holds_right (table_checks (λ i. pair_form (table_pair m i))) _ (and_1 (sizes_are (master_of (blk m 0)) l d a) _ fields_hold)
 
   -- s is the sequence of a block read
   module _ (s : ℕ) (lo : oldest_on m ≤ s) (hi : s < oldest_on m + read_count m l) where
@@ -214,11 +215,11 @@ module _ (m : List ℕ) (l d : ℕ) (well : well_formed m l d ≡ true) where
 
   -- ---- the opened state
 
-  module _ (range : InRange l d) (len : length m ≡ medium_length l d) where
+  module _ (range : InRange l d a) (len : length m ≡ medium_length l d a) where
     copied_sound : Sound d (copied m l d)
     unfolding copied untouched
     copied_sound = record {
-      cache = length_pages_on m l d len;
+      cache = length_pages_on m l d a len;
       first = length-replicate {A = ℕ} 64 0;
       used = λ p h. rw (page_copied m l d p h) (page_form_law _ (page_in_form p h)).used;
     }
@@ -239,7 +240,7 @@ module _ (m : List ℕ) (l d : ℕ) (well : well_formed m l d ≡ true) where
           used_high = leb-true u 512 (and_0 (leb u 512) _ (and_1 (leb 10 u) _ e));
           sequence_low = rw q r.0;
           sequence_high = rw q r.1;
-          size = length_blk m (log_block_at l s) (rw len (log_in_medium l d s (omega arith)));
+          size = length_blk m (log_block_at l s) (rw len (log_in_medium l d a s (omega arith)));
         }
 
     pub tail_fits : TailFit (read_tail m l)
@@ -250,29 +251,29 @@ module _ (m : List ℕ) (l d : ℕ) (well : well_formed m l d ≡ true) where
         go zero e = empty_fits (oldest_on m) oldest_range.0 oldest_range.1
         go (suc k) e = block_fits (oldest_on m + k) (omega arith) (omega arith)
 
-    pub opened_fit : Fit (opened_state m l d) (length m) (length (redone m l d).cache)
-    unfolding opened_state
+    pub opened_fit : Fit (opened_state m l d a) (length m) (length (redone m l d).cache)
+    unfolding opened_state area_on
     opened_fit = record {
       range = range;
       medium = len;
       cache = redone_sound.cache;
       slots = used_few (redone m l d).cache d redone_sound.used;
       tail = tail_fits;
-      places = length_open_places m (read_log m l) (redone m l d).cache (15 * d);
+      places = length_open_places (area_on m l d a) m (read_log m l) (redone m l d).cache (15 * d);
       first = redone_sound.first;
     }
 
 -- ---- an accepted opening
 
-pub open_fits : (m c : List ℕ) (l d : ℕ) (t : CommitTime) → (open_of m c l d).answer ≡ Opened t
-    → fits (open_of m c l d).state (length m) (length (open_of m c l d).cache) ≡ true
-open_fits m c l d t e = go (opening_way m c l d) e
+pub open_fits : (m c : List ℕ) (l d a : ℕ) (t : CommitTime) → (open_of m c l d a).answer ≡ Opened t
+    → fits (open_of m c l d a).state (length m) (length (open_of m c l d a).cache) ≡ true
+open_fits m c l d a t e = go (opening_way m c l d a) e
   where
-    go : {o : Outcome} → Opening m c l d o → o.answer ≡ Opened t → fits o.state (length m) (length o.cache) ≡ true
+    go : {o : Outcome} → Opening m c l d a o → o.answer ≡ Opened t → fits o.state (length m) (length o.cache) ≡ true
     go bad_sizes e = let z : ◌≡◌ {A = ℕ} 0 1 = cc in absurd (omega arith)
     go bad_cache e = let z : ◌≡◌ {A = ℕ} 0 1 = cc in absurd (omega arith)
     go malformed e = let z : ◌≡◌ {A = ℕ} 0 1 = cc in absurd (omega arith)
     go (opened p) e =
-        let r : InRange l d = range_of l d (and_0 (in_range l d) _ p.0) in
-        let n : length m ≡ medium_length l d = eqb-true _ _ (and_1 (in_range l d) _ p.0) in
-        fit_is _ _ _ (opened_fit m l d p.1.1.0 r n)
+        let r : InRange l d a = range_of l d a (and_0 (in_range l d a) _ p.0) in
+        let n : length m ≡ medium_length l d a = eqb-true _ _ (and_1 (in_range l d a) _ p.0) in
+        fit_is _ _ _ (opened_fit m l d a p.1.1.0 r n)

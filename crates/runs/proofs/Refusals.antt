@@ -11,7 +11,6 @@ use lib.ListN.{length}
 use lib.Dec.{eqb}
 use Rattle.fields.specs.Block.{zeros, medium_length, cache_length}
 use Rattle.store.specs.declared.Answer.TheVariants.{Refused, Opened}
-use Rattle.store.specs.declared.Phase.TheVariants.{Idle, FirstStored, SecondStored}
 use Rattle.store.specs.declared.Refusal.{Refusal}
 use Rattle.store.specs.declared.Refusal.TheVariants.{BadSizes, BadCache, Malformed}
 use Rattle.store.specs.declared.State.{State}
@@ -21,7 +20,7 @@ use Rattle.store.specs.Write.{write_step}
 use Rattle.store.specs.Commit.{commit_step}
 use Rattle.store.specs.StoreLog.{store_log_if}
 use Rattle.store.specs.StorePage.{store_page_if}
-use Rattle.store.specs.Checkpoint.{checkpoint_step}
+use Rattle.store.specs.Checkpoint.{store_table, checkpoint_step}
 use Rattle.store.specs.Open.{open_asks, opened_state, refused_cache, open_if, open_of}
 use Rattle.store.specs.OpenLog.{last_time}
 use Rattle.store.specs.OpenConditions.{well_formed, redone}
@@ -29,7 +28,7 @@ use Rattle.store.specs.Format.{format_asks, format_if, format_of}
 use Rattle.runs.specs.Event.{Call, begin, write, erase, current_read, commit, abort, as_of, changes, store_log, store_page, checkpoint}
 use Rattle.runs.specs.Machine.{called}
 use Rattle.store.proofs.AskLaws.{Passed, passes}
-use Rattle.runs.proofs.Asks.{asked, is_refused, not_refused, asks, given, is_reading, Way, refused, begins, writes, erases, looks, commits, ends, aborts, logs, pages, checks, way}
+use Rattle.runs.proofs.Asks.{asked, is_refused, not_refused, asks, given, is_reading, Way, refused, begins, writes, erases, looks, commits, ends, aborts, logs, pages, lines, firsts, seconds, thirds, way}
 
 -- ---- a refused call
 
@@ -47,20 +46,21 @@ data Ended (m c : List ℕ) (s : State) (k : Call) (o : Outcome) : Type 0 where
   by_step : Passed (asks m c s k) → is_refused o.answer ≡ false → Ended m c s k o
 
 ended : {m c : List ℕ} {s : State} {k : Call} {o : Outcome} → Way m c s k o → Ended m c s k o
-unfolding write_step commit_step store_log_if store_page_if checkpoint_step
+unfolding write_step commit_step store_log_if store_page_if store_table checkpoint_step
 ended (refused k r w) = by_no r w refl (record { state = refl; medium = refl; cache = refl; buffer = refl; value = refl })
 ended (begins clock i p w) = by_step p refl
 ended (writes n key i v p w) = by_step p refl
 ended (erases n key i p w) = by_step p refl
 ended (looks k a v b h p n w) = by_step p n
-ended (commits n clock i p w z) = by_step p refl
-ended (ends n clock i p w z) = by_step p refl
+ended (commits n clock user i p w z) = by_step p refl
+ended (ends n clock user i p w z) = by_step p refl
 ended (aborts n i p w) = by_step p refl
 ended (logs p) = by_step p refl
 ended (pages n p) = by_step p refl
-ended (checks Idle p w) = by_step p refl
-ended (checks (FirstStored n t) p w) = by_step p refl
-ended (checks (SecondStored n t) p w) = by_step p refl
+ended (lines o t p b w) = by_step p refl
+ended (firsts o t p b w) = by_step p refl
+ended (seconds o t p w) = by_step p refl
+ended (thirds o t p w) = by_step p refl
 
 module _ (m c : List ℕ) (s : State) (k : Call) (r : Refusal) where
   -- 01: "on "no", this number with zeros, all buffers unchanged"
@@ -95,7 +95,7 @@ is_quiet (begin k) = true
 is_quiet (write n key v) = false
 is_quiet (erase n key) = false
 is_quiet (current_read n key) = true
-is_quiet (commit n k) = false
+is_quiet (commit n k u) = false
 is_quiet (abort n) = true
 is_quiet (as_of key t) = true
 is_quiet (changes key t1 t2 b) = true
@@ -113,12 +113,15 @@ spared (begins clock i p w) q = record { medium = refl; cache = refl }
 spared (writes n key i v p w) q = absurd (false≢true q)
 spared (erases n key i p w) q = absurd (false≢true q)
 spared (looks k a v b h p n w) q = record { medium = refl; cache = refl }
-spared (commits n clock i p w z) q = absurd (false≢true q)
-spared (ends n clock i p w z) q = absurd (false≢true q)
+spared (commits n clock user i p w z) q = absurd (false≢true q)
+spared (ends n clock user i p w z) q = absurd (false≢true q)
 spared (aborts n i p w) q = record { medium = refl; cache = refl }
 spared (logs p) q = absurd (false≢true q)
 spared (pages n p) q = absurd (false≢true q)
-spared (checks ph p w) q = absurd (false≢true q)
+spared (lines o t p b w) q = absurd (false≢true q)
+spared (firsts o t p b w) q = absurd (false≢true q)
+spared (seconds o t p w) q = absurd (false≢true q)
+spared (thirds o t p w) q = absurd (false≢true q)
 
 -- begin, abort, reads and lists
 pub quiet_leaves : (m c : List ℕ) (s : State) (k : Call) → is_quiet k ≡ true → Spared m c (called m c s k)
@@ -130,12 +133,15 @@ reading (begins clock i p w) q = absurd (false≢true q)
 reading (writes n key i v p w) q = absurd (false≢true q)
 reading (erases n key i p w) q = absurd (false≢true q)
 reading (looks k a v b h p n w) q = refl
-reading (commits n clock i p w z) q = absurd (false≢true q)
-reading (ends n clock i p w z) q = absurd (false≢true q)
+reading (commits n clock user i p w z) q = absurd (false≢true q)
+reading (ends n clock user i p w z) q = absurd (false≢true q)
 reading (aborts n i p w) q = absurd (false≢true q)
 reading (logs p) q = absurd (false≢true q)
 reading (pages n p) q = absurd (false≢true q)
-reading (checks ph p w) q = absurd (false≢true q)
+reading (lines o t p b w) q = absurd (false≢true q)
+reading (firsts o t p b w) q = absurd (false≢true q)
+reading (seconds o t p w) q = absurd (false≢true q)
+reading (thirds o t p w) q = absurd (false≢true q)
 
 -- reads and lists leave the state alone as well
 pub reading_leaves : (m c : List ℕ) (s : State) (k : Call) → is_reading k ≡ true → (called m c s k).state ≡ s
@@ -144,21 +150,21 @@ reading_leaves m c s k q = reading (way m c s k) q
 -- ---- opening
 
 -- it ends in one of four ways
-pub data Opening (m c : List ℕ) (l d : ℕ) : Outcome → Type 0 where
-  bad_sizes : Opening m c l d (refuses BadSizes no_state m c)
-  bad_cache : Opening m c l d (refuses BadCache no_state m c)
-  malformed : Opening m c l d (refuses Malformed no_state m (zeros (length c)))
-  opened : Passed (open_asks m c l d)
-      → Opening m c l d (leaves (Opened (record { 0 = last_time m l })) (opened_state m l d) m (redone m l d).cache)
+pub data Opening (m c : List ℕ) (l d a : ℕ) : Outcome → Type 0 where
+  bad_sizes : Opening m c l d a (refuses BadSizes no_state m c)
+  bad_cache : Opening m c l d a (refuses BadCache no_state m c)
+  malformed : Opening m c l d a (refuses Malformed no_state m (zeros (length c)))
+  opened : Passed (open_asks m c l d a)
+      → Opening m c l d a (leaves (Opened (record { 0 = last_time m l })) (opened_state m l d a) m (redone m l d).cache)
 
-pub opening_way : (m c : List ℕ) (l d : ℕ) → Opening m c l d (open_of m c l d)
+pub opening_way : (m c : List ℕ) (l d a : ℕ) → Opening m c l d a (open_of m c l d a)
 unfolding open_of open_if refused_cache refusal_number
-opening_way m c l d =
-    go (in_range l d && eqb (length m) (medium_length l d)) (eqb (length c) (cache_length d)) (well_formed m l d)
+opening_way m c l d a =
+    go (in_range l d a && eqb (length m) (medium_length l d a)) (eqb (length c) (cache_length d)) (well_formed m l d a)
     (λ x y z. (x, (y, (z, tt))))
   where
-    go : (x y z : Bool) → (x ≡ true → y ≡ true → z ≡ true → Passed (open_asks m c l d))
-        → Opening m c l d (open_if (ask ((x, BadSizes) ∷ (y, BadCache) ∷ (z, Malformed) ∷ [])) m c l d)
+    go : (x y z : Bool) → (x ≡ true → y ≡ true → z ≡ true → Passed (open_asks m c l d a))
+        → Opening m c l d a (open_if (ask ((x, BadSizes) ∷ (y, BadCache) ∷ (z, Malformed) ∷ [])) m c l d a)
     go false y z p = bad_sizes
     go true false z p = bad_cache
     go true true false p = malformed
@@ -173,8 +179,8 @@ pub record Unopened (m c : List ℕ) (r : Refusal) (o : Outcome) : Type 0 where
   pub buffer : o.buffer ≡ []
   pub value : o.value ≡ zeros 16
 
-pub open_refusal_leaves : (m c : List ℕ) (l d : ℕ) (r : Refusal) → (open_of m c l d).answer ≡ Refused r → Unopened m c r (open_of m c l d)
-open_refusal_leaves m c l d r e = go (opening_way m c l d) e
+pub open_refusal_leaves : (m c : List ℕ) (l d a : ℕ) (r : Refusal) → (open_of m c l d a).answer ≡ Refused r → Unopened m c r (open_of m c l d a)
+open_refusal_leaves m c l d a r e = go (opening_way m c l d a) e
   where
     early : (q : Refusal) → q ≢ Malformed → q ≡ r → Unopened m c r (refuses q no_state m c)
     early q n h = record {
@@ -186,7 +192,7 @@ open_refusal_leaves m c l d r e = go (opening_way m c l d) e
       value = refl;
     }
 
-    go : {o : Outcome} → Opening m c l d o → o.answer ≡ Refused r → Unopened m c r o
+    go : {o : Outcome} → Opening m c l d a o → o.answer ≡ Refused r → Unopened m c r o
     go bad_sizes e = early BadSizes (λ k. let z : ◌≡◌ {A = ℕ} 0 1 = cc in omega arith) (cc)
     go bad_cache e = early BadCache (λ k. let z : ◌≡◌ {A = ℕ} 0 1 = cc in omega arith) (cc)
     go malformed e = record {
@@ -200,10 +206,10 @@ open_refusal_leaves m c l d r e = go (opening_way m c l d) e
     go (opened p) e = not_refused refl e
 
 -- 01: "Opening stores nothing", whatever it answers
-pub open_medium : (m c : List ℕ) (l d : ℕ) → (open_of m c l d).medium ≡ m
-open_medium m c l d = go (opening_way m c l d)
+pub open_medium : (m c : List ℕ) (l d a : ℕ) → (open_of m c l d a).medium ≡ m
+open_medium m c l d a = go (opening_way m c l d a)
   where
-    go : {o : Outcome} → Opening m c l d o → o.medium ≡ m
+    go : {o : Outcome} → Opening m c l d a o → o.medium ≡ m
     go bad_sizes = refl
     go bad_cache = refl
     go malformed = refl
@@ -211,8 +217,8 @@ open_medium m c l d = go (opening_way m c l d)
 
 -- ---- formatting
 
-pub format_refusal_leaves : (m : List ℕ) (l d : ℕ) (r : Refusal) → (format_of m l d).answer ≡ Refused r → (format_of m l d).medium ≡ m
+pub format_refusal_leaves : (m : List ℕ) (l d a : ℕ) (r : Refusal) → (format_of m l d a).answer ≡ Refused r → (format_of m l d a).medium ≡ m
 unfolding format_of format_if
-format_refusal_leaves m l d r =
-    asked (λ (a : Option Refusal). (format_if a m l d).answer ≡ Refused r → (format_if a m l d).medium ≡ m)
-    (format_asks m l d) (λ q w e. refl) (λ p e. not_refused refl e)
+format_refusal_leaves m l d a r =
+    asked (λ (x : Option Refusal). (format_if x m l d a).answer ≡ Refused r → (format_if x m l d a).medium ≡ m)
+    (format_asks m l d a) (λ q w e. refl) (λ p e. not_refused refl e)

@@ -11,25 +11,26 @@ pub record Version : Type 0 where
   pub kind : ℕ
   pub value : List ℕ
 
--- 01: "a row of number and time": a commit row; the other is a version row
+-- 01: "a row of number and time": a commit row; 02, #105: "a commit row holds the user given too"; the other is a version row
 pub data Row : Type 0 where
   version : Version → Row
-  committed : ℕ → ℕ → Row
+  committed : ℕ → ℕ → ℕ → Row  -- number, time, user
 
 -- 01: "the answered number opens with its clock": an open number
 pub record Opened : Type 0 where
   pub number : ℕ
   pub clock : ℕ
 
--- 01: "It has open numbers with clocks, rows, and how many are stored; at first none"
+-- 01: "It has open numbers with clocks, rows, and how many are stored; at first none"; 02, #105: "0 where A is 0": it knows A
 pub record Book : Type 0 where
+  pub area : ℕ
   pub opened : List Opened
   pub rows : List Row
   pub stored : ℕ
 
 -- 01: "at first none": the book before the first event
-unfoldable pub blank : Book
-blank = record { opened = []; rows = []; stored = 0 }
+unfoldable pub blank : ℕ → Book
+blank a = record { area = a; opened = []; rows = []; stored = 0 }
 
 -- ---- what the rows say
 
@@ -37,13 +38,19 @@ blank = record { opened = []; rows = []; stored = 0 }
 unfoldable pub versions : List Row → List Version
 versions [] = []
 versions (version v ∷ rs) = v ∷ versions rs
-versions (committed n t ∷ rs) = versions rs
+versions (committed n t u ∷ rs) = versions rs
 
 -- 01: "A version row with a commit row of its number is committed, at that time"
 unfoldable pub time_of : List Row → ℕ → Option ℕ
 time_of [] n = none
 time_of (version v ∷ rs) n = time_of rs n
-time_of (committed k t ∷ rs) n = cond (eqb k n) (some t) (time_of rs n)
+time_of (committed k t u ∷ rs) n = cond (eqb k n) (some t) (time_of rs n)
+
+-- 02, #105: "a commit row holds the user given too": the user of the commit row of a number, 0 if it has none
+unfoldable pub user_of : List Row → ℕ → ℕ
+user_of [] n = 0
+user_of (version v ∷ rs) n = user_of rs n
+user_of (committed k t u ∷ rs) n = cond (eqb k n) u (user_of rs n)
 
 -- 01: "the last commit row's time (or 0)"
 unfoldable pub last_time : List Row → ℕ
@@ -52,13 +59,13 @@ last_time rs = go 0 rs
     go : ℕ → List Row → ℕ
     go t [] = t
     go t (version v ∷ rs) = go t rs
-    go t (committed n u ∷ rs) = go u rs
+    go t (committed n u v ∷ rs) = go u rs
 
 -- 01: "Commit of a number with rows", "had no row": is there a row of the number n, of either kind?
 unfoldable pub has_row : List Row → ℕ → Bool
 has_row [] n = false
 has_row (version v ∷ rs) n = eqb v.number n || has_row rs n
-has_row (committed k t ∷ rs) n = eqb k n || has_row rs n
+has_row (committed k t u ∷ rs) n = eqb k n || has_row rs n
 
 -- 01: "a number that was not open": is the number n open?
 unfoldable pub is_open : List Opened → ℕ → Bool
@@ -80,21 +87,27 @@ close (o ∷ os) n = cond (eqb o.number n) (close os n) (o ∷ close os n)
 -- 01: "If a log block changed, all rows before the new one are stored": a new row
 unfoldable pub add : Book → Row → Bool → List Opened → Book
 add b r changed os =
-    record { opened = os; rows = b.rows ++ (r ∷ []); stored = cond changed (length b.rows) b.stored }
+    record { area = b.area; opened = os; rows = b.rows ++ (r ∷ []); stored = cond changed (length b.rows) b.stored }
 
 -- 01: "Commit of a number with rows: a row of number and time, the largest of its two clocks and the last commit row's
 -- time (or 0) plus 1"
 unfoldable pub commit_time : Book → ℕ → ℕ → ℕ
 commit_time b n clock = max (clock_of b.opened n) (max clock (last_time b.rows + 1))
 
+-- 02, #105: "a commit row holds the user given too, 0 where A is 0"
+unfoldable pub user_given : ℕ → ℕ → ℕ
+user_given a user = cond (eqb a 0) 0 user
+
 -- 01: "Commit of a number with rows: a row of number and time", "the number closes": without rows, the latter alone
-abbrev pub commits : Bool → Book → ℕ → ℕ → Bool → Book
-commits true b n clock changed = add b (committed n (commit_time b n clock)) changed (close b.opened n)
-commits false b n clock changed = record { opened = close b.opened n; rows = b.rows; stored = b.stored }
+abbrev pub commits : Bool → Book → ℕ → ℕ → ℕ → Bool → Book
+commits true b n clock user changed =
+    add b (committed n (commit_time b n clock) (user_given b.area user)) changed (close b.opened n)
+commits false b n clock user changed =
+    record { area = b.area; opened = close b.opened n; rows = b.rows; stored = b.stored }
 
 -- 01: "unstored rows go, all numbers close"
 unfoldable pub fall : Book → Book
-fall b = record { opened = []; rows = take b.stored b.rows; stored = b.stored }
+fall b = record { area = b.area; opened = []; rows = take b.stored b.rows; stored = b.stored }
 
 -- 01: "an erased value are zeros", "zeros 7": n zero bytes
 abbrev pub zeros : ℕ → List ℕ
@@ -103,17 +116,17 @@ zeros n = replicate n 0
 -- 01: "The book is fed the calls": one that is not refused, with its answer and whether it changed a log block
 unfoldable pub entered : Book → Call → ℕ → Bool → Book
 entered b (begin k) x changed =
-    record { opened = record { number = x; clock = k } ∷ b.opened; rows = b.rows; stored = b.stored }
+    record { area = b.area; opened = record { number = x; clock = k } ∷ b.opened; rows = b.rows; stored = b.stored }
 entered b (write n key v) x changed =
     add b (version (record { number = n; key = key; kind = 0; value = v })) changed b.opened
 entered b (erase n key) x changed =
     add b (version (record { number = n; key = key; kind = 1; value = zeros 16 })) changed b.opened
 entered b (current_read n key) x changed = b
-entered b (commit n k) x changed = commits (has_row b.rows n) b n k changed
-entered b (abort n) x changed = record { opened = close b.opened n; rows = b.rows; stored = b.stored }
+entered b (commit n k u) x changed = commits (has_row b.rows n) b n k u changed
+entered b (abort n) x changed = record { area = b.area; opened = close b.opened n; rows = b.rows; stored = b.stored }
 entered b (as_of key t) x changed = b
 entered b (changes key t1 t2 buffer) x changed = b
-entered b store_log x changed = record { opened = b.opened; rows = b.rows; stored = length b.rows }
+entered b store_log x changed = record { area = b.area; opened = b.opened; rows = b.rows; stored = length b.rows }
 entered b (store_page p) x changed = b
 entered b checkpoint x changed = b
 
@@ -132,7 +145,13 @@ feed b (call k) o = unless_refused o.refusal b (entered b k o.result o.changed)
 
 -- 01: "each with its row's record, kind and value, and its time or none": the slot of one version row
 unfoldable pub sight : List Row → Version → Sight
-sight rs v = record { key = v.key; kind = v.kind; value = v.value; time = time_of rs v.number }
+sight rs v = record {
+  key = v.key;
+  kind = v.kind;
+  value = v.value;
+  time = time_of rs v.number;
+  user = user_of rs v.number;
+}
 
 -- 01: "as many used slots as version rows, each with its row's record, kind and value": the slots of all
 unfoldable pub sights : List Row → List Version → List Sight
@@ -255,7 +274,7 @@ Answers b (begin k) o = (is_open b.opened o.result ≡ false) × (has_row b.rows
 Answers b (write n key v) o = o.result ≡ length (versions b.rows)
 Answers b (erase n key) o = o.result ≡ length (versions b.rows)
 Answers b (current_read n key) o = o.strip ≡ current_of b.rows n key missing (versions b.rows)
-Answers b (commit n k) o = o.result ≡ cond (has_row b.rows n) (commit_time b n k) 0
+Answers b (commit n k u) o = o.result ≡ cond (has_row b.rows n) (commit_time b n k) 0
 Answers b (abort n) o = o.result ≡ 0
 Answers b (as_of key t) o = o.strip ≡ strip_as_of b.rows key t
 Answers b (changes key t1 t2 buffer) o = ListsAs (lines_of b.rows key t1 t2) buffer o

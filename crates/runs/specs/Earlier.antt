@@ -1,6 +1,6 @@
 -- The opening as it was before request #104, kept to say that an old medium opens as it did: the readers of a log record and of
 -- a slot, and what opening judges and finds by them. Whatever reads neither a record nor a record number is the store's own, and
--- so is the writer of a slot.
+-- so is the writer of a slot. There were no users: A is 0.
 use Rattle.std.specs.Prelude.{ℕ, zero, suc, ◌+◌, ◌-◌, ◌*◌, ◌^◌, ◌<◌, max, ◌≡◌, Bool, true, false, cond, not, ◌&&◌, ◌||◌, List, [], ◌∷◌, ◌++◌, length, get_or, drop, eqb, leb, ltb}
 use Rattle.std.proofs.Math.Option.{Option, none, some}
 use Rattle.fields.specs.Field.{dec}
@@ -16,6 +16,7 @@ use Rattle.layout.specs.Master.{master_of, oldest_on}
 use Rattle.layout.specs.declared.item.Width.{Width}
 use Rattle.layout.specs.declared.item.Width.TheVariants.{One, Two}
 use Rattle.layout.specs.declared.item.VersionHead.{VersionHead}
+use Rattle.layout.specs.declared.item.Form.TheVariants.{Plain}
 use Rattle.layout.specs.declared.item.Item.{Item}
 use Rattle.layout.specs.declared.item.Item.TheVariants.{End, Version, Commit, Number, Damaged}
 use Rattle.store.specs.declared.Phase.TheVariants.{Idle}
@@ -28,13 +29,13 @@ use Rattle.store.specs.declared.Timing.{Timing}
 use Rattle.store.specs.declared.Timing.TheVariants.{Untimed}
 use Rattle.store.specs.declared.State.{State}
 use Rattle.store.specs.Answer.{Outcome, leaves, refuses, ask}
-use Rattle.store.specs.State.{in_range, no_state}
+use Rattle.store.specs.State.{in_range, no_area, no_state}
 use Rattle.store.specs.Write.{or_none}
 use Rattle.store.specs.Chain.{is_version, version_time}
 use Rattle.store.specs.OpenLog.{Placed, place_from, number_in, above_all, latest, next_on, time_on, block_of, read_count, read_log, read_tail, log_end}
 use Rattle.store.specs.OpenRedo.{Redone, pages_on, redo, redo_checks, used_in}
 use Rattle.store.specs.OpenPairs.{pair_time, is_paired, waiting_numbers, open_places}
-use Rattle.store.specs.OpenConditions.{Checks, all_hold, each, table_checks, sizes_are, records_fit, low_after_all, log_checks, at_least_one, slot_at_least_one, slot_in_bounds, time_or, not_above, once_checks, block_checks, sequences_in_range, ends_logged, new_in_table, page_checks, full_before, copied}
+use Rattle.store.specs.OpenConditions.{Checks, all_hold, each, table_checks, sizes_are, records_fit, low_after_all, log_checks, at_least_one, slot_at_least_one, slot_in_bounds, time_or, not_above, once_checks, block_checks, sequences_in_range, ends_logged, new_in_table, page_checks, full_before, is_plain, copied}
 use Rattle.store.specs.Open.{refused_cache, open_of}
 use Rattle.runs.specs.Event.{are_bytes}
 
@@ -57,7 +58,7 @@ item_before bs =
     cond (eqb (length bs) 0) End
     (cond (ltb (length bs) 3) Damaged
     (cond (eqb (get_or bs 0 0) 1) (of_length 30 (dec (part bs 1 2)) (drop 3 bs) (Version (head_before (drop 3 bs))))
-    (cond (eqb (get_or bs 0 0) 2) (commit_item (dec (part bs 1 2)) (drop 3 bs))
+    (cond (eqb (get_or bs 0 0) 2) (commit_item Plain (dec (part bs 1 2)) (drop 3 bs))
     Damaged)))
 
 -- 01: "A record is tag, length, body": 3 + 30 bytes, 3 + 16 bytes
@@ -176,7 +177,7 @@ module _ (m : List ℕ) (l d : ℕ) where
   -- 01: "Fields as above, L and D as given": condition 1
   unfoldable pub fields_before : Checks
   fields_before =
-      (sizes_are (master_of (blk m 0)) l d, 0)
+      (sizes_are (master_of (blk m 0)) l d 0, 0)
       ∷ (table_checks (λ i. pair_form (table_pair m i))
       ++ (block_checks m l d (λ s. used_form (block_of m l s) && forms_before (parsed_before (block_of m l s)).records)
       ++ each (λ p. (page_form_before (blk m (page_block_at l p)), page_block_at l p)) 0 d))
@@ -226,13 +227,14 @@ module _ (m : List ℕ) (l d : ℕ) where
   state_before = record {
     blocks = l;
     pages = d;
+    area = no_area;
     slots = used_in redone_before.cache d;
     next = record { 0 = next_before m l };
     last = record { 0 = last_before m l };
     saved = record { 0 = last_before m l };
     end = record { 0 = log_end m l };
     tail = read_tail m l;
-    places = open_places m (log_before m l) redone_before.cache (15 * d);
+    places = open_places no_area m (log_before m l) redone_before.cache (15 * d);
     ring = 0;
     first = redone_before.first;
     phase = Idle;
@@ -241,7 +243,7 @@ module _ (m : List ℕ) (l d : ℕ) where
 -- 01: "L, D (the caller's) in range, medium length right? 1", "cache length right? 2", "well formed? 3"
 abbrev pub asks_before : List ℕ → List ℕ → ℕ → ℕ → List (Bool × Refusal)
 asks_before m c l d =
-    (in_range l d && eqb (length m) (medium_length l d), BadSizes)
+    (in_range l d 0 && eqb (length m) (medium_length l d 0), BadSizes)
     ∷ (eqb (length c) (cache_length d), BadCache)
     ∷ (all_hold (conditions_before m l d), Malformed)
     ∷ []
@@ -263,23 +265,23 @@ abbrev pub old_width : Width → Bool
 old_width One = true
 old_width Two = false
 
--- 02, #104: "Old media": a record of tag 1, or a commit
+-- 02, #104: "Old media": a record of tag 1, or a commit without a user
 abbrev pub old_record : Record → Bool
 old_record (version h v) = old_width h.width
-old_record (commit p) = true
+old_record (commit p) = is_plain p.form
 
 -- 02, #104: "Old media": is every record read an old one?
 unfoldable pub old_log : List Placed → Bool
 old_log [] = true
 old_log (x ∷ xs) = old_record x.rec && old_log xs
 
--- 02, #104: "Old media", "their byte 3 is zero": a medium of bytes, no tag 3 in its log, and in its slots no record number above
+-- 02, #104: "Old media", "their byte 3 is zero": a medium of bytes, no tag 3 (nor 4) in its log, and in its slots no record number above
 -- 255
 pub record Old (m : List ℕ) (l d : ℕ) : Type 0 where
   pub bytes : are_bytes m ≡ true
   pub log : old_log (read_log m l) ≡ true
   pub slots : (n : ℕ) → n < 15 * d → get_or (cache_slot (pages_on m l d) n) 3 0 ≡ 0
 
--- 02, #104: "Old media open unchanged": answer, state, medium and cache are those of the opening as it was, be it refused or not
+-- 02, #104: "Old media open unchanged": without user lines, as they have none (02, #105: A is 0), answer, state, medium and cache are those of the opening as it was, be it refused or not
 unfoldable pub OpensAsBefore : Type 0
-OpensAsBefore = (m c : List ℕ) (l d : ℕ) → Old m l d → open_of m c l d ≡ open_before m c l d
+OpensAsBefore = (m c : List ℕ) (l d : ℕ) → Old m l d → open_of m c l d 0 ≡ open_before m c l d

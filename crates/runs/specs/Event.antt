@@ -8,7 +8,7 @@ pub data Call : Type 0 where
   write : ℕ → ℕ → List ℕ → Call  -- number, key, value
   erase : ℕ → ℕ → Call  -- number, key
   current_read : ℕ → ℕ → Call  -- number, key
-  commit : ℕ → ℕ → Call  -- number, clock
+  commit : ℕ → ℕ → ℕ → Call  -- number, clock, user
   abort : ℕ → Call  -- number
   as_of : ℕ → ℕ → Call  -- key, time
   changes : ℕ → ℕ → ℕ → List ℕ → Call  -- key, first and last time, answer buffer
@@ -28,12 +28,14 @@ pub data Strip : Type 0 where
   erased : Strip
   present : List ℕ → Strip
 
--- 01: "each with its row's record, kind and value, and its time or none": a used slot that an opening finds
+-- 01: "each with its row's record, kind and value, and its time or none": a used slot that an opening finds; 02, #105: "an opening
+-- finds these users": that of its commit, 0 if it has none
 pub record Sight : Type 0 where
   pub key : ℕ
   pub kind : ℕ
   pub value : List ℕ
   pub time : Option ℕ
+  pub user : ℕ
 
 -- 01: "answers, and whether a write, erase or commit changed a log block on the medium"; a read's strip, a list's
 -- answer buffer, and what an opening finds
@@ -58,13 +60,17 @@ is_word n = ltb n (2 ^ 64)
 abbrev pub is_record : ℕ → Bool
 is_record key = ltb key 65536
 
+-- 02, #105: "a user number of four bytes"
+abbrev pub is_user : ℕ → Bool
+is_user u = ltb u (2 ^ 32)
+
 -- 01: "transaction number (8), value (16)"; 02, #104: a record number of two bytes: are a call's arguments of these sizes?
 unfoldable pub call_typed : Call → Bool
 call_typed (begin k) = is_word k
 call_typed (write n key v) = is_word n && (is_record key && (eqb (length v) 16 && are_bytes v))
 call_typed (erase n key) = is_word n && is_record key
 call_typed (current_read n key) = is_word n && is_record key
-call_typed (commit n k) = is_word n && is_word k
+call_typed (commit n k u) = is_word n && (is_word k && is_user u)
 call_typed (abort n) = is_word n
 call_typed (as_of key t) = is_record key && is_word t
 call_typed (changes key t1 t2 b) = is_record key && (is_word t1 && (is_word t2 && are_bytes b))

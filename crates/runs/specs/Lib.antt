@@ -7,6 +7,7 @@ pub mod Plain
 pub mod Stable
 pub mod Relief
 pub mod Unstuck
+pub mod Space
 pub mod Earlier
 pub mod EarlierCalls
 pub mod OldMedia

@@ -12,6 +12,7 @@ use Rattle.store.specs.declared.Timing.{Timing}
 use Rattle.store.specs.declared.Timing.TheVariants.{Timed, Untimed}
 use Rattle.store.specs.Answer.{Outcome, answer_number, answer_value}
 use Rattle.store.specs.Places.{time_under}
+use Rattle.store.specs.Users.{user_of}
 use Rattle.store.specs.Chain.{cell_at, version_time}
 use Rattle.store.specs.Format.{fresh_medium}
 use Rattle.store.specs.Open.{open_of}
@@ -61,19 +62,25 @@ abbrev pub time_in : Timing → Option ℕ
 time_in (Timed t) = some t.0
 time_in Untimed = none
 
+-- 02, #105: "an opening finds these users": the user of a version's commit, 0 if it has none; `who` gives that of a time
+abbrev pub user_in : (ℕ → ℕ) → Timing → ℕ
+user_in who (Timed t) = who t.0
+user_in who Untimed = 0
+
 -- 01: "each with its row's record, kind and value, and its time or none": what stands in slot n
-unfoldable pub sight_at : List ℕ → List Place → ℕ → Sight
-sight_at c ps n = record {
+unfoldable pub sight_at : (ℕ → ℕ) → List ℕ → List Place → ℕ → Sight
+sight_at who c ps n = record {
   key = (cell_at c n).key;
   kind = (cell_at c n).kind;
   value = (cell_at c n).value;
   time = time_in (version_time (time_under ps) (cell_at c n).state);
+  user = user_in who (version_time (time_under ps) (cell_at c n).state);
 }
 
 -- 01: "as many used slots as version rows": what stands in the k slots from slot n on
-unfoldable pub sights_from : List ℕ → List Place → ℕ → ℕ → List Sight
-sights_from c ps n zero = []
-sights_from c ps n (suc k) = sight_at c ps n ∷ sights_from c ps (n + 1) k
+unfoldable pub sights_from : (ℕ → ℕ) → List ℕ → List Place → ℕ → ℕ → List Sight
+sights_from who c ps n zero = []
+sights_from who c ps n (suc k) = sight_at who c ps n ∷ sights_from who c ps (n + 1) k
 
 -- 01: "changed a log block on the medium": do the log blocks of m and n differ?
 unfoldable pub log_changed : ℕ → List ℕ → List ℕ → Bool
@@ -96,7 +103,7 @@ called m c s (begin k) = begin_of s m c k
 called m c s (write n key v) = write_of s m c n key v
 called m c s (erase n key) = erase_of s m c n key
 called m c s (current_read n key) = current_of s m c n key
-called m c s (commit n k) = commit_of s m c n k
+called m c s (commit n k u) = commit_of s m c n k u
 called m c s (abort n) = abort_of s m c n
 called m c s (as_of key t) = as_of_of s m c key t
 called m c s (changes key t1 t2 b) = changes_of s m c b key t1 t2
@@ -125,17 +132,17 @@ opened_to (Listed k) w o = after o
 unfoldable pub quiet : ℕ → Observation
 quiet r = record { refusal = r; result = 0; strip = missing; changed = false; buffer = []; found = [] }
 
-module _ (l d : ℕ) where
-  -- 01: "An opening brings the formatting's sizes and any cache"
+module _ (l d a : ℕ) where
+  -- 01: "An opening brings the formatting's sizes and any cache"; 02, #105: A is one of them
   unfoldable pub opens : World → Outcome → Step
   opens w o = record {
     world = opened_to o.answer w o;
-    seen = seen_of l (medium_of w) o (sights_from o.cache o.state.places 0 o.state.slots);
+    seen = seen_of l (medium_of w) o (sights_from (user_of o.state o.medium) o.cache o.state.places 0 o.state.slots);
   }
 
   -- 01: a cut "leaves the medium only"; while the store is shut a call finds no state, and none comes in a run
   unfoldable pub step : World → Event → Step
-  step w (opening c) = opens w (open_of (medium_of w) c l d)
+  step w (opening c) = opens w (open_of (medium_of w) c l d a)
   step w cut = record { world = down (medium_of w); seen = quiet 0 }
   step (down m) (call k) = record { world = down m; seen = quiet 16 }
   step (up m c s) (call k) =
@@ -162,4 +169,4 @@ module _ (l d : ℕ) where
 
   -- 01: "A run starts on the medium just formatted"
   unfoldable pub formatted : World
-  formatted = down (fresh_medium l d)
+  formatted = down (fresh_medium l d a)

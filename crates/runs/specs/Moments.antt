@@ -4,47 +4,47 @@ use Rattle.std.specs.Prelude.{ℕ, zero, suc, ◌&&◌, Bool, true, false, ◌||
 use Rattle.std.proofs.Math.Option.{Option, none, some}
 use Rattle.store.specs.State.{in_range}
 use Rattle.runs.specs.Event.{Call, Event, opening, cut, call, begin, write, erase, current_read, commit, abort, as_of, changes, store_log, store_page, checkpoint, Observation}
-use Rattle.runs.specs.Book.{Row, version, committed, Book, blank, zeros, feed}
+use Rattle.runs.specs.Book.{Row, version, committed, Book, blank, zeros, user_given, feed}
 use Rattle.runs.specs.Machine.{World, step, is_run, trace, formatted}
 
 -- ---- runs and their moments
 
 -- 01: "A run starts on the medium just formatted": sizes in range, and events that are a run
-pub record Run (l d : ℕ) (es : List Event) : Type 0 where
-  pub range : in_range l d ≡ true
-  pub run : is_run l d (formatted l d) es ≡ true
+pub record Run (l d a : ℕ) (es : List Event) : Type 0 where
+  pub range : in_range l d a ≡ true
+  pub run : is_run l d a (formatted l d a) es ≡ true
 
 -- 01: "Each call gets .. that the call before it left": what some events leave of w
-unfoldable pub world_after : ℕ → ℕ → World → List Event → World
-world_after l d w [] = w
-world_after l d w (e ∷ es) = world_after l d (step l d w e).world es
+unfoldable pub world_after : ℕ → ℕ → ℕ → World → List Event → World
+world_after l d a w [] = w
+world_after l d a w (e ∷ es) = world_after l d a (step l d a w e).world es
 
 -- 01: "The book is fed the calls and cuts": what the book b is after some events that begin at w
-unfoldable pub book_after : ℕ → ℕ → World → Book → List Event → Book
-book_after l d w b [] = b
-book_after l d w b (e ∷ es) = book_after l d (step l d w e).world (feed b e (step l d w e).seen) es
+unfoldable pub book_after : ℕ → ℕ → ℕ → World → Book → List Event → Book
+book_after l d a w b [] = b
+book_after l d a w b (e ∷ es) = book_after l d a (step l d a w e).world (feed b e (step l d a w e).seen) es
 
 -- 01: "at first none": the book at the moment after the events es of a run
-abbrev pub book_at : ℕ → ℕ → List Event → Book
-book_at l d es = book_after l d (formatted l d) blank es
+abbrev pub book_at : ℕ → ℕ → ℕ → List Event → Book
+book_at l d a es = book_after l d a (formatted l d a) (blank a) es
 
 -- 01, 'Runs and their book': what is seen of the event e that comes at this moment
-abbrev pub seen_at : ℕ → ℕ → List Event → Event → Observation
-seen_at l d es e = (step l d (world_after l d (formatted l d) es) e).seen
+abbrev pub seen_at : ℕ → ℕ → ℕ → List Event → Event → Observation
+seen_at l d a es e = (step l d a (world_after l d a (formatted l d a) es) e).seen
 
 -- 01, 'Runs and their book': what is seen of the events fs that come at this moment
-abbrev pub trace_at : ℕ → ℕ → List Event → List Event → List Observation
-trace_at l d es fs = trace l d (world_after l d (formatted l d) es) fs
+abbrev pub trace_at : ℕ → ℕ → ℕ → List Event → List Event → List Observation
+trace_at l d a es fs = trace l d a (world_after l d a (formatted l d a) es) fs
 
 -- 01: "Where not refused": the event e that comes at this moment is not refused
-abbrev pub Accepted : ℕ → ℕ → List Event → Event → Type 0
-Accepted l d es e = (seen_at l d es e).refusal ≡ 0
+abbrev pub Accepted : ℕ → ℕ → ℕ → List Event → Event → Type 0
+Accepted l d a es e = (seen_at l d a es e).refusal ≡ 0
 
 -- 01: "An opening with a cache of right length is accepted": two accepted openings of a run, with the events fs between
-pub record Openings (l d : ℕ) (es : List Event) (c : List ℕ) (fs : List Event) (c' : List ℕ) : Type 0 where
-  pub run : Run l d ((es ++ (opening c ∷ fs)) ++ (opening c' ∷ []))
-  pub first : Accepted l d es (opening c)
-  pub second : Accepted l d (es ++ (opening c ∷ fs)) (opening c')
+pub record Openings (l d a : ℕ) (es : List Event) (c : List ℕ) (fs : List Event) (c' : List ℕ) : Type 0 where
+  pub run : Run l d a ((es ++ (opening c ∷ fs)) ++ (opening c' ∷ []))
+  pub first : Accepted l d a es (opening c)
+  pub second : Accepted l d a (es ++ (opening c ∷ fs)) (opening c')
 
 -- ---- what is seen of some events
 
@@ -58,37 +58,37 @@ abbrev pub if_accepted : ℕ → List Row → List Row
 if_accepted zero rs = rs
 if_accepted (suc r) rs = []
 
--- 01: "commit answers its row's time, or 0 without one": the row of a commit with this answer
-abbrev pub commit_seen : ℕ → ℕ → List Row
-commit_seen n zero = []
-commit_seen n (suc t) = committed n (suc t) ∷ []
+-- 01: "commit answers its row's time, or 0 without one": the row of a commit with this answer; 02, #105: "holds the user given too"
+abbrev pub commit_seen : ℕ → ℕ → ℕ → List Row
+commit_seen n u zero = []
+commit_seen n u (suc t) = committed n (suc t) u ∷ []
 
 -- 01: "Write, erase: a row of number, record, kind, value. Commit of a number with rows: a row of number and time": the row
--- that a call brings if it is not refused and gives this answer
-abbrev pub row_seen : Call → ℕ → List Row
-row_seen (begin k) x = []
-row_seen (write n key v) x = version (record { number = n; key = key; kind = 0; value = v }) ∷ []
-row_seen (erase n key) x = version (record { number = n; key = key; kind = 1; value = zeros 16 }) ∷ []
-row_seen (current_read n key) x = []
-row_seen (commit n k) x = commit_seen n x
-row_seen (abort n) x = []
-row_seen (as_of key t) x = []
-row_seen (changes key t1 t2 buffer) x = []
-row_seen store_log x = []
-row_seen (store_page p) x = []
-row_seen checkpoint x = []
+-- that a call brings if it is not refused and gives this answer; 02, #105: "0 where A is 0"
+abbrev pub row_seen : ℕ → Call → ℕ → List Row
+row_seen a (begin k) x = []
+row_seen a (write n key v) x = version (record { number = n; key = key; kind = 0; value = v }) ∷ []
+row_seen a (erase n key) x = version (record { number = n; key = key; kind = 1; value = zeros 16 }) ∷ []
+row_seen a (current_read n key) x = []
+row_seen a (commit n k u) x = commit_seen n (user_given a u) x
+row_seen a (abort n) x = []
+row_seen a (as_of key t) x = []
+row_seen a (changes key t1 t2 buffer) x = []
+row_seen a store_log x = []
+row_seen a (store_page p) x = []
+row_seen a checkpoint x = []
 
 -- 01, 'Runs and their book': the row that an event brings
-abbrev pub event_row : Event → Observation → List Row
-event_row (opening c) o = []
-event_row cut o = []
-event_row (call k) o = if_accepted o.refusal (row_seen k o.result)
+abbrev pub event_row : ℕ → Event → Observation → List Row
+event_row a (opening c) o = []
+event_row a cut o = []
+event_row a (call k) o = if_accepted o.refusal (row_seen a k o.result)
 
 -- 01, 'Runs and their book': the rows of all writes, erases and commits with versions that were not refused, in their order
-unfoldable pub rows_seen : List Event → List Observation → List Row
-rows_seen [] os = []
-rows_seen (e ∷ es) [] = []
-rows_seen (e ∷ es) (o ∷ os) = event_row e o ++ rows_seen es os
+unfoldable pub rows_seen : ℕ → List Event → List Observation → List Row
+rows_seen a [] os = []
+rows_seen a (e ∷ es) [] = []
+rows_seen a (e ∷ es) (o ∷ os) = event_row a e o ++ rows_seen a es os
 
 -- 01, 'Runs and their book': is there an event of this kind among them?
 unfoldable pub any_seen : (Event → Observation → Bool) → List Event → List Observation → Bool
@@ -114,7 +114,7 @@ is_begin (begin k) = true
 is_begin (write n key v) = false
 is_begin (erase n key) = false
 is_begin (current_read n key) = false
-is_begin (commit n k) = false
+is_begin (commit n k u) = false
 is_begin (abort n) = false
 is_begin (as_of key t) = false
 is_begin (changes key t1 t2 buffer) = false
@@ -134,7 +134,7 @@ is_close n (begin k) = false
 is_close n (write a key v) = false
 is_close n (erase a key) = false
 is_close n (current_read a key) = false
-is_close n (commit a k) = eqb a n
+is_close n (commit a k u) = eqb a n
 is_close n (abort a) = eqb a n
 is_close n (as_of key t) = false
 is_close n (changes key t1 t2 buffer) = false
@@ -154,7 +154,7 @@ named (begin k) = none
 named (write n key v) = some n
 named (erase n key) = some n
 named (current_read n key) = some n
-named (commit n k) = some n
+named (commit n k u) = some n
 named (abort n) = some n
 named (as_of key t) = none
 named (changes key t1 t2 buffer) = none
@@ -162,13 +162,14 @@ named store_log = none
 named (store_page p) = none
 named checkpoint = none
 
--- 01: "a row of number and time": a transaction that has committed with versions
+-- 01: "a row of number and time": a transaction that has committed with versions; 02, #105: "a commit row holds the user given too"
 pub record Transaction : Type 0 where
   pub number : ℕ
   pub time : ℕ
+  pub user : ℕ
 
 -- 01: "a row of number and time": the transactions whose commit is among the rows, in their order
 unfoldable pub transactions : List Row → List Transaction
 transactions [] = []
 transactions (version v ∷ rs) = transactions rs
-transactions (committed n t ∷ rs) = record { number = n; time = t } ∷ transactions rs
+transactions (committed n t u ∷ rs) = record { number = n; time = t; user = u } ∷ transactions rs

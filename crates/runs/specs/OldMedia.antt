@@ -21,7 +21,7 @@ of_byte (begin k) = true
 of_byte (write n key v) = ltb key 256
 of_byte (erase n key) = ltb key 256
 of_byte (current_read n key) = ltb key 256
-of_byte (commit n k) = true
+of_byte (commit n k u) = true
 of_byte (abort n) = true
 of_byte (as_of key t) = ltb key 256
 of_byte (changes key t1 t2 b) = ltb key 256
@@ -35,13 +35,15 @@ old_typed (opening c) = typed (opening c)
 old_typed cut = typed cut
 old_typed (call k) = typed (call k) && of_byte k
 
--- 01: "each with its row's record, kind and value, and its time or none": what stands in slot n, by the earlier reader of a slot
+-- 01: "each with its row's record, kind and value, and its time or none": what stands in slot n, by the earlier reader of a slot;
+-- 02, #105: "Tag 2 records in old media .. have user 0"
 unfoldable pub old_sight : List ℕ → List Place → ℕ → Sight
 old_sight c ps n = record {
   key = (cell_at_before c n).key;
   kind = (cell_at_before c n).kind;
   value = (cell_at_before c n).value;
   time = time_in (version_time (time_under ps) (cell_at_before c n).state);
+  user = 0;
 }
 
 -- 01: "as many used slots as version rows": what stands in the k slots from slot n on
@@ -60,14 +62,14 @@ module _ (l d : ℕ) where
   -- 01: "Each call gets the state, medium and cache that the call before it left"
   unfoldable pub old_step : World → Event → Step
   old_step w (opening c) = old_opens w (open_before (medium_of w) c l d)
-  old_step w cut = step l d w cut
-  old_step (down m) (call k) = step l d (down m) (call k)
+  old_step w cut = step l d 0 w cut
+  old_step (down m) (call k) = step l d 0 (down m) (call k)
   old_step (up m c s) (call k) = record { world = after (old_called m c s k); seen = seen_of l m (old_called m c s k) [] }
 
   -- 01: "A run starts", "only openings and cuts come": is the list of events a run of the store as it was?
   unfoldable pub is_old_run : World → List Event → Bool
   is_old_run w [] = true
-  is_old_run w (e ∷ es) = old_typed e && (allowed l d w e && is_old_run (old_step w e).world es)
+  is_old_run w (e ∷ es) = old_typed e && (allowed l d 0 w e && is_old_run (old_step w e).world es)
 
   -- 01: "Each call gets .. that the call before it left": what its events leave of w
   unfoldable pub old_world : World → List Event → World
@@ -86,23 +88,23 @@ module _ (l d : ℕ) where
 
   -- 02, #104: "Old media": what a run of the store as it was leaves at a cut
   abbrev pub old_medium : List Event → List ℕ
-  old_medium es = medium_of (old_world (formatted l d) es)
+  old_medium es = medium_of (old_world (formatted l d 0) es)
 
   -- 01: "Cut, accepted opening: unstored rows go, all numbers close": its book then
   abbrev pub book_over : List Event → Book
-  book_over es = fall (old_book (formatted l d) blank es)
+  book_over es = fall (old_book (formatted l d 0) (blank 0) es)
 
 -- 02, #104: "Old media open unchanged, for their byte 3 is zero; new versions use tag 3 only": a run of the store as it was agrees with
 -- its book; what it has left at any moment is old, so that it opens as it did; and every run of today's store from there agrees with
 -- the book that has come so far
 pub record OldMedia : Type 0 where
-  pub before : (l d : ℕ) → in_range l d ≡ true
-      → (es : List Event) → is_old_run l d (formatted l d) es ≡ true
-      → OldAgrees l d (formatted l d) blank es
-  pub left : (l d : ℕ) → in_range l d ≡ true
-      → (es : List Event) → is_old_run l d (formatted l d) es ≡ true
+  pub before : (l d : ℕ) → in_range l d 0 ≡ true
+      → (es : List Event) → is_old_run l d (formatted l d 0) es ≡ true
+      → OldAgrees l d (formatted l d 0) (blank 0) es
+  pub left : (l d : ℕ) → in_range l d 0 ≡ true
+      → (es : List Event) → is_old_run l d (formatted l d 0) es ≡ true
       → Old (old_medium l d es) l d
-  pub since : (l d : ℕ) → in_range l d ≡ true
-      → (es : List Event) → is_old_run l d (formatted l d) es ≡ true
-      → (fs : List Event) → is_run l d (down (old_medium l d es)) fs ≡ true
-      → Agrees l d (down (old_medium l d es)) (book_over l d es) fs
+  pub since : (l d : ℕ) → in_range l d 0 ≡ true
+      → (es : List Event) → is_old_run l d (formatted l d 0) es ≡ true
+      → (fs : List Event) → is_run l d 0 (down (old_medium l d es)) fs ≡ true
+      → Agrees l d 0 (down (old_medium l d es)) (book_over l d es) fs

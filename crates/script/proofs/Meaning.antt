@@ -109,24 +109,24 @@ module _ (l : Line) where
   done_first e (bare k) = refl
   done_first e (ending k ns w) = simp e
 
-  done_next : (ns : List ℕ) → l.count < 5 → done_of l (l.last ∷ ns) ≡ done_of (next_word l) ns
+  done_next : (ns : List ℕ) → l.count < 6 → done_of l (l.last ∷ ns) ≡ done_of (next_word l) ns
   unfolding done_of next_word
-  done_next ns h = let m : 5 - l.count ≡ suc (5 - (l.count + 1)) = omega arith in simp m
+  done_next ns h = let m : 6 - l.count ≡ suc (6 - (l.count + 1)) = omega arith in simp m
 
-  done_later : (v : List ℕ) (vs : List (List ℕ)) → l.count < 5
+  done_later : (v : List ℕ) (vs : List (List ℕ)) → l.count < 6
       → with_done l (behind (some l.last) (after_letter l.letter (v ∷ vs))) ≡ with_done (next_word l) (after_letter l.letter (v ∷ vs))
   done_later v vs h =
       after_case (λ f. with_done l (behind (some l.last) f) ≡ with_done (next_word l) f) l.letter v vs refl
       (λ ns x. ap (λ (t : List ℕ). ending l.letter t x) (done_next ns h))
 
-  too_many : (o : Option ℕ) (v : List ℕ) (vs : List (List ℕ)) → 5 ≤ l.count → limited (with_done l (behind o (after_letter l.letter (v ∷ vs)))) ≡ other
+  too_many : (o : Option ℕ) (v : List ℕ) (vs : List (List ℕ)) → 6 ≤ l.count → limited (with_done l (behind o (after_letter l.letter (v ∷ vs)))) ≡ other
   unfolding limited done_of
   too_many none v vs h = refl
   too_many (some n) v vs h =
       after_case (λ f. limited (with_done l (behind (some n) f)) ≡ other) l.letter v vs refl
       (λ ns x.
-      let m : 5 - l.count ≡ 0 = omega arith in
-      let k : 4 < suc (suc (suc (suc (suc (length ns))))) = omega arith in
+      let m : 6 - l.count ≡ 0 = omega arith in
+      let k : 5 < suc (suc (suc (suc (suc (suc (length ns)))))) = omega arith in
       simp (m, lt-ltb _ _ k))
 
 -- one byte more, by the tests that the reader makes
@@ -168,10 +168,10 @@ module _ (l : Line) (b : ℕ) (rs : List ℕ) (sound : Sound l) (fine : l.bad �
       words_some rs (λ v vs w.
       in_space t z k
       ∙ ap (λ (x : List (List ℕ)). limited (with_done l (in_word l ([] ∷ x)))) w
-      ∙ bool_case (leb 5 l.count)
-      (λ m. too_many l (number_from l []) v vs (leb-true 5 l.count m) ∙ sym (spoils (simp (t, z, k, m))))
+      ∙ bool_case (leb 6 l.count)
+      (λ m. too_many l (number_from l []) v vs (leb-true 6 l.count m) ∙ sym (spoils (simp (t, z, k, m))))
       (λ m.
-      let h : l.count < 5 = leb-false 5 l.count m in
+      let h : l.count < 6 = leb-false 6 l.count m in
       let p : l.count + 1 ≡ 0 → ⊥ = λ e. omega arith in
       ap (λ (o : Option ℕ). limited (with_done l (behind o (after_letter l.letter (v ∷ vs))))) (number_end l sound.held)
       ∙ bool_case (is_number l)
@@ -261,7 +261,7 @@ grown_case P l b s n w d o =
     cond_elim P (eqb b 32)
     (λ t. cond_elim P (eqb l.letter 0) (λ z. s)
     (λ z. cond_elim P (eqb l.count 0) (λ k. n z)
-    (λ k. cond_elim P (leb 5 l.count) (λ m. s) (λ m. cond_elim P (is_number l) (λ i. n z) (λ i. s)))))
+    (λ k. cond_elim P (leb 6 l.count) (λ m. s) (λ m. cond_elim P (is_number l) (λ i. n z) (λ i. s)))))
     (λ t. cond_elim P (eqb l.letter 0) (λ z. w z)
     (λ z. cond_elim P (eqb l.count 0) (λ k. s) (λ k. cond_elim P (ltb (hex_digit b) 16) (λ y. d z y) (λ y. o z))))
 
@@ -332,7 +332,7 @@ rest_end l sound =
     let y : is_letter l.letter ≡ true = sound.lettered (eqb-false l.letter 0 z) in
     bool_case (eqb l.count 0) (λ k. simp (f, z, k, y))
     (λ k.
-    let h : length (done_of l []) ≤ 4 = done_few l in
+    let h : length (done_of l []) ≤ 5 = done_few l in
     simp (f, z, k, le-ltb _ _ h, word_end l sound.held))))
 
 rest_start : (bs : List ℕ) → rest_of no_line bs ≡ form_of bs
@@ -345,10 +345,10 @@ rest_all [] l sound = sym (rest_end l sound)
 rest_all (b ∷ bs) l sound = rest_all bs (grown l b) (grown_sound l b sound) ∙ sym (rest_step l b bs sound)
 
 -- the bytes of a line taken one by one: the line's form
-pub line_form : (bs : List ℕ) → seen_of (grown_by no_line bs) ≡ form_of bs
-line_form bs = rest_all bs no_line no_line_sound ∙ rest_start bs
+pub line_form_law : (bs : List ℕ) → seen_of (grown_by no_line bs) ≡ form_of bs
+line_form_law bs = rest_all bs no_line no_line_sound ∙ rest_start bs
 
 -- .. and what it means to `replay`
 pub line_meaning : (bs : List ℕ) → meaning_of (grown_by no_line bs) ≡ line_of bs
 unfolding meaning_of line_of
-line_meaning bs = ap replay_of (line_form bs)
+line_meaning bs = ap replay_of (line_form_law bs)

@@ -11,26 +11,29 @@ use Rattle.script.specs.Form.{other, bare, ending}
 use Rattle.script.specs.Reader.{done_of, last_word, seen_of}
 
 module _ (l : Line) where
-  pub done_at : (k : ℕ) (ns : List ℕ) → 5 - l.count ≡ k → done_of l ns ≡ drop k (l.fifth ∷ (l.fourth ∷ (l.third ∷ (l.second ∷ ns))))
+  pub done_at : (k : ℕ) (ns : List ℕ) → 6 - l.count ≡ k → done_of l ns ≡ drop k (l.sixth ∷ (l.fifth ∷ (l.fourth ∷ (l.third ∷ (l.second ∷ ns)))))
   unfolding done_of
-  done_at k ns e = ap (λ (n : ℕ). drop n (l.fifth ∷ (l.fourth ∷ (l.third ∷ (l.second ∷ ns))))) e
+  done_at k ns e = ap (λ (n : ℕ). drop n (l.sixth ∷ (l.fifth ∷ (l.fourth ∷ (l.third ∷ (l.second ∷ ns)))))) e
 
   pub done_1 : l.count ≡ 1 → done_of l [] ≡ []
-  done_1 e = done_at 4 [] (omega arith)
+  done_1 e = done_at 5 [] (omega arith)
 
   pub done_2 : l.count ≡ 2 → done_of l [] ≡ l.second ∷ []
-  done_2 e = done_at 3 [] (omega arith)
+  done_2 e = done_at 4 [] (omega arith)
 
   pub done_3 : l.count ≡ 3 → done_of l [] ≡ l.third ∷ (l.second ∷ [])
-  done_3 e = done_at 2 [] (omega arith)
+  done_3 e = done_at 3 [] (omega arith)
 
   pub done_4 : l.count ≡ 4 → done_of l [] ≡ l.fourth ∷ (l.third ∷ (l.second ∷ []))
-  done_4 e = done_at 1 [] (omega arith)
+  done_4 e = done_at 2 [] (omega arith)
 
-  pub done_5 : 5 ≤ l.count → done_of l [] ≡ l.fifth ∷ (l.fourth ∷ (l.third ∷ (l.second ∷ [])))
-  done_5 e = done_at 0 [] (omega arith)
+  pub done_5 : l.count ≡ 5 → done_of l [] ≡ l.fifth ∷ (l.fourth ∷ (l.third ∷ (l.second ∷ [])))
+  done_5 e = done_at 1 [] (omega arith)
 
-  pub done_few : length (done_of l []) ≤ 4
+  pub done_6 : 6 ≤ l.count → done_of l [] ≡ l.sixth ∷ (l.fifth ∷ (l.fourth ∷ (l.third ∷ (l.second ∷ []))))
+  done_6 e = done_at 0 [] (omega arith)
+
+  pub done_few : length (done_of l []) ≤ 5
   unfolding done_of
   done_few = simp length-drop (omega arith)
 

@@ -105,17 +105,17 @@ module _ {W : Type 0} (does : W → Line → Step W) where
     from_start rs w o f = f [] ∙ ap (λ (ls : List (List ℕ)). o ++ prints_from says w ls) (prepend_none (lines_of rs))
 
     -- the line ends with the input
-    last_line : (s : Step W) (w : W) (o : List ℕ) → (stepped s w o).out ≡ o ++ followed s (λ v. prints_from says v [])
+    last_line_law : (s : Step W) (w : W) (o : List ℕ) → (stepped s w o).out ≡ o ++ followed s (λ v. prints_from says v [])
     unfolding prints_from
-    last_line stops w o = sym (append-nil o)
-    last_line (goes v x) w o = ap (λ (t : List ℕ). o ++ t) (sym (append-nil x))
+    last_line_law stops w o = sym (append-nil o)
+    last_line_law (goes v x) w o = ap (λ (t : List ℕ). o ++ t) (sym (append-nil x))
 
     -- lines come behind it
-    next_line : (s : Step W) (w : W) (o rs : List ℕ) → ((v : W) (x : List ℕ) → finished does (play_of does (stand no_line v true x) rs) ≡ x ++ prints_from says v (lines_of rs))
+    next_line_law : (s : Step W) (w : W) (o rs : List ℕ) → ((v : W) (x : List ℕ) → finished does (play_of does (stand no_line v true x) rs) ≡ x ++ prints_from says v (lines_of rs))
         → finished does (play_of does (stepped s w o) rs) ≡ o ++ followed s (λ v. prints_from says v (lines_of rs))
     unfolding finished
-    next_line stops w o rs ih = ap (finished does) (play_off no_line w o rs) ∙ sym (append-nil o)
-    next_line (goes v x) w o rs ih = ih v (o ++ x) ∙ append_assoc o x (prints_from says v (lines_of rs))
+    next_line_law stops w o rs ih = ap (finished does) (play_off no_line w o rs) ∙ sym (append-nil o)
+    next_line_law (goes v x) w o rs ih = ih v (o ++ x) ∙ append_assoc o x (prints_from says v (lines_of rs))
 
     ends : (p : List ℕ) (w : W) (o : List ℕ) → finished does (stand (grown_by no_line p) w true o) ≡ o ++ prints_from says w (prepend p [])
     unfolding finished turned prints_from grown_by no_line
@@ -127,7 +127,7 @@ module _ {W : Type 0} (does : W → Line → Step W) where
         simp z
         (sym (append-nil o)
         ∙ ap (λ (s : Step W). o ++ followed s (λ v. [])) (sym (idle w l (eqb-true l.letter 0 z)) ∙ same w (b ∷ p))))
-        (λ z. simp z (last_line (does w l) w o ∙ ap (λ (s : Step W). o ++ followed s (λ v. [])) (same w (b ∷ p))))
+        (λ z. simp z (last_line_law (does w l) w o ∙ ap (λ (s : Step W). o ++ followed s (λ v. [])) (same w (b ∷ p))))
 
     -- the bytes p of a line were taken, and the bytes rs come
     from_here : (rs p : List ℕ) (w : W) (o : List ℕ) → finished does (play_of does (stand (grown_by no_line p) w true o) rs) ≡ o ++ prints_from says w (prepend p (lines_of rs))
@@ -137,7 +137,7 @@ module _ {W : Type 0} (does : W → Line → Step W) where
         bool_case (eqb b 10)
         (λ t.
         simp t
-        (next_line (does w (grown_by no_line p)) w o rs (λ v x. from_start rs v x (λ q. from_here rs q v x))
+        (next_line_law (does w (grown_by no_line p)) w o rs (λ v x. from_start rs v x (λ q. from_here rs q v x))
         ∙ ap (λ (s : Step W). o ++ followed s (λ v. prints_from says v (lines_of rs))) (same w p ∙ ap (says w) (sym (append-nil p)))))
         (λ t.
         simp t

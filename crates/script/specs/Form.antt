@@ -44,11 +44,11 @@ by_words ([] ∷ ws) = other
 by_words ((k ∷ []) ∷ ws) = cond (is_letter k) (after_letter k ws) other
 by_words ((a ∷ (b ∷ w)) ∷ ws) = other
 
--- replay: `H flight from to clock clock`: no letter takes more than five words
+-- replay: `H flight from to clock clock user`: no letter takes more than six words
 unfoldable pub limited : Form → Form
 limited other = other
 limited (bare k) = bare k
-limited (ending k ns w) = cond (ltb 4 (length ns)) other (ending k ns w)
+limited (ending k ns w) = cond (ltb 5 (length ns)) other (ending k ns w)
 
 -- 01: "the first line of another form": the form of a line, given by its bytes without the newline
 unfoldable pub form_of : List ℕ → Form

@@ -12,6 +12,7 @@ unfoldable pub no_line : Line
 no_line = record {
   letter = 0;
   count = 0;
+  sixth = 0;
   fifth = 0;
   fourth = 0;
   third = 0;
@@ -29,6 +30,7 @@ unfoldable pub spoilt : Line → Line
 spoilt l = record {
   letter = l.letter;
   count = l.count;
+  sixth = l.sixth;
   fifth = l.fifth;
   fourth = l.fourth;
   third = l.third;
@@ -46,6 +48,7 @@ unfoldable pub lettered : Line → ℕ → Line
 lettered l b = record {
   letter = b;
   count = l.count;
+  sixth = l.sixth;
   fifth = l.fifth;
   fourth = l.fourth;
   third = l.third;
@@ -71,6 +74,7 @@ unfoldable pub next_word : Line → Line
 next_word l = record {
   letter = l.letter;
   count = l.count + 1;
+  sixth = l.fifth;
   fifth = l.fourth;
   fourth = l.third;
   third = l.second;
@@ -83,12 +87,12 @@ next_word l = record {
   bad = l.bad;
 }
 
--- reading 17: "exactly one space": behind the letter or a number, and no line has more than five words
+-- reading 17: "exactly one space": behind the letter or a number, and no line has more than six words
 unfoldable pub with_space : Line → Line
 with_space l =
     cond (eqb l.letter 0) (spoilt l)
     (cond (eqb l.count 0) (next_word l)
-    (cond (leb 5 l.count) (spoilt l) (cond (is_number l) (next_word l) (spoilt l))))
+    (cond (leb 6 l.count) (spoilt l) (cond (is_number l) (next_word l) (spoilt l))))
 
 -- reading 17: "below 2^64": is the last word a number with this digit too?
 unfoldable pub stays_number : Line → ℕ → Bool
@@ -108,6 +112,7 @@ unfoldable pub with_digit : Line → ℕ → Line
 with_digit l d = record {
   letter = l.letter;
   count = l.count;
+  sixth = l.sixth;
   fifth = l.fifth;
   fourth = l.fourth;
   third = l.third;
@@ -125,6 +130,7 @@ unfoldable pub no_word : Line → Line
 no_word l = record {
   letter = l.letter;
   count = l.count;
+  sixth = l.sixth;
   fifth = l.fifth;
   fourth = l.fourth;
   third = l.third;
@@ -151,7 +157,7 @@ grown_by l (b ∷ bs) = grown_by (grown l b) bs
 
 -- 01: "W number record byte" and the like: the numbers before the last word
 unfoldable pub done_of : Line → List ℕ → List ℕ
-done_of l ns = drop (5 - l.count) (l.fifth ∷ (l.fourth ∷ (l.third ∷ (l.second ∷ ns))))
+done_of l ns = drop (6 - l.count) (l.sixth ∷ (l.fifth ∷ (l.fourth ∷ (l.third ∷ (l.second ∷ ns)))))
 
 -- replay: "values as 32 hex digits": the k bytes of a number, the most significant first
 unfoldable pub wide : ℕ → ℕ → List ℕ

@@ -3,7 +3,7 @@ use Rattle.std.specs.Prelude.{ℕ, cond, List, [], ◌∷◌, eqb, ltb}
 use Rattle.std.proofs.Math.Option.{Option, none, some}
 use Rattle.fields.specs.Block.{zeros}
 use Rattle.script.specs.declared.call.Call.{Call}
-use Rattle.script.specs.declared.call.Call.TheVariants.{Format, Open, OpenSized, Cut, Begin, Write, Erase, Read, Commit, Abort, Hand, AsOf, Changes, StoreLog, StorePage, Checkpoint, Block, Page, Poke, Other}
+use Rattle.script.specs.declared.call.Call.TheVariants.{Format, Open, OpenSized, Cut, Begin, Write, Erase, Read, Commit, Abort, Hand, AsOf, Changes, StoreLog, StorePage, Checkpoint, Block, Page, User, Poke, Other}
 use Rattle.script.specs.declared.call.Asked.{Asked}
 use Rattle.script.specs.declared.line.Line.{Line}
 use Rattle.script.specs.Form.{Word, Form, other, bare, ending, form_of}
@@ -13,7 +13,7 @@ use Rattle.script.specs.Reader.{done_of, last_word, seen_of}
 unfoldable pub plain : Call → Asked
 plain call = record { call = call; value = zeros 16 }
 
--- replay: "a record or a flight at most 65,535, a sector or a byte at most 255", "at most 40000"
+-- replay: "a record or a flight at most 65,535, a sector or a byte at most 255", "at most 40000", "user below 2^32"
 unfoldable pub at_most : ℕ → ℕ → Call → Call
 at_most most n call = cond (ltb most n) Other call
 
@@ -26,22 +26,23 @@ given (some n) call = call n
 unfoldable pub wordless : ℕ → Call
 wordless k = cond (eqb k 88) Cut (cond (eqb k 83) StoreLog (cond (eqb k 75) Checkpoint Other))
 
--- replay: `O byte`, `o bytes`, `B clock`, `A number`, `P page`, `M block`, `V page`
+-- replay: `O byte`, `o bytes`, `B clock`, `A number`, `P page`, `M block`, `V page`, `U time`
 unfoldable pub one_number : ℕ → ℕ → Call
 one_number k n =
     cond (eqb k 79) (at_most 255 n (Open n))
     (cond (eqb k 111) (at_most 40000 n (OpenSized n))
     (cond (eqb k 66) (Begin n)
     (cond (eqb k 65) (Abort n)
-    (cond (eqb k 80) (StorePage n) (cond (eqb k 77) (Block n) (cond (eqb k 86) (Page n) Other))))))
+    (cond (eqb k 80) (StorePage n)
+    (cond (eqb k 77) (Block n) (cond (eqb k 86) (Page n) (cond (eqb k 85) (User n) Other)))))))
 
--- replay: `F L D`, `E number record`, `R number record`, `C number clock`, `Q record time`
+-- replay: `E number record`, `R number record`, `Q record time`; "`F L D` is A = 0", "`C number clock` is user 0"
 unfoldable pub two_numbers : ℕ → ℕ → ℕ → Call
 two_numbers k a n =
-    cond (eqb k 70) (Format a n)
+    cond (eqb k 70) (Format a n 0)
     (cond (eqb k 69) (at_most 65535 n (Erase a n))
     (cond (eqb k 82) (at_most 65535 n (Read a n))
-    (cond (eqb k 67) (Commit a n) (cond (eqb k 81) (at_most 65535 a (AsOf a n)) Other))))
+    (cond (eqb k 67) (Commit a n 0) (cond (eqb k 81) (at_most 65535 a (AsOf a n)) Other))))
 
 -- replay: `Z offset hexbyte`
 abbrev pub poke_by : ℕ → Option (List ℕ) → Call
@@ -58,13 +59,22 @@ abbrev pub write_by : ℕ → ℕ → Option (List ℕ) → Asked
 write_by n key none = plain Other
 write_by n key (some v) = cond (ltb 65535 key) (plain Other) (record { call = Write n key; value = v })
 
+-- replay: `F L D A`, `C number clock user`
+unfoldable pub three_numbers : ℕ → ℕ → ℕ → ℕ → Call
+three_numbers k a b n = cond (eqb k 70) (Format a b n) (cond (eqb k 67) (at_most 4294967295 n (Commit a b n)) Other)
+
 -- replay: `L record t1 t2 bytes`
 unfoldable pub four_numbers : ℕ → ℕ → ℕ → ℕ → ℕ → Call
 four_numbers k a b c n = cond (eqb k 76) (at_most 65535 a (at_most 40000 n (Changes a b c n))) Other
 
--- replay: `H flight from to clock clock`
+-- replay: `H flight from to clock clock user`
+unfoldable pub six_numbers : ℕ → ℕ → ℕ → ℕ → ℕ → ℕ → ℕ → Call
+six_numbers k a b c d e n =
+    cond (eqb k 72) (at_most 65535 a (at_most 255 b (at_most 255 c (at_most 4294967295 n (Hand a b c d e n))))) Other
+
+-- replay: `H flight from to clock clock`: "without it user 0"
 unfoldable pub five_numbers : ℕ → ℕ → ℕ → ℕ → ℕ → ℕ → Call
-five_numbers k a b c d n = cond (eqb k 72) (at_most 65535 a (at_most 255 b (at_most 255 c (Hand a b c d n)))) Other
+five_numbers k a b c d n = six_numbers k a b c d n 0
 
 -- replay: "One call to a line": what a form means
 unfoldable pub replay_of : Form → Asked
@@ -72,10 +82,11 @@ replay_of other = plain Other
 replay_of (bare k) = plain (wordless k)
 replay_of (ending k [] w) = plain (given w.number (one_number k))
 replay_of (ending k (a ∷ []) w) = plain (two_words k a w)
-replay_of (ending k (a ∷ (b ∷ [])) w) = cond (eqb k 87) (write_by a b w.value) (plain Other)
+replay_of (ending k (a ∷ (b ∷ [])) w) = cond (eqb k 87) (write_by a b w.value) (plain (given w.number (three_numbers k a b)))
 replay_of (ending k (a ∷ (b ∷ (c ∷ []))) w) = plain (given w.number (four_numbers k a b c))
 replay_of (ending k (a ∷ (b ∷ (c ∷ (d ∷ [])))) w) = plain (given w.number (five_numbers k a b c d))
-replay_of (ending k (a ∷ (b ∷ (c ∷ (d ∷ (e ∷ ns))))) w) = plain Other
+replay_of (ending k (a ∷ (b ∷ (c ∷ (d ∷ (e ∷ []))))) w) = plain (given w.number (six_numbers k a b c d e))
+replay_of (ending k (a ∷ (b ∷ (c ∷ (d ∷ (e ∷ (f ∷ ns)))))) w) = plain Other
 
 -- replay: "One call to a line": what a line means, given by its bytes without the newline
 unfoldable pub line_of : List ℕ → Asked

@@ -1,15 +1,16 @@
 // What a line of `replay` asks for.
 ghost use Rattle.std.specs.Prelude.{◌≡◌, ◌++◌, ◌≤◌};
 ghost use Rattle.script.specs.Reader.{wide, last_word};
-ghost use Rattle.script.specs.Replay.{plain as Replay·plain, wordless as Replay·wordless, one_number, two_numbers, two_words, write_by, four_numbers, five_numbers, many_words, meaning_of};
+ghost use Rattle.script.specs.Replay.{plain as Replay·plain, wordless as Replay·wordless, one_number, two_numbers, two_words, write_by, three_numbers, four_numbers, six_numbers, many_words, meaning_of};
 
 use crate::line;
 use crate::line::Line;
 
-// A call, a handover, a cut, or one of the lines that look at the bytes or put one; a write's value stands beside it.
+// A call, a handover, a cut, or one of the lines that look at the bytes or at a time's user, or put a byte; a write's value
+// stands beside it.
 #[derive(Clone, Copy)]
 pub enum Call {
-    Format(u64, u64),
+    Format(u64, u64, u64),
     Open(u8),
     OpenSized(u64),
     Cut,
@@ -17,9 +18,9 @@ pub enum Call {
     Write(u64, u16),
     Erase(u64, u16),
     Read(u64, u16),
-    Commit(u64, u64),
+    Commit(u64, u64, u32),
     Abort(u64),
-    Hand(u16, u8, u8, u64, u64),
+    Hand(u16, u8, u8, u64, u64, u32),
     AsOf(u16, u64),
     Changes(u16, u64, u64, u64),
     StoreLog,
@@ -27,6 +28,7 @@ pub enum Call {
     Checkpoint,
     Block(u64),
     Page(u64),
+    User(u64),
     Poke(u64, u8),
     Other,
 }
@@ -81,6 +83,7 @@ fn one_number(letter: u8, n: u64) -> Call
         b'P' => Call::StorePage(n),
         b'M' => Call::Block(n),
         b'V' => Call::Page(n),
+        b'U' => Call::User(n),
         _ => Call::Other,
     }
 }
@@ -90,7 +93,7 @@ fn two_numbers(letter: u8, a: u64, n: u64) -> Call
     ensures { result ≡ two_numbers letter a n }
 {
     match letter {
-        b'F' => Call::Format(a, n),
+        b'F' => Call::Format(a, n, 0),
         b'E' => {
             if 65535 < n {
                 return Call::Other;
@@ -103,7 +106,7 @@ fn two_numbers(letter: u8, a: u64, n: u64) -> Call
             }
             Call::Read(a, n as u16)
         }
-        b'C' => Call::Commit(a, n),
+        b'C' => Call::Commit(a, n, 0),
         b'Q' => {
             if 65535 < a {
                 return Call::Other;
@@ -184,6 +187,36 @@ fn write_of(line: Line) -> Asked
     }
 }
 
+// A format with an area, or a commit by a user below 2^32.
+fn three_numbers(letter: u8, a: u64, b: u64, n: u64) -> Call
+    ensures { result ≡ three_numbers letter a b n }
+{
+    match letter {
+        b'F' => Call::Format(a, b, n),
+        b'C' => {
+            if 4294967295 < n {
+                return Call::Other;
+            }
+            Call::Commit(a, b, n as u32)
+        }
+        _ => Call::Other,
+    }
+}
+
+// What a line of three words asks for.
+fn three_words(line: Line) -> Asked
+    requires { line.count ≡ 3 }
+    ensures { result ≡ many_words line }
+{
+    if line.letter == b'W' {
+        return write_of(line);
+    }
+    if !line::is_number(line) {
+        return plain(Call::Other);
+    }
+    plain(three_numbers(line.letter, line.third, line.second, line.last))
+}
+
 // A list of changes, if the record is at most 65535 and the buffer at most 40000.
 fn four_numbers(line: Line) -> Call
     ensures { result ≡ four_numbers line.letter line.fourth line.third line.second line.last }
@@ -200,28 +233,40 @@ fn four_numbers(line: Line) -> Call
     Call::Changes(line.fourth as u16, line.third, line.second, line.last)
 }
 
-// A handover, if the flight is at most 65535 and both sectors are at most 255.
-fn five_numbers(line: Line) -> Call
-    ensures { result ≡ five_numbers line.letter line.fifth line.fourth line.third line.second line.last }
+// A handover, if the flight is at most 65535, both sectors are at most 255 and the user is below 2^32.
+fn six_numbers(
+    letter: u8,
+    flight: u64,
+    from: u64,
+    to: u64,
+    begun: u64,
+    ended: u64,
+    user: u64,
+) -> Call
+    ensures { result ≡ six_numbers letter flight from to begun ended user }
 {
-    if line.letter != b'H' {
+    if letter != b'H' {
         return Call::Other;
     }
-    if 65535 < line.fifth {
+    if 65535 < flight {
         return Call::Other;
     }
-    if 255 < line.fourth {
+    if 255 < from {
         return Call::Other;
     }
-    if 255 < line.third {
+    if 255 < to {
+        return Call::Other;
+    }
+    if 4294967295 < user {
         return Call::Other;
     }
     Call::Hand(
-        line.fifth as u16,
-        line.fourth as u8,
-        line.third as u8,
-        line.second,
-        line.last,
+        flight as u16,
+        from as u8,
+        to as u8,
+        begun,
+        ended,
+        user as u32,
     )
 }
 
@@ -231,10 +276,7 @@ fn many_words(line: Line) -> Asked
     ensures { result ≡ many_words line }
 {
     if line.count == 3 {
-        if line.letter != b'W' {
-            return plain(Call::Other);
-        }
-        return write_of(line);
+        return three_words(line);
     }
     if !line::is_number(line) {
         return plain(Call::Other);
@@ -242,7 +284,26 @@ fn many_words(line: Line) -> Asked
     if line.count == 4 {
         return plain(four_numbers(line));
     }
-    plain(five_numbers(line))
+    if line.count == 5 {
+        return plain(six_numbers(
+            line.letter,
+            line.fifth,
+            line.fourth,
+            line.third,
+            line.second,
+            line.last,
+            0,
+        ));
+    }
+    plain(six_numbers(
+        line.letter,
+        line.sixth,
+        line.fifth,
+        line.fourth,
+        line.third,
+        line.second,
+        line.last,
+    ))
 }
 
 // What a line asks for that ends here.

@@ -5,13 +5,14 @@ ghost use Rattle.script.specs.Words.{is_in, hex_digit};
 ghost use Rattle.script.specs.Form.{is_letter};
 ghost use Rattle.script.specs.Reader.{no_line, spoilt as Reader·spoilt, with_letter, is_number, next_word, with_space, stays_number, one_more, pushed, with_digit, no_word, grown, take_of};
 
-// What was taken of a line: its letter (0: none yet), how many words were begun behind it, the four numbers before the
+// What was taken of a line: its letter (0: none yet), how many words were begun behind it, the five numbers before the
 // last word, the last word's number, whether the word is all digits and below 2^64, its hex digits counted (33: too many,
 // or another byte), the first sixteen of them and the others, and whether the line is of another form already.
 #[derive(Clone, Copy)]
 pub struct Line {
     pub letter: u8,
     pub count: u8,
+    pub sixth: u64,
     pub fifth: u64,
     pub fourth: u64,
     pub third: u64,
@@ -30,6 +31,7 @@ pub fn empty() -> Line
     Line {
         letter: 0,
         count: 0,
+        sixth: 0,
         fifth: 0,
         fourth: 0,
         third: 0,
@@ -95,11 +97,12 @@ pub fn is_number(line: Line) -> bool
 
 // The line with another word begun.
 fn next_word(line: Line) -> Line
-    requires { line.count < 5 }
+    requires { line.count < 6 }
     ensures { result ≡ next_word line }
 {
     let mut l = line;
     l.count = line.count + 1;
+    l.sixth = line.fifth;
     l.fifth = line.fourth;
     l.fourth = line.third;
     l.third = line.second;
@@ -122,7 +125,7 @@ fn with_space(line: Line) -> Line
     if line.count == 0 {
         return next_word(line);
     }
-    if 5 <= line.count {
+    if 6 <= line.count {
         return spoilt(line);
     }
     if !is_number(line) {

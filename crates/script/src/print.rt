@@ -92,5 +92,6 @@ pub fn number_of(r: Refusal) -> u64
         Refusal::NoNumber => 15,
         Refusal::Unfit => 16,
         Refusal::NoRecord => 18,
+        Refusal::AreaFull => 19,
     }
 }

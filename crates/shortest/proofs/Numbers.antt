@@ -95,10 +95,10 @@ no_line : (m i n : ℕ) → n ≡ i + suc m → Rises i [] n → ⊥
 unfolding Rises
 no_line m i n e r = omega arith
 
-last_line : (i n a : ℕ) (ms : List ℕ) → n ≡ i + 1 → Rises i (a ∷ ms) n → Numbered 0 i (a ∷ ms)
+last_line_law : (i n a : ℕ) (ms : List ℕ) → n ≡ i + 1 → Rises i (a ∷ ms) n → Numbered 0 i (a ∷ ms)
 unfolding numbers chosen_of Rises
-last_line i n a [] e r = let q : suc i ≡ a = omega arith in (0, omega arith, ap (λ (t : ℕ). t ∷ []) q)
-last_line i n a (b ∷ ms) e r = let h = rises_up b n ms r.1.1 in absurd (omega arith)
+last_line_law i n a [] e r = let q : suc i ≡ a = omega arith in (0, omega arith, ap (λ (t : ℕ). t ∷ []) q)
+last_line_law i n a (b ∷ ms) e r = let h = rises_up b n ms r.1.1 in absurd (omega arith)
 
 -- the next line is in it
 line_in : (m i : ℕ) (ms : List ℕ) → Numbered m (suc i) ms → Numbered (suc m) i (suc i ∷ ms)
@@ -118,11 +118,11 @@ line_out m i ms w =
     let d : w.0 + 2 ^ m - 2 ^ m ≡ w.0 = omega arith in (w.0 + 2 ^ m, omega arith, simp (g, d) w.2)
 
 -- which of both
-next_line : (m i n a : ℕ) (ms : List ℕ) → Rises i (a ∷ ms) n
+next_line_law : (m i n a : ℕ) (ms : List ℕ) → Rises i (a ∷ ms) n
     → (Rises (suc i) (a ∷ ms) n → Numbered m (suc i) (a ∷ ms)) → (Rises (suc i) ms n → Numbered m (suc i) ms)
     → Numbered (suc m) i (a ∷ ms)
 unfolding Rises
-next_line m i n a ms r f g =
+next_line_law m i n a ms r f g =
     bool_case (ltb (suc i) a) (λ t. line_out m i (a ∷ ms) (f (ltb-true (suc i) a t, r.1)))
     (λ t.
     let k : a ≤ suc i = ltb-false (suc i) a t in
@@ -131,6 +131,6 @@ next_line m i n a ms r f g =
 
 pub number_of : (m i n : ℕ) (ms : List ℕ) → n ≡ i + suc m → Rises i ms n → Numbered m i ms
 number_of m i n [] e r = absurd (no_line m i n e r)
-number_of zero i n (a ∷ ms) e r = last_line i n a ms e r
+number_of zero i n (a ∷ ms) e r = last_line_law i n a ms e r
 number_of (suc m) i n (a ∷ ms) e r =
-    next_line m i n a ms r (number_of m (suc i) n (a ∷ ms) (omega arith)) (number_of m (suc i) n ms (omega arith))
+    next_line_law m i n a ms r (number_of m (suc i) n (a ∷ ms) (omega arith)) (number_of m (suc i) n ms (omega arith))

@@ -44,12 +44,12 @@ abbrev pub end_at : World → ℕ → List Bool → List Kept → ℕ → ℕ
 end_at w r f ks i = end_from w r (picked (drop i f) (drop i (calls_in ks)))
 
 -- a store that was formatted and opened is the one that the lines find
-pub play_start : (f : List Bool) (ks : List Kept) (d : Formatted) (o : Outcome) → d ≡ format_of (replicate 4608 0) 4 2
-    → o ≡ open_of d.medium (replicate 1024 0) 4 2 → end_at (left_by o) 0 f ks 0 ≡ end_of (picked f (calls_in ks))
+pub play_start : (f : List Bool) (ks : List Kept) (d : Formatted) (o : Outcome) → d ≡ format_of (replicate 4608 0) 4 2 0
+    → o ≡ open_of d.medium (replicate 1024 0) 4 2 0 → end_at (left_by o) 0 f ks 0 ≡ end_of (picked f (calls_in ks))
 unfolding end_of start opened format_of format_if in_range medium_length cache_length
 play_start f ks d o e g =
     ap (λ (t : Outcome). end_at (left_by t) 0 f ks 0)
-    (g ∙ ap (λ (t : Formatted). open_of t.medium (replicate 1024 0) 4 2) e)
+    (g ∙ ap (λ (t : Formatted). open_of t.medium (replicate 1024 0) 4 2 0) e)
 
 -- line i of the kept ones
 module _ (f : List Bool) (ks : List Kept) (i : ℕ) (d : Kept) (h : i < length f) (q : i < length ks) (w : World)

@@ -14,7 +14,7 @@ use book::room;
 // Makes a call; answers 0 or its refusal.
 fn make(
     call: Call,
-    words: &mut [u64; 448],
+    words: &mut [u64; 512],
     tail: &mut [u8; 512],
     medium: &mut [u8],
     cache: &mut [u8],
@@ -37,7 +37,7 @@ fn make_if(
     chosen: bool,
     call: Call,
     last: u64,
-    words: &mut [u64; 448],
+    words: &mut [u64; 512],
     tail: &mut [u8; 512],
     medium: &mut [u8],
     cache: &mut [u8],
@@ -55,12 +55,12 @@ fn make_if(
 pub fn play(flags: [bool; 12], lines: [Kept; 12]) -> u64
     ensures { result ≡ end_of (picked flags (calls_in lines)) }
 {
-    let mut words = [0u64; 448];
+    let mut words = [0u64; 512];
     let mut tail = [0u8; 512];
     let mut medium = [0u8; 4608];
     let mut cache = [0u8; 1024];
-    media::format::format(&mut medium, 4, 2);
-    media::open::open(&medium, &mut cache, &mut words, &mut tail, 4, 2);
+    media::format::format(&mut medium, 4, 2, 0);
+    media::open::open(&medium, &mut cache, &mut words, &mut tail, 4, 2, 0);
     let mut last: u64 = 0;
     let mut i: usize = 0;
     while i < 12 {

@@ -12,11 +12,12 @@ use Rattle.fields.proofs.Choose.{and_0, and_1}
 use Rattle.store.specs.declared.State.{State}
 use Rattle.store.specs.State.{in_range, fits}
 
-pub record InRange (l d : ℕ) : Type 0 where
+pub record InRange (l d a : ℕ) : Type 0 where
   pub blocks_low : 2 ≤ l
   pub blocks_high : l ≤ 32
   pub pages_low : 1 ≤ d
   pub pages_high : d ≤ 64
+  pub area_high : a ≤ 16
 
 pub record TailFit (b : List ℕ) : Type 0 where
   pub used_low : 10 ≤ used_of b
@@ -27,40 +28,49 @@ pub record TailFit (b : List ℕ) : Type 0 where
 
 -- m and c are the lengths of medium and cache
 pub record Fit (s : State) (m c : ℕ) : Type 0 where
-  pub range : InRange s.blocks s.pages
-  pub medium : m ≡ medium_length s.blocks s.pages
+  pub range : InRange s.blocks s.pages s.area.blocks
+  pub medium : m ≡ medium_length s.blocks s.pages s.area.blocks
   pub cache : c ≡ cache_length s.pages
   pub slots : s.slots ≤ 15 * s.pages
   pub tail : TailFit s.tail
   pub places : length s.places ≡ 64
   pub first : length s.first ≡ 64
 
-pub range_of : (l d : ℕ) → in_range l d ≡ true → InRange l d
+pub range_of : (l d a : ℕ) → in_range l d a ≡ true → InRange l d a
 unfolding in_range
-range_of l d e =
+range_of l d a e =
     let f = and_1 (leb 2 l) _ e in
     let g = and_1 (leb l 32) _ f in
+    let h = and_1 (leb 1 d) _ g in
     record {
       blocks_low = leb-true 2 l (and_0 (leb 2 l) _ e);
       blocks_high = leb-true l 32 (and_0 (leb l 32) _ f);
       pages_low = leb-true 1 d (and_0 (leb 1 d) _ g);
-      pages_high = leb-true d 64 (and_1 (leb 1 d) _ g);
+      pages_high = leb-true d 64 (and_0 (leb d 64) _ h);
+      area_high = leb-true a 16 (and_1 (leb d 64) _ h);
     }
 
-pub range_is : (l d : ℕ) → InRange l d → in_range l d ≡ true
+pub range_is : (l d a : ℕ) → InRange l d a → in_range l d a ≡ true
 unfolding in_range
-range_is l d f =
-    simp (le-leb 2 l f.blocks_low, le-leb l 32 f.blocks_high, le-leb 1 d f.pages_low, le-leb d 64 f.pages_high)
+range_is l d a f =
+    simp (
+      le-leb 2 l f.blocks_low,
+      le-leb l 32 f.blocks_high,
+      le-leb 1 d f.pages_low,
+      le-leb d 64 f.pages_high,
+      le-leb a 16 f.area_high,
+    )
 
 pub fit_of : (s : State) (m c : ℕ) → fits s m c ≡ true → Fit s m c
 unfolding fits
 fit_of s m c e1 =
     let l = s.blocks in
     let d = s.pages in
+    let a = s.area.blocks in
     let u = used_of s.tail in
     let q = sequence_of s.tail in
-    let e2 = and_1 (in_range l d) _ e1 in
-    let e3 = and_1 (eqb m (medium_length l d)) _ e2 in
+    let e2 = and_1 (in_range l d a) _ e1 in
+    let e3 = and_1 (eqb m (medium_length l d a)) _ e2 in
     let e4 = and_1 (eqb c (cache_length d)) _ e3 in
     let e5 = and_1 (leb s.slots (15 * d)) _ e4 in
     let e6 = and_1 (leb 10 u) _ e5 in
@@ -69,8 +79,8 @@ fit_of s m c e1 =
     let e9 = and_1 (ltb q (2 ^ 48)) _ e8 in
     let e10 = and_1 (eqb (length s.tail) 512) _ e9 in
     record {
-      range = range_of l d (and_0 (in_range l d) _ e1);
-      medium = eqb-true m (medium_length l d) (and_0 (eqb m (medium_length l d)) _ e2);
+      range = range_of l d a (and_0 (in_range l d a) _ e1);
+      medium = eqb-true m (medium_length l d a) (and_0 (eqb m (medium_length l d a)) _ e2);
       cache = eqb-true c (cache_length d) (and_0 (eqb c (cache_length d)) _ e3);
       slots = leb-true s.slots (15 * d) (and_0 (leb s.slots (15 * d)) _ e4);
       tail = record {
@@ -88,8 +98,8 @@ pub fit_is : (s : State) (m c : ℕ) → Fit s m c → fits s m c ≡ true
 unfolding fits
 fit_is s m c f =
     simp (
-      range_is s.blocks s.pages f.range,
-      eq-eqb m (medium_length s.blocks s.pages) f.medium,
+      range_is s.blocks s.pages s.area.blocks f.range,
+      eq-eqb m (medium_length s.blocks s.pages s.area.blocks) f.medium,
       eq-eqb c (cache_length s.pages) f.cache,
       le-leb s.slots (15 * s.pages) f.slots,
       le-leb 10 (used_of s.tail) f.tail.used_low,

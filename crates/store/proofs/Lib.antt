@@ -4,3 +4,4 @@ pub mod SearchLaws
 pub mod ChainLaws
 pub mod LengthLaws
 pub mod CopyLaws
+pub mod UserLaws

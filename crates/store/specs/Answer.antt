@@ -3,12 +3,13 @@ use Rattle.std.specs.Prelude.{ℕ, Bool, cond, List, [], ◌∷◌}
 use Rattle.std.proofs.Math.Option.{Option, none, some}
 use Rattle.fields.specs.Block.{zeros}
 use Rattle.store.specs.declared.Refusal.{Refusal}
-use Rattle.store.specs.declared.Refusal.TheVariants.{BadSizes, BadCache, Malformed, NoPlace, NotActive, Held, NoSlot, LogFull, NoTime, NotYet, NoPage, NotLogged, Unchanged, ShortBuffer, NoNumber, Unfit, NoRecord}
+use Rattle.store.specs.declared.Refusal.TheVariants.{BadSizes, BadCache, Malformed, NoPlace, NotActive, Held, NoSlot, LogFull, NoTime, NotYet, NoPage, NotLogged, Unchanged, ShortBuffer, NoNumber, Unfit, NoRecord, AreaFull}
 use Rattle.store.specs.declared.Answer.{Answer}
 use Rattle.store.specs.declared.Answer.TheVariants.{Refused, Done, Begun, Written, Committed, Opened, Missing, Erased, Present, Listed}
 use Rattle.store.specs.declared.State.{State}
 
--- 01, 'Questions put to a call': the number behind each question; 02, #104: "18, is the record number below 1,024?"
+-- 01, 'Questions put to a call': the number behind each question; 02, #104: "18, is the record number below 1,024?";
+-- 02, #105: "19 .. has the area space for the missing line of every commit record stored by then?"
 unfoldable pub refusal_number : Refusal → ℕ
 refusal_number BadSizes = 1
 refusal_number BadCache = 2
@@ -27,6 +28,7 @@ refusal_number ShortBuffer = 14
 refusal_number NoNumber = 15
 refusal_number Unfit = 16
 refusal_number NoRecord = 18
+refusal_number AreaFull = 19
 
 -- 01: "a definition gives this paper's number and values for every case": 0, or the refusal's number
 unfoldable pub answer_number : Answer → ℕ

@@ -25,13 +25,14 @@ unfoldable pub begun : State → ℕ → ℕ → State
 begun s i clock = record {
   blocks = s.blocks;
   pages = s.pages;
+  area = s.area;
   slots = s.slots;
   next = record { 0 = s.next.0 + 1 };
   last = s.last;
   saved = s.saved;
   end = s.end;
   tail = s.tail;
-  places = set s.places i (record { life = Active s.next clock; waiting = 0 });
+  places = set s.places i (record { life = Active s.next clock; waiting = 0; user = 0 });
   ring = (i + 1) % 64;
   first = s.first;
   phase = s.phase;

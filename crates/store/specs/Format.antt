@@ -15,21 +15,21 @@ pub record Formatted : Type 0 where
   pub answer : Answer
   pub medium : List ℕ
 
--- 01: "L, D (the caller's) in range, medium length right? 1"
-abbrev pub format_asks : List ℕ → ℕ → ℕ → List (Bool × Refusal)
-format_asks m l d = (in_range l d && eqb (length m) (medium_length l d), BadSizes) ∷ []
+-- 01: "L, D (the caller's) in range, medium length right? 1"; 02, #105: "The length in 1 includes A"
+abbrev pub format_asks : List ℕ → ℕ → ℕ → ℕ → List (Bool × Refusal)
+format_asks m l d a = (in_range l d a && eqb (length m) (medium_length l d a), BadSizes) ∷ []
 
 -- 01: "A fresh store has oldest sequence 1, next number 1, time 0, and zeros in all other blocks"
-unfoldable pub fresh_medium : ℕ → ℕ → List ℕ
-fresh_medium l d =
-    master_bytes (record { blocks = l; pages = d; oldest = 1; next = record { 0 = 1 }; last = record { 0 = 0 } })
-    ++ zeros (512 * (2 + l + d))
+unfoldable pub fresh_medium : ℕ → ℕ → ℕ → List ℕ
+fresh_medium l d a =
+    master_bytes (record { blocks = l; pages = d; area = a; oldest = 1; next = record { 0 = 1 }; last = record { 0 = 0 } })
+    ++ zeros (512 * (2 + l + d + a))
 
 -- 01: "on "no", this number with zeros, all buffers unchanged": refused, or the fresh medium
-unfoldable pub format_if : Option Refusal → List ℕ → ℕ → ℕ → Formatted
-format_if (some r) m l d = record { answer = Refused r; medium = m }
-format_if none m l d = record { answer = Done; medium = fresh_medium l d }
+unfoldable pub format_if : Option Refusal → List ℕ → ℕ → ℕ → ℕ → Formatted
+format_if (some r) m l d a = record { answer = Refused r; medium = m }
+format_if none m l d a = record { answer = Done; medium = fresh_medium l d a }
 
 -- 01: "In this order, those that fit the call": formatting's outcome, its first "no" or the fresh medium
-unfoldable pub format_of : List ℕ → ℕ → ℕ → Formatted
-format_of m l d = format_if (ask (format_asks m l d)) m l d
+unfoldable pub format_of : List ℕ → ℕ → ℕ → ℕ → Formatted
+format_of m l d a = format_if (ask (format_asks m l d a)) m l d a

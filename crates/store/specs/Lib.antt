@@ -1,6 +1,7 @@
 pub mod Answer
 pub mod Places
 pub mod State
+pub mod Users
 pub mod Tail
 pub mod Chain
 pub mod Format

@@ -1,12 +1,16 @@
--- Opening: 01's "well formed?", ten conditions from semicolon to semicolon. Each is a list of items in the order master,
--- table, log by sequence, pages by slot: whether the item keeps it, and the item's block.
+-- Opening: 01's "well formed?", ten conditions from semicolon to semicolon, and the one of #105 behind them. Each is a list of items
+-- in the order master, table, log by sequence, pages by slot, user lines: whether the item keeps it, and the item's block.
 use Rattle.std.specs.Prelude.{ℕ, zero, suc, ◌+◌, ◌-◌, ◌*◌, ◌/◌, ◌^◌, Bool, true, false, cond, not, ◌&&◌, ◌||◌, List, [], ◌∷◌, ◌++◌, length, eqb, leb, ltb}
 use Rattle.std.proofs.Math.Option.{Option, none, some}
-use Rattle.fields.specs.Block.{blk, log_block_at, page_block_at}
+use Rattle.fields.specs.Equal.{all_zero}
+use Rattle.fields.specs.Block.{blk, log_block_at, page_block_at, area_block_at}
 use Rattle.layout.specs.Page.{page_form, page_end, page_used}
 use Rattle.layout.specs.Journal.{Record, version, commit, used_form, record_form, parsed}
 use Rattle.layout.specs.Table.{table_pair, pair_form}
 use Rattle.layout.specs.Master.{master_of, oldest_on}
+use Rattle.layout.specs.UserLines.{user_line_of, line_on, line_form}
+use Rattle.layout.specs.declared.item.Form.{Form}
+use Rattle.layout.specs.declared.item.Form.TheVariants.{Plain, Signed}
 use Rattle.layout.specs.declared.master.Found.{Found as MasterFound}
 use Rattle.layout.specs.declared.master.Found.TheVariants.{Whole, Broken}
 use Rattle.layout.specs.declared.slot.Slot.{Slot}
@@ -20,7 +24,7 @@ use Rattle.store.specs.Write.{or_none}
 use Rattle.store.specs.Chain.{cell_at, is_version, version_of, version_time, newest}
 use Rattle.store.specs.OpenLog.{Placed, number_in, commit_under, Commitment, next_on, block_of, read_count, read_log, log_end, next_number, last_time}
 use Rattle.store.specs.OpenRedo.{Redone, pages_on, untouched, redo, redo_checks}
-use Rattle.store.specs.OpenPairs.{table_find, pair_time, is_paired, waiting_numbers}
+use Rattle.store.specs.OpenPairs.{table_find, pair_time, is_paired, area_on, live_numbers}
 
 -- 01: "Open: well formed? 3": the items of a condition: whether each keeps it, and its block
 abbrev pub Checks : Type 0
@@ -59,10 +63,10 @@ table_block_of i = 1 + i / 32
 unfoldable pub table_checks : (ℕ → Bool) → Checks
 table_checks f = each (λ i. (f i, table_block_of i)) 0 64
 
--- 01: "L and D as given": is the master whole, with these sizes?
-abbrev pub sizes_are : MasterFound → ℕ → ℕ → Bool
-sizes_are (Whole f) l d = eqb f.blocks l && eqb f.pages d
-sizes_are Broken l d = false
+-- 01: "L and D as given": is the master whole, with these sizes? 02, #105: "they ask about A too"
+abbrev pub sizes_are : MasterFound → ℕ → ℕ → ℕ → Bool
+sizes_are (Whole f) l d a = eqb f.blocks l && (eqb f.pages d && eqb f.area a)
+sizes_are Broken l d a = false
 
 -- 01: "Fields as above": is every record in form (kind 0 or 1, an erased value zeros; 02, #104: a record number of "0 to 1,023")?
 unfoldable pub forms_of : List Record → Bool
@@ -144,15 +148,25 @@ once_checks l m seen (x ∷ xs) =
     (once_in x.rec m (commit_under seen (number_in x.rec)), log_block_at l x.seq)
     ∷ once_checks l m (seen ++ (x ∷ [])) xs
 
+-- 02, #105: "no tag 4 record where A is 0": has a commit record no user?
+abbrev pub is_plain : Form → Bool
+is_plain Plain = true
+is_plain Signed = false
+
+-- 02, #105: "no tag 4 record where A is 0"
+abbrev pub unsigned : Record → Bool
+unsigned (version h v) = true
+unsigned (commit p) = is_plain p.form
+
 module _ (m : List ℕ) (l d : ℕ) where
   -- 01: "reads the log from the oldest block": a check for each log block read
   unfoldable pub block_checks : (ℕ → Bool) → Checks
   block_checks f = each (λ s. (f s, log_block_at l s)) (oldest_on m) (read_count m l)
 
-  -- 01: "Fields as above, L and D as given": condition 1
-  unfoldable pub fields_in_form : Checks
-  fields_in_form =
-      (sizes_are (master_of (blk m 0)) l d, 0)
+  -- 01: "Fields as above, L and D as given": condition 1; 02, #105: "they ask about A too"
+  unfoldable pub fields_in_form : ℕ → Checks
+  fields_in_form a =
+      (sizes_are (master_of (blk m 0)) l d a, 0)
       ∷ (table_checks (λ i. pair_form (table_pair m i))
       ++ (block_checks (λ s. used_form (block_of m l s) && forms_of (parsed (block_of m l s)).records)
       ++ each (λ p. (page_form (blk m (page_block_at l p)), page_block_at l p)) 0 d))
@@ -240,9 +254,9 @@ module _ (m : List ℕ) (l d : ℕ) where
         ++ (log_checks l at_least_one (read_log m l)
         ++ page_checks (λ p. true) (λ n. slot_at_least_one (cell_at c n).state)))
 
-    -- 01: "at most 64 waiting committed": condition 10
-    unfoldable pub few_waiting : Checks
-    few_waiting = (leb (length (waiting_numbers c (is_paired m (read_log m l)) (15 * d))) 64, 0) ∷ []
+    -- 01: "at most 64 waiting committed"; 02, #105: "so 64 counts these too": condition 10
+    unfoldable pub few_live : ℕ → Checks
+    few_live a = (leb (length (live_numbers (area_on m l d a) (read_log m l) c (is_paired m (read_log m l)) (15 * d))) 64, 0) ∷ []
 
   -- 01: "It copies the pages": the cache before redo, with no page changed
   unfoldable pub copied : Redone
@@ -256,10 +270,29 @@ module _ (m : List ℕ) (l d : ℕ) where
   unfoldable pub applied_next : Checks
   applied_next = redo_checks l copied (read_log m l)
 
-  -- 01: "well formed? 3": the ten conditions, in 01's order
-  unfoldable pub conditions : List Checks
-  conditions =
-      fields_in_form
+  -- 02, #105: "rising times, .. and no line after an empty one": the line before line i is not empty, and its time is below t
+  unfoldable pub line_before : ℕ → ℕ → Bool
+  line_before zero t = true
+  line_before (suc i) t = not (all_zero (line_on m l d i)) && ltb (user_line_of (line_on m l d i)).time.0 t
+
+  -- 02, #105: "each line all zeros (empty) or with a time and its zeros, rising times, none above the last time, and no line after
+  -- an empty one": line i
+  unfoldable pub line_true : ℕ → Bool
+  line_true i =
+      let t = (user_line_of (line_on m l d i)).time.0 in
+      all_zero (line_on m l d i) || (line_form (line_on m l d i) && (leb t (last_time m l) && line_before i t))
+
+  -- 02, #105: "as its last condition, no tag 4 record where A is 0, each line all zeros (empty) or with a time and its zeros,
+  -- rising times, none above the last time, and no line after an empty one": condition 11
+  unfoldable pub lines_true : ℕ → Checks
+  lines_true a =
+      log_checks l (λ r. not (eqb a 0) || unsigned r) (read_log m l)
+      ++ each (λ i. (line_true i, area_block_at l d (i / 32))) 0 (32 * a)
+
+  -- 01: "well formed? 3": the ten conditions, in 01's order; 02, #105: and its own as the last
+  unfoldable pub conditions : ℕ → List Checks
+  conditions a =
+      fields_in_form a
       ∷ sequences_in_range
       ∷ records_whole
       ∷ ends_logged
@@ -268,9 +301,10 @@ module _ (m : List ℕ) (l d : ℕ) where
       ∷ from_one redone.cache
       ∷ numbers_left
       ∷ pairs_once
-      ∷ few_waiting redone.cache
+      ∷ few_live redone.cache a
+      ∷ lines_true a
       ∷ []
 
-  -- 01: "Open: well formed? 3": all ten hold
-  unfoldable pub well_formed : Bool
-  well_formed = all_hold conditions
+  -- 01: "Open: well formed? 3": all of them hold
+  unfoldable pub well_formed : ℕ → Bool
+  well_formed a = all_hold (conditions a)

@@ -47,15 +47,16 @@ unfoldable pub latest : List Placed → ℕ
 latest [] = 0
 latest (x ∷ xs) = max (time_in x.rec) (latest xs)
 
--- 01: "Pairs come from table and log": the time of a commit record, and its end place
+-- 01: "Pairs come from table and log": the time of a commit record, its end place, and its user (02, #105)
 pub record Commitment : Type 0 where
   pub time : ℕ
   pub end : ℕ
+  pub user : ℕ
 
 -- 01: "Pairs come from table and log": what a record that ends at e gives, if it is a commit under n
 abbrev pub commit_in : Record → ℕ → ℕ → Option Commitment
 commit_in (version h v) e n = none
-commit_in (commit p) e n = cond (eqb p.number.0 n) (some (record { time = p.time.0; end = e })) none
+commit_in (commit p) e n = cond (eqb p.number.0 n) (some (record { time = p.time.0; end = e; user = p.user })) none
 
 -- 01: "Pairs come from table and log": the first, or the second where there is no first
 abbrev pub or_else : {A : Type 0} → Option A → Option A → Option A

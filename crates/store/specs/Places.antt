@@ -1,8 +1,9 @@
 -- The places of live transactions.
-use Rattle.std.specs.Prelude.{ℕ, zero, suc, ◌+◌, ◌-◌, ◌%◌, ◌^◌, min, Bool, true, false, cond, List, get_or, eqb, leb}
+use Rattle.std.specs.Prelude.{ℕ, zero, suc, ◌+◌, ◌-◌, ◌%◌, ◌^◌, min, Bool, true, false, cond, ◌&&◌, List, get_or, eqb, leb, ltb}
 use Rattle.store.specs.declared.Life.{Life}
 use Rattle.store.specs.declared.Life.TheVariants.{Free, Active, Committed}
 use Rattle.store.specs.declared.Place.{Place}
+use Rattle.store.specs.declared.Area.{Area}
 use Rattle.store.specs.declared.Found.{Found}
 use Rattle.store.specs.declared.Found.TheVariants.{At, Nothing}
 use Rattle.store.specs.declared.Timing.{Timing}
@@ -20,7 +21,7 @@ is_at Nothing = false
 
 -- 01: "places 0 to 63: active, or committed with waiting versions": a place that is neither
 abbrev pub free_place : Place
-free_place = record { life = Free; waiting = 0 }
+free_place = record { life = Free; waiting = 0; user = 0 }
 
 -- 01: "kept in places 0 to 63": place i, a free one where there is none
 unfoldable pub place_at : List Place → ℕ → Place
@@ -94,8 +95,21 @@ stored_under ps limit n = at_found (find_committed ps n) (λ i. time_up_to (plac
 -- 01: "A live transaction's waiting count is its versions not stamped on the medium": one more, which a foreign state
 -- could overflow and so stays at the highest
 unfoldable pub raised : Place → Place
-raised p = record { life = p.life; waiting = min (p.waiting + 1) (2 ^ 64 - 1) }
+raised p = record { life = p.life; waiting = min (p.waiting + 1) (2 ^ 64 - 1); user = p.user }
 
--- 01: "at 0 a committed one is no longer live": one less, and a free place at 0
-unfoldable pub lowered : Place → Place
-lowered p = cond (leb p.waiting 1) free_place (record { life = p.life; waiting = p.waiting - 1 })
+-- 02, #105: "missing are the lines of commits in the log with times above the last line's", with A above 0: is the line of this
+-- one missing? One that is known from the pair table alone, with end place 0, is not in the log.
+abbrev pub misses_line : Area → Life → Bool
+misses_line a Free = false
+misses_line a (Active n k) = false
+misses_line a (Committed n t e) = ltb 0 a.blocks && (ltb 0 e.0 && ltb a.last.0 t.0)
+
+-- 01: "at 0 a committed one is no longer live"; 02, #105: "live until it has no waiting version and no missing line": one that
+-- has no waiting version
+unfoldable pub unwaiting : Area → Place → Place
+unwaiting a p = cond (misses_line a p.life) (record { life = p.life; waiting = 0; user = p.user }) free_place
+
+-- 01: "its versions not stamped on the medium": one less
+unfoldable pub lowered : Area → Place → Place
+lowered a p =
+    cond (leb p.waiting 1) (unwaiting a p) (record { life = p.life; waiting = p.waiting - 1; user = p.user })

@@ -4,7 +4,7 @@ use Rattle.layout.specs.Master.{oldest_on}
 use Rattle.store.specs.declared.Found.{Found}
 use Rattle.store.specs.declared.Found.TheVariants.{At, Nothing}
 use Rattle.store.specs.declared.Phase.{Phase}
-use Rattle.store.specs.declared.Phase.TheVariants.{Idle, FirstStored, SecondStored}
+use Rattle.store.specs.declared.Phase.TheVariants.{Idle, LinesStored, FirstStored, SecondStored}
 use Rattle.store.specs.declared.Refusal.{Refusal}
 use Rattle.store.specs.declared.Relief.{Relief}
 use Rattle.store.specs.declared.Relief.TheVariants.{StoreLog, StorePage, Checkpoint, NothingLeft}
@@ -13,7 +13,7 @@ use Rattle.store.specs.Places.{first}
 use Rattle.store.specs.State.{fits}
 use Rattle.store.specs.StoreLog.{store_log_asks}
 use Rattle.store.specs.StorePage.{store_page_asks}
-use Rattle.store.specs.Checkpoint.{new_oldest}
+use Rattle.store.specs.Checkpoint.{new_oldest, has_space}
 
 -- 01: "In this order, those that fit the call": is every question answered "yes"?
 abbrev pub all_yes : List (Bool × Refusal) → Bool
@@ -27,12 +27,14 @@ page_left s m c = first (λ p. all_yes (store_page_asks s m c p)) s.pages 0
 -- 02, #114: "finish a checkpoint under way": is one under way?
 abbrev pub under_way : Phase → Bool
 under_way Idle = false
+under_way (LinesStored o t) = true
 under_way (FirstStored o t) = true
 under_way (SecondStored o t) = true
 
--- 02, #114: "finish a checkpoint under way, and make one more": is one under way, or would one move the oldest block?
+-- 02, #114: "finish a checkpoint under way, and make one more": is one under way, or would one move the oldest block? "With A
+-- above 0 it holds if 19 is not met"
 unfoldable pub checkpoint_left : State → List ℕ → Bool
-checkpoint_left s m = under_way s.phase || not (eqb (new_oldest s) (oldest_on m))
+checkpoint_left s m = under_way s.phase || (has_space s.phase s && not (eqb (new_oldest s) (oldest_on m)))
 
 -- 02, #114: "each page that differs, finish a checkpoint under way, and make one more": the next call, by the page found
 abbrev pub after_log : Found → Bool → Relief

@@ -24,6 +24,7 @@ unfoldable pub log_stored : State → State
 log_stored s = record {
   blocks = s.blocks;
   pages = s.pages;
+  area = s.area;
   slots = s.slots;
   next = s.next;
   last = s.last;

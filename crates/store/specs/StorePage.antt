@@ -8,6 +8,7 @@ use Rattle.layout.specs.Page.{page_slot, page_end, stamp_cell}
 use Rattle.layout.specs.declared.slot.Slot.{Slot}
 use Rattle.layout.specs.declared.slot.Slot.TheVariants.{Empty, Waiting, Stamped}
 use Rattle.store.specs.declared.Place.{Place}
+use Rattle.store.specs.declared.Area.{Area}
 use Rattle.store.specs.declared.Refusal.{Refusal}
 use Rattle.store.specs.declared.Refusal.TheVariants.{Unfit, NoPage, NotLogged, Unchanged}
 use Rattle.store.specs.declared.Answer.TheVariants.{Done}
@@ -47,27 +48,27 @@ unfoldable pub stamped_page : State → List ℕ → List ℕ
 stamped_page s page = stamp_from (stored_pair s) page 0 15
 
 -- 01: "its versions not stamped on the medium": one less in the place found
-abbrev pub lower_at : Found → List Place → List Place
-lower_at (At i) ps = set ps i (lowered (place_at ps i))
-lower_at Nothing ps = ps
+abbrev pub lower_at : Area → Found → List Place → List Place
+lower_at a (At i) ps = set ps i (lowered a (place_at ps i))
+lower_at a Nothing ps = ps
 
 -- 01: "its versions not stamped on the medium": a version stamped now counts its transaction's place down
-abbrev pub settle_with : Timing → Slot → List Place → List Place → List Place
-settle_with Untimed slot old ps = ps
-settle_with (Timed t) Empty old ps = ps
-settle_with (Timed t) (Waiting n) old ps = lower_at (find_committed old n.0) ps
-settle_with (Timed t) (Stamped u) old ps = ps
+abbrev pub settle_with : Area → Timing → Slot → List Place → List Place → List Place
+settle_with a Untimed slot old ps = ps
+settle_with a (Timed t) Empty old ps = ps
+settle_with a (Timed t) (Waiting n) old ps = lower_at a (find_committed old n.0) ps
+settle_with a (Timed t) (Stamped u) old ps = ps
 
 -- 01: "its versions not stamped on the medium": counted down for the k slots from slot i on
-unfoldable pub settle_from : (ℕ → Timing) → List Place → List ℕ → List Place → ℕ → ℕ → List Place
-settle_from pair old page ps i zero = ps
-settle_from pair old page ps i (suc k) =
+unfoldable pub settle_from : Area → (ℕ → Timing) → List Place → List ℕ → List Place → ℕ → ℕ → List Place
+settle_from a pair old page ps i zero = ps
+settle_from a pair old page ps i (suc k) =
     let slot = slot_state (page_slot page i) in
-    settle_from pair old page (settle_with (stamp_time pair slot) slot old ps) (i + 1) k
+    settle_from a pair old page (settle_with a (stamp_time pair slot) slot old ps) (i + 1) k
 
--- 01: "at 0 a committed one is no longer live": the places once all 15 slots of the page are counted
+-- 01: "at 0 a committed one is no longer live"; 02, #105: unless its line is missing: the places once all 15 slots of the page are counted
 unfoldable pub settled : State → List ℕ → List Place
-settled s page = settle_from (stored_pair s) s.places page s.places 0 15
+settled s page = settle_from s.area (stored_pair s) s.places page s.places 0 15
 
 -- 01: "state and buffers fit .. ? 16", "page below D? 11. Its end place stored? 12", "would a byte on the medium
 -- change? 13"
@@ -84,6 +85,7 @@ unfoldable pub page_stored : State → ℕ → List ℕ → State
 page_stored s p page = record {
   blocks = s.blocks;
   pages = s.pages;
+  area = s.area;
   slots = s.slots;
   next = s.next;
   last = s.last;

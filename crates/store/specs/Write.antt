@@ -61,6 +61,7 @@ unfoldable pub written : State → ℕ → Logged → State
 written s i g = record {
   blocks = s.blocks;
   pages = s.pages;
+  area = s.area;
   slots = s.slots + 1;
   next = s.next;
   last = s.last;

@@ -15,18 +15,29 @@ pub enum Life {
     Committed(TxNumber, CommitTime, EndPlace),
 }
 
-// A place, and how many versions of its transaction are not stamped on the medium.
+// A place, how many versions of its transaction are not stamped on the medium, and the user of a committed one (0 where none
+// is recorded).
 #[derive(Clone, Copy)]
 pub struct Place {
     pub life: Life,
     pub waiting: u64,
+    pub user: u32,
 }
 
-// The checkpoint under way: none; or its table block 1 is stored; or block 2 too. With it the new oldest sequence and
-// the stored time that its first call fixed.
+// The area of user lines: A, its blocks; the lines on the medium, and the time of the last one (0: there is none).
+#[derive(Clone, Copy)]
+pub struct Area {
+    pub blocks: u64,
+    pub lines: u64,
+    pub last: CommitTime,
+}
+
+// The checkpoint under way: none; or a block of user lines is stored, and another or table block 1 comes next; or table
+// block 1 is stored; or block 2 too. With it the new oldest sequence and the stored time that its first call fixed.
 #[derive(Clone, Copy)]
 pub enum Phase {
     Idle,
+    LinesStored(u64, CommitTime),
     FirstStored(u64, CommitTime),
     SecondStored(u64, CommitTime),
 }
@@ -36,6 +47,8 @@ pub struct State {
     // L, the log blocks, and D, the pages.
     pub blocks: u64,
     pub pages: u64,
+    // The area of user lines.
+    pub area: Area,
     // The next slot: how many are used.
     pub slots: u64,
     // The next transaction number.
@@ -75,6 +88,7 @@ pub enum Refusal {
     NoNumber,
     Unfit,
     NoRecord,
+    AreaFull,
 }
 
 // What a call answers; `answer_number` and `answer_value` of specs/ give the numbers of each.

@@ -39,13 +39,13 @@ unfolding state_of state_by
 sizes w t m c e =
     let f = fit_of (state_of w t) m c e in
     record {
-      sized = record { blocks_high = f.range.blocks_high; pages_high = f.range.pages_high; medium = f.medium; cache = f.cache };
+      sized = record { blocks_high = f.range.blocks_high; pages_high = f.range.pages_high; area_high = f.range.area_high; medium = f.medium; cache = f.cache };
       blocks_low = f.range.blocks_low;
       sequence = f.tail.sequence_high;
     }
 
 pub log_within : (w t : List ℕ) (m c : ℕ) → Sizes w t m c → (k q : ℕ) → k ≡ log_block_at (get_or w 0 0) q → 512 * k + 512 ≤ m
-log_within w t m c f k q e = let h = log_in_medium (get_or w 0 0) (get_or w 1 0) q (omega arith) in omega arith
+log_within w t m c f k q e = let h = log_in_medium (get_or w 0 0) (get_or w 1 0) (get_or w 11 0) q (omega arith) in omega arith
 
 module _ (w : List ℕ) (m c : ℕ) (f : Sized w m c) where
   pub page_within : (p : ℕ) → p < get_or w 1 0 → (p < 64) × (512 * p + 512 ≤ c)
@@ -53,7 +53,7 @@ module _ (w : List ℕ) (m c : ℕ) (f : Sized w m c) where
 
   pub block_within : (p k : ℕ) → p < get_or w 1 0 → k ≡ page_block_at (get_or w 0 0) p → (k < 128) × (512 * k + 512 ≤ m)
   unfolding page_block_at
-  block_within p k h e = let x = page_in_medium (get_or w 0 0) (get_or w 1 0) p h in (omega arith, omega arith)
+  block_within p k h e = let x = page_in_medium (get_or w 0 0) (get_or w 1 0) (get_or w 11 0) p h in (omega arith, omega arith)
 
 -- ---- storing the log; u is the state that it leaves, n the medium
 

@@ -9,7 +9,8 @@ use Rattle.pages.specs.Stamped.{stamped_under}
 pub record Sized (w : List ℕ) (m c : ℕ) : Type 0 where
   pub blocks_high : get_or w 0 0 ≤ 32
   pub pages_high : get_or w 1 0 ≤ 64
-  pub medium : m ≡ medium_length (get_or w 0 0) (get_or w 1 0)
+  pub area_high : get_or w 11 0 ≤ 16
+  pub medium : m ≡ medium_length (get_or w 0 0) (get_or w 1 0) (get_or w 11 0)
   pub cache : c ≡ cache_length (get_or w 1 0)
 
 -- 01: "Its end place stored? 12", "would a byte on the medium change? 13": are both answered "yes" for page p?

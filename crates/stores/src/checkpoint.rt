@@ -1,4 +1,4 @@
-// Checkpoint: one entry, called three times.
+// Checkpoint: one entry, called three times, and once more for each block of user lines that it stores.
 ghost use Rattle.std.specs.Prelude.{◌≡◌};
 ghost use Rattle.store.specs.Answer.{leaves};
 ghost use Rattle.store.specs.Checkpoint.{checkpoint_of};
@@ -7,7 +7,7 @@ ghost use Rattle.memory.specs.Memory.{state_of};
 use store::{Answer, Refusal};
 
 pub fn checkpoint(
-    words: &mut [u64; 448],
+    words: &mut [u64; 512],
     tail: &[u8; 512],
     medium: &mut [u8],
     cache: &[u8],
@@ -16,6 +16,9 @@ pub fn checkpoint(
 {
     if !memory::fit::is_fit(words, tail, medium.len(), cache.len()) {
         return Answer::Refused(Refusal::Unfit);
+    }
+    if !checkpoints::has_space(words) {
+        return Answer::Refused(Refusal::AreaFull);
     }
     checkpoints::step(words, tail, medium);
     Answer::Done

@@ -9,7 +9,7 @@ use memory::{BLOCKS, END, PAGES};
 use store::{Found, Relief};
 
 // Is the page left to be stored: is its end place stored, and would a byte on the medium change?
-fn is_left(words: &[u64; 448], medium: &[u8], cache: &[u8], page: u64) -> bool
+fn is_left(words: &[u64; 512], medium: &[u8], cache: &[u8], page: u64) -> bool
     requires sized { Sized words.now (length medium.now) (length cache.now) }
     requires page_bound { page < get_or words.now 1 0 }
     ensures { result ≡ left_in words.now medium.now cache.now page }
@@ -24,7 +24,7 @@ fn is_left(words: &[u64; 448], medium: &[u8], cache: &[u8], page: u64) -> bool
 }
 
 // The first page that is left.
-fn page_left(words: &[u64; 448], medium: &[u8], cache: &[u8]) -> Found
+fn page_left(words: &[u64; 512], medium: &[u8], cache: &[u8]) -> Found
     requires { Sized words.now (length medium.now) (length cache.now) }
     ensures { result ≡ first (left_in words.now medium.now cache.now) (get_or words.now 1 0) 0 }
 {
@@ -40,7 +40,7 @@ fn page_left(words: &[u64; 448], medium: &[u8], cache: &[u8]) -> Found
 }
 
 // The next call of these: store the log, store each page, finish a checkpoint under way and make one more.
-pub fn relief(words: &[u64; 448], tail: &[u8; 512], medium: &[u8], cache: &[u8]) -> Relief
+pub fn relief(words: &[u64; 512], tail: &[u8; 512], medium: &[u8], cache: &[u8]) -> Relief
     ensures { result ≡ relief_of (state_of words.now tail.now) medium.now cache.now }
 {
     if !memory::fit::is_fit(words, tail, medium.len(), cache.len()) {

@@ -8,7 +8,7 @@ use memory::BLOCKS;
 use store::{Answer, Refusal};
 
 pub fn store_log(
-    words: &mut [u64; 448],
+    words: &mut [u64; 512],
     tail: &[u8; 512],
     medium: &mut [u8],
     cache: &[u8],

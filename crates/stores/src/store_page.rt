@@ -9,7 +9,7 @@ use store::{Answer, Refusal};
 
 // Notes that a page is stored, so that no block changed it since.
 fn forget(words: &mut [u64], page: usize)
-    requires words_len { length words.old ≡ 448 }
+    requires words_len { length words.old ≡ 512 }
     requires page_bound { page < 64 }
     ensures { (tail : List ℕ) → state_of words.new tail ≡ with_first (state_of words.old tail) (set (first_of words.old) page 0) }
 {
@@ -17,7 +17,7 @@ fn forget(words: &mut [u64], page: usize)
 }
 
 pub fn store_page(
-    words: &mut [u64; 448],
+    words: &mut [u64; 512],
     tail: &[u8; 512],
     medium: &mut [u8],
     cache: &mut [u8],

@@ -14,7 +14,7 @@ use libc::{STDIN_FILENO, STDOUT_FILENO};
 fn play_out(
     run: Run,
     bytes: &[u8],
-    words: &mut [u64; 448],
+    words: &mut [u64; 512],
     tail: &mut [u8; 512],
     medium: &mut [u8],
     cache: &mut [u8],
@@ -33,7 +33,7 @@ fn play_out(
 // The end of the input, which ends a line that was begun.
 fn finish(
     run: Run,
-    words: &mut [u64; 448],
+    words: &mut [u64; 512],
     tail: &mut [u8; 512],
     medium: &mut [u8],
     cache: &mut [u8],
@@ -58,7 +58,7 @@ fn finish(
 // Reads once and takes what came.
 fn read_some(
     run: Run,
-    words: &mut [u64; 448],
+    words: &mut [u64; 512],
     tail: &mut [u8; 512],
     medium: &mut [u8],
     cache: &mut [u8],
@@ -77,13 +77,13 @@ fn read_some(
 
 // 4 log blocks and 2 pages: a medium of 9 blocks and a cache of 2. A byte of input prints at most 44.
 fn main() {
-    let mut words = [0u64; 448];
+    let mut words = [0u64; 512];
     let mut tail = [0u8; 512];
     let mut medium = [0u8; 4608];
     let mut cache = [0u8; 1024];
     let mut out = [0u8; 180224];
-    media::format::format(&mut medium, 4, 2);
-    media::open::open(&medium, &mut cache, &mut words, &mut tail, 4, 2);
+    media::format::format(&mut medium, 4, 2, 0);
+    media::open::open(&medium, &mut cache, &mut words, &mut tail, 4, 2, 0);
     let mut run = Run {
         line: script::line::empty(),
         on: true,

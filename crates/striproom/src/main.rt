@@ -20,14 +20,14 @@ fn play_all(
     name: &[u8],
     to: u8,
     bytes: &[u8],
-    words: &mut [u64; 448],
+    words: &mut [u64; 512],
     tail: &mut [u8; 512],
     medium: &mut [u8],
     cache: &mut [u8],
     buffer: &mut [u8],
     out: &mut [u8],
 ) -> Run
-    requires medium_len { length medium.old ≡ 50688 }
+    requires medium_len { length medium.old ≡ 58880 }
     requires cache_len { length cache.old ≡ 32768 }
     requires buffer_len { length buffer.old ≡ 40000 }
     requires out_len { length out.old ≡ 94000 }
@@ -61,14 +61,14 @@ fn finish(
     run: Run,
     name: &[u8],
     to: u8,
-    words: &mut [u64; 448],
+    words: &mut [u64; 512],
     tail: &mut [u8; 512],
     medium: &mut [u8],
     cache: &mut [u8],
     buffer: &mut [u8],
     out: &mut [u8],
 ) -> Run
-    requires medium_len { length medium.old ≡ 50688 }
+    requires medium_len { length medium.old ≡ 58880 }
     requires cache_len { length cache.old ≡ 32768 }
     requires buffer_len { length buffer.old ≡ 40000 }
     requires out_len { length out.old ≡ 94000 }
@@ -92,14 +92,14 @@ fn read_some(
     run: Run,
     name: &[u8],
     to: u8,
-    words: &mut [u64; 448],
+    words: &mut [u64; 512],
     tail: &mut [u8; 512],
     medium: &mut [u8],
     cache: &mut [u8],
     buffer: &mut [u8],
     out: &mut [u8],
 ) -> Run
-    requires medium_len { length medium.old ≡ 50688 }
+    requires medium_len { length medium.old ≡ 58880 }
     requires cache_len { length cache.old ≡ 32768 }
     requires buffer_len { length buffer.old ≡ 40000 }
     requires out_len { length out.old ≡ 94000 }
@@ -134,6 +134,7 @@ fn first(fd: i32, medium: &[u8], bytes: usize) -> Standing
             stage: 1,
             blocks: 0,
             pages: 0,
+            area: 0,
             bytes: 0,
         };
     }
@@ -143,9 +144,9 @@ fn first(fd: i32, medium: &[u8], bytes: usize) -> Standing
 // Plays the input on the file, and answers the exit code. The buffers are as long as the largest sizes ask, 32 log blocks
 // and 64 pages, and as the longest answer buffer.
 fn run(name: &[u8], to: u8) -> u8 {
-    let mut words = [0u64; 448];
+    let mut words = [0u64; 512];
     let mut tail = [0u8; 512];
-    let mut medium = [0u8; 50688];
+    let mut medium = [0u8; 58880];
     let mut cache = [0u8; 32768];
     let mut buffer = [0u8; 40000];
     let mut out = [0u8; 94000];

@@ -67,8 +67,8 @@ fn stops(run: Run, code: u8) -> Run
 
 // Stores the bytes that a line changed, if any did.
 fn keep_part(fd: i32, medium: &[u8], changed: bool, at: usize, len: usize) -> u8
-    requires medium_len { length medium.now ≡ 50688 }
-    requires len_bound { at + len ≤ 50688 }
+    requires medium_len { length medium.now ≡ 58880 }
+    requires len_bound { at + len ≤ 58880 }
     ensures { changed ≡ false → result ≡ 0 }
 {
     if !changed {
@@ -80,7 +80,7 @@ fn keep_part(fd: i32, medium: &[u8], changed: bool, at: usize, len: usize) -> u8
 // Stores a formatted medium, and before it the file's name in its folder: else a power cut could take a new file whole. A
 // refused formatting leaves the file as it is; without a file it is an error.
 fn keep_whole(name: &[u8], to: u8, fd: i32, t: Standing, medium: &[u8]) -> Kept
-    requires { length medium.now ≡ 50688 }
+    requires { length medium.now ≡ 58880 }
     ensures value { t.stage < 2 → result ≡ record { fd = fd; code = missing_code fd } }
     ensures apart { Apart fd to → result.code ≡ 0 → Apart result.fd to }
 {
@@ -114,8 +114,8 @@ fn keep_whole(name: &[u8], to: u8, fd: i32, t: Standing, medium: &[u8]) -> Kept
 
 // Stores what a line left.
 fn keep(call: Call, played: Played, name: &[u8], to: u8, fd: i32, medium: &[u8]) -> Kept
-    requires medium_len { length medium.now ≡ 50688 }
-    requires len_bound { played.at + played.len ≤ 50688 }
+    requires medium_len { length medium.now ≡ 58880 }
+    requires len_bound { played.at + played.len ≤ 58880 }
     ensures value { is_format call ≡ false → played.changed ≡ false → result ≡ record { fd = fd; code = 0 } }
     ensures apart { Apart fd to → result.code ≡ 0 → Apart result.fd to }
 {
@@ -137,14 +137,14 @@ fn turn(
     p: Plan,
     name: &[u8],
     to: u8,
-    words: &mut [u64; 448],
+    words: &mut [u64; 512],
     tail: &mut [u8; 512],
     medium: &mut [u8],
     cache: &mut [u8],
     buffer: &mut [u8],
     out: &mut [u8],
 ) -> Run
-    requires medium_len { length medium.old ≡ 50688 }
+    requires medium_len { length medium.old ≡ 58880 }
     requires cache_len { length cache.old ≡ 32768 }
     requires buffer_len { length buffer.old ≡ 40000 }
     requires out_len { length out.old ≡ 94000 }
@@ -178,14 +178,14 @@ pub fn play(
     name: &[u8],
     to: u8,
     bytes: &[u8],
-    words: &mut [u64; 448],
+    words: &mut [u64; 512],
     tail: &mut [u8; 512],
     medium: &mut [u8],
     cache: &mut [u8],
     buffer: &mut [u8],
     out: &mut [u8],
 ) -> Run
-    requires medium_len { length medium.old ≡ 50688 }
+    requires medium_len { length medium.old ≡ 58880 }
     requires cache_len { length cache.old ≡ 32768 }
     requires buffer_len { length buffer.old ≡ 40000 }
     requires out_len { length out.old ≡ 94000 }

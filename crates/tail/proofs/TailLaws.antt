@@ -62,7 +62,7 @@ end_is t r q u e eq eu = ap end_at (e ∙ rw (eq, eu))
 
 -- ---- all of the tail stored; r is its end place
 
-pub stored_all : (w t : List ℕ) (r : EndPlace) → length w ≡ 448 → r ≡ tail_end t
+pub stored_all : (w t : List ℕ) (r : EndPlace) → length w ≡ 512 → r ≡ tail_end t
     → state_of (set (set w 6 r.0) 5 (get_or (set w 6 r.0) 4 0)) t ≡ log_stored (state_of w t)
 unfolding state_of state_by log_stored
 stored_all w t r len e =
@@ -76,6 +76,7 @@ with_tail : State → List ℕ → State
 with_tail s t = record {
   blocks = s.blocks;
   pages = s.pages;
+  area = s.area;
   slots = s.slots;
   next = s.next;
   last = s.last;
@@ -152,7 +153,7 @@ ready s m c e =
 pub record ReadyWords (w t : List ℕ) (m : ℕ) : Type 0 where
   pub low : 2 ≤ get_or w 0 0
   pub high : get_or w 0 0 ≤ 32
-  pub medium : m ≡ medium_length (get_or w 0 0) (get_or w 1 0)
+  pub medium : m ≡ medium_length (get_or w 0 0) (get_or w 1 0) (get_or w 11 0)
   pub used : 10 ≤ used_of t
   pub room : used_of t ≤ 512
   pub sequence : sequence_of t < 2 ^ 48

@@ -10,7 +10,7 @@ pub record Ready (s : State) (size : ℕ) : Type 0 where
   pub low : 2 ≤ s.blocks
   pub high : s.blocks ≤ 32
   pub pages : s.pages ≤ 64
-  pub medium : size ≡ medium_length s.blocks s.pages
+  pub medium : size ≡ medium_length s.blocks s.pages s.area.blocks
   pub used : 10 ≤ used_of s.tail
   pub room : used_of s.tail ≤ 512
   pub sequence : sequence_of s.tail < 2 ^ 48
@@ -19,6 +19,7 @@ unfoldable pub taken : State → Logged → State
 taken s g = record {
   blocks = s.blocks;
   pages = s.pages;
+  area = s.area;
   slots = s.slots;
   next = s.next;
   last = s.last;

@@ -2,7 +2,7 @@
 #![tactic(auto)]
 
 ghost use Rattle.std.specs.Prelude.{◌≡◌, true, ◌+◌, ◌<◌, ◌≤◌, ◌^◌, length};
-ghost use Rattle.layout.specs.Item.{bytes_of};
+ghost use Rattle.layout.specs.Item.{bytes_of, user_bytes_of};
 ghost use Rattle.layout.specs.Journal.{version, commit, sequence_of};
 ghost use Rattle.store.specs.StoreLog.{log_stored};
 ghost use Rattle.store.specs.Tail.{tail_fits, may_log, tail_end, stored_tail, logged};
@@ -10,7 +10,7 @@ ghost use Rattle.memory.specs.Memory.{state_of};
 ghost use Rattle.tail.specs.Taken.{Ready, taken, begun};
 
 use layout::EndPlace;
-use layout::item::{Pair, VersionHead};
+use layout::item::{CommitHead, VersionHead};
 use memory::{BLOCKS, END, LAST, SAVED};
 
 // Is there room for a record in the tail?
@@ -23,7 +23,7 @@ pub fn has_room(tail: &[u8], size: u64) -> bool
 }
 
 // May the log take a record?
-pub fn may_log(words: &[u64; 448], tail: &[u8; 512], medium: &[u8], size: u64) -> bool
+pub fn may_log(words: &[u64; 512], tail: &[u8; 512], medium: &[u8], size: u64) -> bool
     requires size_bound { size ≤ 512 }
     requires ready { Ready (state_of words.now tail.now) (length medium.now) }
     ensures { result ≡ may_log (state_of words.now tail.now) medium.now size }
@@ -51,7 +51,7 @@ pub fn end_of(tail: &[u8]) -> EndPlace
 }
 
 // Stores the tail in its block.
-pub fn store(words: &[u64; 448], tail: &[u8; 512], medium: &mut [u8])
+pub fn store(words: &[u64; 512], tail: &[u8; 512], medium: &mut [u8])
     requires { Ready (state_of words.now tail.now) (length medium.old) }
     ensures { medium.new ≡ stored_tail (state_of words.now tail.now).blocks medium.old tail.now }
 {
@@ -61,7 +61,7 @@ pub fn store(words: &[u64; 448], tail: &[u8; 512], medium: &mut [u8])
 
 // Notes that all of the tail is stored, and with it every commit time given.
 pub fn all_stored(words: &mut [u64], tail: &[u8])
-    requires words_len { (length words.old ≡ 448) × (length tail.now ≡ 512) }
+    requires words_len { (length words.old ≡ 512) × (length tail.now ≡ 512) }
     requires tail_bound { sequence_of tail.now < 2 ^ 48 }
     ensures { state_of words.new tail.now ≡ log_stored (state_of words.old tail.now) }
 {
@@ -70,7 +70,7 @@ pub fn all_stored(words: &mut [u64], tail: &[u8])
 }
 
 // Begins a new block behind the tail, all of which is stored.
-pub fn begin_block(words: &mut [u64; 448], tail: &mut [u8; 512])
+pub fn begin_block(words: &mut [u64; 512], tail: &mut [u8; 512])
     requires { sequence_of tail.old + 1 < 2 ^ 48 }
     ensures { state_of words.new tail.new ≡ begun (state_of words.old tail.old) }
 {
@@ -81,7 +81,7 @@ pub fn begin_block(words: &mut [u64; 448], tail: &mut [u8; 512])
 
 // Takes a version record: tail, stored end and stored time follow, and the medium where a block is begun.
 pub fn take_version(
-    words: &mut [u64; 448],
+    words: &mut [u64; 512],
     tail: &mut [u8; 512],
     medium: &mut [u8],
     head: VersionHead,
@@ -104,16 +104,23 @@ pub fn take_version(
 }
 
 // Takes a commit record.
-pub fn take_commit(words: &mut [u64; 448], tail: &mut [u8; 512], medium: &mut [u8], pair: Pair)
+pub fn take_commit(
+    words: &mut [u64; 512],
+    tail: &mut [u8; 512],
+    medium: &mut [u8],
+    head: CommitHead,
+)
     requires ready { Ready (state_of words.old tail.old) (length medium.old) }
-    requires medium_value { may_log (state_of words.old tail.old) medium.old 19 ≡ true }
-    ensures { (state_of words.new tail.new ≡ taken (state_of words.old tail.old) (logged (state_of words.old tail.old) medium.old (commit pair))) × (medium.new ≡ (logged (state_of words.old tail.old) medium.old (commit pair)).medium) }
+    requires form_value { may_log (state_of words.old tail.old) medium.old (19 + user_bytes_of head.form) ≡ true }
+    ensures { (state_of words.new tail.new ≡ taken (state_of words.old tail.old) (logged (state_of words.old tail.old) medium.old (commit head))) × (medium.new ≡ (logged (state_of words.old tail.old) medium.old (commit head)).medium) }
 {
-    if !has_room(tail, 19) {
+    let form = head.form;
+    let size = 19 + layout::item::user_bytes(form) as u64;
+    if !has_room(tail, size) {
         store(words, tail, medium);
         begin_block(words, tail);
-        layout::journal::add_commit(tail, pair);
+        layout::journal::add_commit(tail, head);
         return;
     }
-    layout::journal::add_commit(tail, pair);
+    layout::journal::add_commit(tail, head);
 }

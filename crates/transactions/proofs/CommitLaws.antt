@@ -4,11 +4,13 @@ use mathlib.Core.Path.{◌≡◌, ◌∙◌}
 use mathlib.Core.Bool.{true}
 use mathlib.Core.Option.{none}
 use mathlib.Core.List.{List}
-use Prim.Native.Nat.{ℕ, ◌-◌, ◌^◌, ◌<◌}
+use Prim.Native.Nat.{ℕ, ◌+◌, ◌-◌, ◌^◌, ◌<◌}
 use lib.ListN.{length}
 use borrow.Author.Tests.{ltb-true, eq-eqb, ne_eqb}
 use Rattle.layout.specs.Journal.{commit}
+use Rattle.layout.specs.Item.{user_bytes_of}
 use Rattle.layout.specs.declared.CommitTime.{CommitTime}
+use Rattle.layout.specs.declared.item.CommitHead.{CommitHead}
 use Rattle.store.specs.declared.Answer.TheVariants.{Done, Committed}
 use Rattle.store.specs.declared.Found.TheVariants.{At}
 use Rattle.store.specs.declared.Refusal.{Refusal}
@@ -17,7 +19,7 @@ use Rattle.store.specs.Answer.{Outcome, leaves, refuses, ask}
 use Rattle.store.specs.Places.{find_active, place_at, free_place}
 use Rattle.store.specs.State.{fits, with_place}
 use Rattle.store.specs.Tail.{may_log, logged}
-use Rattle.store.specs.Commit.{commit_asks, commit_time, committed, commit_step, commit_if, commit_of}
+use Rattle.store.specs.Commit.{form_of, new_commit, commit_asks, commit_time, committed, commit_step, commit_if, commit_of}
 use Rattle.tail.specs.Taken.{taken}
 use Rattle.questions.specs.Asked.{verdict}
 use Rattle.questions.specs.declared.refuse.Verdict.{Verdict}
@@ -25,10 +27,10 @@ use Rattle.questions.specs.declared.refuse.Verdict.TheVariants.{No}
 use Rattle.store.proofs.AskLaws.{passed}
 use Rattle.questions.proofs.AskLaws.{verdict_no}
 
-pub commit_refused : (v : Verdict) (r : Refusal) (s : State) (m c : List ℕ) (n clock : ℕ)
-    → v ≡ verdict (ask (commit_asks s m c n)) (find_active s.places n) → v ≡ No r → refuses r s m c ≡ commit_of s m c n clock
+pub commit_refused : (v : Verdict) (r : Refusal) (s : State) (m c : List ℕ) (n clock user : ℕ)
+    → v ≡ verdict (ask (commit_asks s m c n)) (find_active s.places n) → v ≡ No r → refuses r s m c ≡ commit_of s m c n clock user
 unfolding commit_of commit_if
-commit_refused v r s m c n clock e g =
+commit_refused v r s m c n clock user e g =
     verdict_no v (ask (commit_asks s m c n)) (find_active s.places n) r e g (λ k. rw k) (λ k f q. rw (k, f, q))
 
 -- ---- all questions passed
@@ -36,13 +38,13 @@ commit_refused v r s m c n clock e g =
 pub record CommitAsked (s : State) (m c : List ℕ) : Type 0 where
   pub fit : fits s (length m) (length c) ≡ true
   pub last : s.last.0 < 2 ^ 64 - 1
-  pub log : may_log s m 19 ≡ true
+  pub log : may_log s m (19 + user_bytes_of (form_of s.area.blocks)) ≡ true
 
 module _ (s : State) (m c : List ℕ) (n i : ℕ) (e : ask (commit_asks s m c n) ≡ none) (f : find_active s.places n ≡ At i) where
-  pub commit_empty : (clock : ℕ) (t : State) → (place_at s.places i).waiting ≡ 0 → t ≡ with_place s i free_place
-      → leaves Done t m c ≡ commit_of s m c n clock
+  pub commit_empty : (clock user : ℕ) (t : State) → (place_at s.places i).waiting ≡ 0 → t ≡ with_place s i free_place
+      → leaves Done t m c ≡ commit_of s m c n clock user
   unfolding commit_of commit_if
-  commit_empty clock t w et = rw (e, f, eq-eqb _ _ w, et)
+  commit_empty clock user t w et = rw (e, f, eq-eqb _ _ w, et)
 
   module _ (w : (place_at s.places i).waiting ≡ 0 → ⊥) where
     pub commit_asked : CommitAsked s m c
@@ -54,16 +56,15 @@ module _ (s : State) (m c : List ℕ) (n i : ℕ) (e : ask (commit_asks s m c n)
           log = rw (f, ne_eqb _ _ w) at p.1.1.1.0;
         }
 
-    pub commit_passed : (clock : ℕ) (t : CommitTime) (x : Outcome) → t ≡ commit_time s i clock → x ≡ commit_step s m c i n t
-        → x ≡ commit_of s m c n clock
+    pub commit_passed : (clock user : ℕ) (t : CommitTime) (h : CommitHead) (x : Outcome) → t ≡ commit_time s i clock → h ≡ new_commit s n t user → x ≡ commit_step s m c i h
+        → x ≡ commit_of s m c n clock user
     unfolding commit_of commit_if
-    commit_passed clock t x et ex = ex ∙ rw (e, f, ne_eqb _ _ w, et)
+    commit_passed clock user t h x et eh ex = ex ∙ rw (e, f, ne_eqb _ _ w, eh, et)
 
--- u is the state whose tail took the record, v the state with the place settled
-pub commit_done : (s u v : State) (m k c : List ℕ) (i n : ℕ) (t : CommitTime)
-    → u ≡ taken s (logged s m (commit (record { number = record { 0 = n }; time = t })))
-    → k ≡ (logged s m (commit (record { number = record { 0 = n }; time = t }))).medium
-    → v ≡ committed u i n t (record { medium = u.tail; tail = u.tail; end = u.end; saved = u.saved })
-    → leaves (Committed t) v k c ≡ commit_step s m c i n t
+-- u is the state whose tail took the record h, v the state with the place settled
+pub commit_done : (s u v : State) (m k c : List ℕ) (i : ℕ) (h : CommitHead)
+    → u ≡ taken s (logged s m (commit h)) → k ≡ (logged s m (commit h)).medium
+    → v ≡ committed u i h (record { medium = u.tail; tail = u.tail; end = u.end; saved = u.saved })
+    → leaves (Committed h.time) v k c ≡ commit_step s m c i h
 unfolding commit_step committed taken
-commit_done s u v m k c i n t eu ek ev = simp (ev, ek, eu)
+commit_done s u v m k c i h eu ek ev = simp (ev, ek, eu)

@@ -7,7 +7,7 @@ ghost use Rattle.memory.specs.Memory.{state_of};
 use store::{Answer, Found, Refusal};
 
 pub fn abort(
-    words: &mut [u64; 448],
+    words: &mut [u64; 512],
     tail: &[u8; 512],
     medium: &[u8],
     cache: &[u8],

@@ -10,7 +10,7 @@ use store::{Answer, Found, Refusal};
 
 // Puts a new transaction into place i.
 fn take_place(words: &mut [u64], i: u64, clock: u64)
-    requires words_len { length words.old ≡ 448 }
+    requires words_len { length words.old ≡ 512 }
     requires i_bound { (i < 64) × (get_or words.old 3 0 < 2 ^ 64 - 1) }
     ensures { (tail : List ℕ) → state_of words.new tail ≡ begun (state_of words.old tail) i clock }
 {
@@ -21,7 +21,7 @@ fn take_place(words: &mut [u64], i: u64, clock: u64)
 }
 
 pub fn begin(
-    words: &mut [u64; 448],
+    words: &mut [u64; 512],
     tail: &[u8; 512],
     medium: &[u8],
     cache: &[u8],

@@ -26,41 +26,41 @@ use Rattle.handover.specs.declared.HandAnswer.{HandAnswer}
 use Rattle.handover.specs.declared.Transfer.{Transfer}
 use Rattle.handover.specs.Hand.{hand_ends, hand_of}
 use Rattle.script.specs.declared.call.Call.{Call}
-use Rattle.script.specs.declared.call.Call.TheVariants.{Format, Open, OpenSized, Cut, Begin, Write, Erase, Read, Commit, Abort, Hand, AsOf, Changes, StoreLog, StorePage, Checkpoint, Block, Page, Poke, Other}
+use Rattle.script.specs.declared.call.Call.TheVariants.{Format, Open, OpenSized, Cut, Begin, Write, Erase, Read, Commit, Abort, Hand, AsOf, Changes, StoreLog, StorePage, Checkpoint, Block, Page, User, Poke, Other}
 use Rattle.script.specs.declared.call.Asked.{Asked}
 use Rattle.script.specs.contracts.call.Call.{the_type}
 use Rattle.rooms.specs.declared.parts.Standing.{Standing}
 use Rattle.answers.specs.Text.{answer_text, handed_text}
 use Rattle.rooms.specs.Room.{Room, shut, ready, Turn, plan_of, fresh_length, formatted, right_length, opened, opening, cut, poked, outcome_of, called, calling, handed, handing, moves, turn_by, turn_of}
 use Rattle.rooms.specs.Parts.{stage_of, medium_part, cache_part, room_of, stage_after, left_by}
-use Rattle.rooms.proofs.RoomLaws.{first_back, stage_case, stage_2, stage_3, room_gone, room_shut, room_ready, medium_in_law, blocks_in_law, pages_in_law, medium_part_law, no_medium}
+use Rattle.rooms.proofs.RoomLaws.{first_back, stage_case, stage_2, stage_3, room_gone, room_shut, room_ready, medium_in_law, blocks_in_law, pages_in_law, area_in_law, medium_part_law, no_medium}
 
 -- ---- formatting: what a medium held before does not matter
 
-format_same : (m n : List ℕ) (l d : ℕ) → length m ≡ length n → formatted l d (format_of m l d) ≡ formatted l d (format_of n l d)
+format_same : (m n : List ℕ) (l d a : ℕ) → length m ≡ length n → formatted l d a (format_of m l d a) ≡ formatted l d a (format_of n l d a)
 unfolding formatted format_of format_if answer_number refusal_number
-format_same m n l d e =
-    bool_case (in_range l d && eqb (length n) (medium_length l d)) (λ t. simp (e, t)) (λ t. simp (e, t))
+format_same m n l d a e =
+    bool_case (in_range l d a && eqb (length n) (medium_length l d a)) (λ t. simp (e, t)) (λ t. simp (e, t))
 
-pub format_left : (l d r n : ℕ) (a : Answer) (v m c : List ℕ) (s : State) → r ≡ stage_after a → n ≡ fresh_length l d → n ≤ 50688 → n ≤ length m → length v ≡ length (take n m)
-    → record { answer = a; medium = v } ≡ format_of (take n m) l d
-    → left_by (record { stage = r; blocks = l; pages = d; bytes = n }) (v ++ drop n m) c s 70 a ≡ formatted l d (format_of (zeros (fresh_length l d)) l d)
+pub format_left : (l d area r n : ℕ) (a : Answer) (v m c : List ℕ) (s : State) → r ≡ stage_after a → n ≡ fresh_length l d area → n ≤ 58880 → n ≤ length m → length v ≡ length (take n m)
+    → record { answer = a; medium = v } ≡ format_of (take n m) l d area
+    → left_by (record { stage = r; blocks = l; pages = d; area = area; bytes = n }) (v ++ drop n m) c s 70 a ≡ formatted l d area (format_of (zeros (fresh_length l d area)) l d area)
 unfolding formatted room_of stage_after
-format_left l d r n a v m c s er en hn h lv e =
-    go ∙ ap (formatted l d) e ∙ format_same (take n m) (zeros (fresh_length l d)) l d (length-take-le n m h ∙ en ∙ sym (length-replicate (fresh_length l d) 0))
+format_left l d area r n a v m c s er en hn h lv e =
+    go ∙ ap (formatted l d area) e ∙ format_same (take n m) (zeros (fresh_length l d area)) l d area (length-take-le n m h ∙ en ∙ sym (length-replicate (fresh_length l d area) 0))
   where
-    go : left_by (record { stage = r; blocks = l; pages = d; bytes = n }) (v ++ drop n m) c s 70 a ≡ formatted l d (record { answer = a; medium = v })
+    go : left_by (record { stage = r; blocks = l; pages = d; area = area; bytes = n }) (v ++ drop n m) c s 70 a ≡ formatted l d area (record { answer = a; medium = v })
     go = bool_case (eqb (answer_number a) 0) (λ t. simp (er, t, min-eq_left hn, first_back m v n h lv)) (λ t. simp (er, t))
 
 -- ---- opening
 
 -- an accepted opening was given a cache of the right length
-pub open_accepted : (m g : List ℕ) (l d : ℕ) → answer_number (open_of m g l d).answer ≡ 0 → (length g ≡ cache_length d) × (d ≤ 64)
+pub open_accepted : (m g : List ℕ) (l d a : ℕ) → answer_number (open_of m g l d a).answer ≡ 0 → (length g ≡ cache_length d) × (d ≤ 64)
 unfolding open_of open_if answer_number refusal_number
-open_accepted m g l d h =
-    bool_case (in_range l d && eqb (length m) (medium_length l d))
+open_accepted m g l d a h =
+    bool_case (in_range l d a && eqb (length m) (medium_length l d a))
     (λ e. bool_case (eqb (length g) (cache_length d))
-    (λ f. (eqb-true _ _ f, (range_of l d (and_0 (in_range l d) _ e)).pages_high))
+    (λ f. (eqb-true _ _ f, (range_of l d a (and_0 (in_range l d a) _ e)).pages_high))
     (λ f. let z : ◌≡◌ {A = ℕ} 2 0 = simp (e, f) at h in absurd (omega arith)))
     (λ e. let z : ◌≡◌ {A = ℕ} 1 0 = simp e at h in absurd (omega arith))
 
@@ -69,16 +69,16 @@ open_accepted m g l d h =
 module _ (t : Standing) (m c b : List ℕ) (s : State) (letter byte pm bytes : ℕ) (h : 2 ≤ stage_of t) (em : pm ≡ medium_part t) (hb : bytes ≤ length b) where
   abbrev opens_to : Outcome → Turn
   opens_to o = record {
-    room = cond (eqb (answer_number o.answer) 0) (ready t.blocks t.pages o.medium o.cache o.state) (room_of t m c s);
+    room = cond (eqb (answer_number o.answer) 0) (ready t.blocks t.pages t.area o.medium o.cache o.state) (room_of t m c s);
     text = answer_text letter o.answer (zeros 16);
   }
 
-  open_is : opening letter (room_of t m c s) (replicate bytes byte) ≡ opens_to (open_of (take (medium_part t) m) (replicate bytes byte) t.blocks t.pages)
+  open_is : opening letter (room_of t m c s) (replicate bytes byte) ≡ opens_to (open_of (take (medium_part t) m) (replicate bytes byte) t.blocks t.pages t.area)
   unfolding opening opened
-  open_is = let k = stage_2 t h in rw (medium_in_law t m c s, blocks_in_law t m c s k, pages_in_law t m c s k)
+  open_is = let k = stage_2 t h in rw (medium_in_law t m c s, blocks_in_law t m c s k, pages_in_law t m c s k, area_in_law t m c s k)
 
-  module _ (a : Answer) (st : State) (k : List ℕ) (e : leaves a st (take pm m) k ≡ open_of (take pm m) (replicate (length (take bytes b)) byte) t.blocks t.pages) where
-    found : leaves a st (take (medium_part t) m) k ≡ open_of (take (medium_part t) m) (replicate bytes byte) t.blocks t.pages
+  module _ (a : Answer) (st : State) (k : List ℕ) (e : leaves a st (take pm m) k ≡ open_of (take pm m) (replicate (length (take bytes b)) byte) t.blocks t.pages t.area) where
+    found : leaves a st (take (medium_part t) m) k ≡ open_of (take (medium_part t) m) (replicate bytes byte) t.blocks t.pages t.area
     found = rw (length-take-le bytes b hb, em) at e
 
     pub open_refused : (answer_number a ≡ 0 → ⊥) → left_by t m c s letter a ≡ opening letter (room_of t m c s) (replicate bytes byte)
@@ -87,11 +87,11 @@ module _ (t : Standing) (m c b : List ℕ) (s : State) (letter byte pm bytes : �
     right_bytes : answer_number a ≡ 0 → right_length t.pages ≡ bytes
     unfolding right_length
     right_bytes z =
-        let f = open_accepted (take (medium_part t) m) (replicate bytes byte) t.blocks t.pages (ap (λ (o : Outcome). answer_number o.answer) (sym found) ∙ z) in
+        let f = open_accepted (take (medium_part t) m) (replicate bytes byte) t.blocks t.pages t.area (ap (λ (o : Outcome). answer_number o.answer) (sym found) ∙ z) in
         simp (le-leb _ _ f.1) (sym f.0 ∙ length-replicate bytes byte)
 
     pub open_taken : (n : ℕ) (v : List ℕ) → answer_number a ≡ 0 → n ≡ right_length t.pages → v ≡ take n (k ++ drop bytes b) → length k ≡ length (take bytes b)
-        → left_by (record { stage = 3; blocks = t.blocks; pages = t.pages; bytes = t.bytes }) m (v ++ drop n c) st letter a ≡ opening letter (room_of t m c s) (replicate bytes byte)
+        → left_by (record { stage = 3; blocks = t.blocks; pages = t.pages; area = t.area; bytes = t.bytes }) m (v ++ drop n c) st letter a ≡ opening letter (room_of t m c s) (replicate bytes byte)
     unfolding room_of
     open_taken n v z en ev ek =
         let q : n ≡ bytes = en ∙ right_bytes z in
@@ -102,7 +102,7 @@ module _ (t : Standing) (m c b : List ℕ) (s : State) (letter byte pm bytes : �
 
 -- ---- a cut, and a byte put into the medium
 
-pub cut_left : (t : Standing) (m c : List ℕ) (s : State) → 2 ≤ stage_of t → left_by (record { stage = 2; blocks = t.blocks; pages = t.pages; bytes = t.bytes }) m c s 88 Done ≡ moves 88 (cut (room_of t m c s))
+pub cut_left : (t : Standing) (m c : List ℕ) (s : State) → 2 ≤ stage_of t → left_by (record { stage = 2; blocks = t.blocks; pages = t.pages; area = t.area; bytes = t.bytes }) m c s 88 Done ≡ moves 88 (cut (room_of t m c s))
 unfolding room_of cut
 cut_left t m c s h =
     let k = stage_2 t h in
@@ -114,8 +114,8 @@ poke_in t m c s at b n e h =
     let k : take (medium_part t) (set m at b) ≡ set (take (medium_part t) m) at b = take-set-lt (medium_part t) m at b (rw e at h) in
     ap (moves 90)
     (stage_case t (λ g. absurd (gone_none g))
-    (λ g j. room_shut t (set m at b) c s g j ∙ ap (shut t.blocks t.pages) k ∙ ap (λ (r : Room). poked r at b) (sym (room_shut t m c s g j)))
-    (λ g. room_ready t (set m at b) c s g ∙ ap (λ (x : List ℕ). ready t.blocks t.pages x (take (cache_part t) c) s) k ∙ ap (λ (r : Room). poked r at b) (sym (room_ready t m c s g))))
+    (λ g j. room_shut t (set m at b) c s g j ∙ ap (shut t.blocks t.pages t.area) k ∙ ap (λ (r : Room). poked r at b) (sym (room_shut t m c s g j)))
+    (λ g. room_ready t (set m at b) c s g ∙ ap (λ (x : List ℕ). ready t.blocks t.pages t.area x (take (cache_part t) c) s) k ∙ ap (λ (r : Room). poked r at b) (sym (room_ready t m c s g))))
   where
     gone_none : t.stage < 2 → ⊥
     gone_none g = let z : n ≡ 0 = e ∙ no_medium t g in omega arith
@@ -126,15 +126,15 @@ poke_out t m c s at b n e h =
     let k : take (medium_part t) m ≡ set (take (medium_part t) m) at b = sym (set_out (take (medium_part t) m) at b (simp length-take (omega arith))) in
     ap (moves 90)
     (stage_case t (λ g. room_gone t m c s g ∙ ap (λ (r : Room). poked r at b) (sym (room_gone t m c s g)))
-    (λ g j. room_shut t m c s g j ∙ ap (shut t.blocks t.pages) k ∙ ap (λ (r : Room). poked r at b) (sym (room_shut t m c s g j)))
-    (λ g. room_ready t m c s g ∙ ap (λ (x : List ℕ). ready t.blocks t.pages x (take (cache_part t) c) s) k ∙ ap (λ (r : Room). poked r at b) (sym (room_ready t m c s g))))
+    (λ g j. room_shut t m c s g j ∙ ap (shut t.blocks t.pages t.area) k ∙ ap (λ (r : Room). poked r at b) (sym (room_shut t m c s g j)))
+    (λ g. room_ready t m c s g ∙ ap (λ (x : List ℕ). ready t.blocks t.pages t.area x (take (cache_part t) c) s) k ∙ ap (λ (r : Room). poked r at b) (sym (room_ready t m c s g))))
 
 -- ---- a call that changes an opened store
 
 -- no such line has the letter of a list
 change_letter : (k : Call) → (plan_of k).looks ≡ false → eqb (plan_of k).letter 76 ≡ false
 unfolding plan_of
-change_letter (Format l d) e = refl
+change_letter (Format l d a) e = refl
 change_letter (Open byte) e = refl
 change_letter (OpenSized bytes) e = refl
 change_letter Cut e = refl
@@ -142,9 +142,9 @@ change_letter (Begin clock) e = refl
 change_letter (Write number key) e = refl
 change_letter (Erase number key) e = refl
 change_letter (Read number key) e = refl
-change_letter (Commit number clock) e = refl
+change_letter (Commit number clock user) e = refl
 change_letter (Abort number) e = refl
-change_letter (Hand flight from to began ended) e = refl
+change_letter (Hand flight from to began ended user) e = refl
 change_letter (AsOf key time) e = refl
 change_letter (Changes key t1 t2 bytes) e = no (sym e)
 change_letter StoreLog e = refl
@@ -152,6 +152,7 @@ change_letter (StorePage page) e = refl
 change_letter Checkpoint e = refl
 change_letter (Block block) e = refl
 change_letter (Page page) e = refl
+change_letter (User time) e = refl
 change_letter (Poke offset byte) e = refl
 change_letter Other e = refl
 
@@ -169,11 +170,11 @@ make_left t m c s k v a st pm pc vm vc h lk em ec hm hc lm lc e =
 
 -- the lines that are none
 abbrev Others : List ℕ
-Others = 0 ∷ 1 ∷ 2 ∷ 3 ∷ 4 ∷ 5 ∷ 6 ∷ 7 ∷ 8 ∷ 9 ∷ 11 ∷ 12 ∷ 13 ∷ 14 ∷ 15 ∷ 16 ∷ 17 ∷ 18 ∷ 19 ∷ []
+Others = 0 ∷ 1 ∷ 2 ∷ 3 ∷ 4 ∷ 5 ∷ 6 ∷ 7 ∷ 8 ∷ 9 ∷ 11 ∷ 12 ∷ 13 ∷ 14 ∷ 15 ∷ 16 ∷ 17 ∷ 18 ∷ 19 ∷ 20 ∷ []
 
 pub not_hand : (k : Call) → OneOf Others (tag_of the_type k) → eqb (plan_of k).letter 72 ≡ false
 unfolding plan_of
-not_hand (Format l d) o = refl
+not_hand (Format l d a) o = refl
 not_hand (Open byte) o = refl
 not_hand (OpenSized bytes) o = refl
 not_hand Cut o = refl
@@ -181,9 +182,9 @@ not_hand (Begin clock) o = refl
 not_hand (Write number key) o = refl
 not_hand (Erase number key) o = refl
 not_hand (Read number key) o = refl
-not_hand (Commit number clock) o = refl
+not_hand (Commit number clock user) o = refl
 not_hand (Abort number) o = refl
-not_hand (Hand flight from to began ended) o = absurd (miss Others 10 tt o)
+not_hand (Hand flight from to began ended user) o = absurd (miss Others 10 tt o)
 not_hand (AsOf key time) o = refl
 not_hand (Changes key t1 t2 bytes) o = refl
 not_hand StoreLog o = refl
@@ -191,6 +192,7 @@ not_hand (StorePage page) o = refl
 not_hand Checkpoint o = refl
 not_hand (Block block) o = refl
 not_hand (Page page) o = refl
+not_hand (User time) o = refl
 not_hand (Poke offset byte) o = refl
 not_hand Other o = refl
 
@@ -204,7 +206,7 @@ hand_left t m c s h a st pm pc vm vc k em ec hm hc lm lc e =
     let g = stage_3 t k in
     simp (room_ready t (vm ++ drop pm m) (vc ++ drop pc c) st g, room_ready t m c s g, ← em, ← ec, first_back m vm pm hm lm, first_back c vc pc hc lc, ← e)
 
-pub hand_turn : (a : Asked) (r : Room) (u : Turn) (flight from to began ended : ℕ) → a.call ≡ Hand flight from to began ended
-    → u ≡ handing (record { flight = flight; from = from; to = to; began = began; ended = ended }) r → u ≡ turn_of a r
+pub hand_turn : (a : Asked) (r : Room) (u : Turn) (flight from to began ended user : ℕ) → a.call ≡ Hand flight from to began ended user
+    → u ≡ handing (record { flight = flight; from = from; to = to; began = began; ended = ended; user = user }) r → u ≡ turn_of a r
 unfolding turn_by turn_of
-hand_turn a r u flight from to began ended e w = simp e w
+hand_turn a r u flight from to began ended user e w = simp e w

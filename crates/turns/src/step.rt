@@ -24,7 +24,7 @@ pub fn step(
     asked: Asked,
     p: Plan,
     t: Standing,
-    words: &mut [u64; 448],
+    words: &mut [u64; 512],
     tail: &mut [u8; 512],
     medium: &mut [u8],
     cache: &mut [u8],
@@ -32,7 +32,7 @@ pub fn step(
     out: &mut [u8],
     n: usize,
 ) -> Stepped
-    requires medium_len { length medium.old ≡ 50688 }
+    requires medium_len { length medium.old ≡ 58880 }
     requires cache_len { length cache.old ≡ 32768 }
     requires buffer_len { length buffer.old ≡ 40000 }
     requires n_in_bounds { n + 94000 ≤ length out.old }
@@ -50,13 +50,14 @@ pub fn step(
         };
     }
     let call = asked.call;
-    if let Call::Hand(flight, from, to, began, ended) = call {
+    if let Call::Hand(flight, from, to, began, ended, user) = call {
         let transfer = Transfer {
             flight: flight,
             from: from,
             to: to,
             began: began,
             ended: ended,
+            user: user,
         };
         let answer = turn::hand(transfer, t, words, tail, medium, cache);
         let end = text::put_handed(out, n, answer);

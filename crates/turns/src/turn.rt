@@ -36,16 +36,17 @@ fn stage_after(answer: Answer) -> u8
 }
 
 // `F`: a fresh medium, or none.
-fn format(medium: &mut [u8], blocks: u64, pages: u64) -> Turned
-    requires { length medium.old ≡ 50688 }
-    ensures { (c : List ℕ) (s : State) → left_by result.standing medium.new c s 70 result.answer ≡ formatted blocks pages (format_of (zeros (fresh_length blocks pages)) blocks pages) }
+fn format(medium: &mut [u8], blocks: u64, pages: u64, area: u64) -> Turned
+    requires { length medium.old ≡ 58880 }
+    ensures { (c : List ℕ) (s : State) → left_by result.standing medium.new c s 70 result.answer ≡ formatted blocks pages area (format_of (zeros (fresh_length blocks pages area)) blocks pages area) }
 {
-    let n = parts::fresh_length(blocks, pages);
-    let answer = media::format::format(&mut medium[..n], blocks, pages);
+    let n = parts::fresh_length(blocks, pages, area);
+    let answer = media::format::format(&mut medium[..n], blocks, pages, area);
     let standing = Standing {
         stage: stage_after(answer),
         blocks: blocks,
         pages: pages,
+        area: area,
         bytes: n,
     };
     Turned {
@@ -58,20 +59,21 @@ fn format(medium: &mut [u8], blocks: u64, pages: u64) -> Turned
 fn open_with(
     medium: &[u8],
     given: &mut [u8],
-    words: &mut [u64; 448],
+    words: &mut [u64; 512],
     tail: &mut [u8; 512],
     byte: u8,
     blocks: u64,
     pages: u64,
+    area: u64,
 ) -> Answer
-    ensures { leaves result (state_of words.new tail.new) medium.now given.new ≡ open_of medium.now (replicate (length given.old) byte) blocks pages }
+    ensures { leaves result (state_of words.new tail.new) medium.now given.new ≡ open_of medium.now (replicate (length given.old) byte) blocks pages area }
 {
     parts::fill(given, byte);
-    media::open::open(medium, given, words, tail, blocks, pages)
+    media::open::open(medium, given, words, tail, blocks, pages, area)
 }
 
 // Copies the words and the tail of an opened state.
-fn take_state(words: &mut [u64; 448], tail: &mut [u8; 512], from: &[u64; 448], block: &[u8; 512])
+fn take_state(words: &mut [u64; 512], tail: &mut [u8; 512], from: &[u64; 512], block: &[u8; 512])
     ensures { (words.new ≡ from.now) × (tail.new ≡ block.now) }
 {
     memory::copy(words, from);
@@ -81,7 +83,7 @@ fn take_state(words: &mut [u64; 448], tail: &mut [u8; 512], from: &[u64; 448], b
 // `O` and `o`: opens with a cache of so many bytes; the room takes cache and state over where the opening is accepted.
 fn open(
     t: Standing,
-    words: &mut [u64; 448],
+    words: &mut [u64; 512],
     tail: &mut [u8; 512],
     medium: &[u8],
     cache: &mut [u8],
@@ -89,7 +91,7 @@ fn open(
     bytes: usize,
     byte: u8,
 ) -> Turned
-    requires medium_len { length medium.now ≡ 50688 }
+    requires medium_len { length medium.now ≡ 58880 }
     requires cache_len { length cache.old ≡ 32768 }
     requires buffer_len { length buffer.old ≡ 40000 }
     requires bytes_bound { bytes ≤ 40000 }
@@ -97,7 +99,7 @@ fn open(
     ensures { (letter : ℕ) → left_by result.standing medium.now cache.new (state_of words.new tail.new) letter result.answer ≡ opening letter (room_of t medium.now cache.old (state_of words.old tail.old)) (replicate bytes byte) }
 {
     let m = parts::medium_part(t);
-    let mut given = [0u64; 448];
+    let mut given = [0u64; 512];
     let mut block = [0u8; 512];
     let answer = open_with(
         &medium[..m],
@@ -107,6 +109,7 @@ fn open(
         byte,
         t.blocks,
         t.pages,
+        t.area,
     );
     if text::refusal(answer) != 0 {
         return Turned {
@@ -140,7 +143,7 @@ fn cut(t: Standing) -> Turned
 
 // `Z`: one byte of the medium, where it has it.
 fn poke(t: Standing, medium: &mut [u8], offset: u64, byte: u8) -> Turned
-    requires { length medium.old ≡ 50688 }
+    requires { length medium.old ≡ 58880 }
     ensures { (c : List ℕ) (s : State) → left_by result.standing medium.new c s 90 result.answer ≡ moves 90 (poked (room_of t medium.old c s) offset byte) }
 {
     let m = parts::medium_part(t);
@@ -160,7 +163,7 @@ fn poke(t: Standing, medium: &mut [u8], offset: u64, byte: u8) -> Turned
 // The calls that change a store.
 fn change(
     asked: Asked,
-    words: &mut [u64; 448],
+    words: &mut [u64; 512],
     tail: &mut [u8; 512],
     medium: &mut [u8],
     cache: &mut [u8],
@@ -178,8 +181,8 @@ fn change(
         Call::Erase(number, key) => {
             writes::erase::erase(words, tail, medium, cache, number, key)
         }
-        Call::Commit(number, clock) => {
-            transactions::commit::commit(words, tail, medium, cache, number, clock)
+        Call::Commit(number, clock, user) => {
+            transactions::commit::commit(words, tail, medium, cache, number, clock, user)
         }
         Call::Abort(number) => transactions::abort::abort(words, tail, medium, cache, number),
         Call::StoreLog => stores::store_log::store_log(words, tail, medium, cache),
@@ -193,12 +196,12 @@ fn change(
 fn make(
     asked: Asked,
     t: Standing,
-    words: &mut [u64; 448],
+    words: &mut [u64; 512],
     tail: &mut [u8; 512],
     medium: &mut [u8],
     cache: &mut [u8],
 ) -> Turned
-    requires medium_len { length medium.old ≡ 50688 }
+    requires medium_len { length medium.old ≡ 58880 }
     requires cache_len { length cache.old ≡ 32768 }
     requires call_value { (plan_of asked.call).looks ≡ false }
     requires bound { 3 ≤ stage_of t }
@@ -217,12 +220,12 @@ fn make(
 pub fn hand(
     asked: Transfer,
     t: Standing,
-    words: &mut [u64; 448],
+    words: &mut [u64; 512],
     tail: &mut [u8; 512],
     medium: &mut [u8],
     cache: &mut [u8],
 ) -> HandAnswer
-    requires medium_len { length medium.old ≡ 50688 }
+    requires medium_len { length medium.old ≡ 58880 }
     requires cache_len { length cache.old ≡ 32768 }
     requires bound { 3 ≤ stage_of t }
     ensures { record { room = room_of t medium.new cache.new (state_of words.new tail.new); text = handed_text result } ≡ handing asked (room_of t medium.old cache.old (state_of words.old tail.old)) }
@@ -245,13 +248,13 @@ pub fn turn(
     asked: Asked,
     p: Plan,
     t: Standing,
-    words: &mut [u64; 448],
+    words: &mut [u64; 512],
     tail: &mut [u8; 512],
     medium: &mut [u8],
     cache: &mut [u8],
     buffer: &mut [u8],
 ) -> Turned
-    requires medium_len { length medium.old ≡ 50688 }
+    requires medium_len { length medium.old ≡ 58880 }
     requires cache_len { length cache.old ≡ 32768 }
     requires buffer_len { length buffer.old ≡ 40000 }
     requires p_value { p ≡ plan_of asked.call }
@@ -265,7 +268,7 @@ pub fn turn(
     }
     let call = asked.call;
     match call {
-        Call::Format(blocks, pages) => format(medium, blocks, pages),
+        Call::Format(blocks, pages, area) => format(medium, blocks, pages, area),
         Call::Open(byte) => {
             let n = parts::right_length(t.pages);
             open(t, words, tail, medium, cache, buffer, n, byte)

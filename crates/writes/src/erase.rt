@@ -7,7 +7,7 @@ ghost use Rattle.memory.specs.Memory.{state_of};
 use store::Answer;
 
 pub fn erase(
-    words: &mut [u64; 448],
+    words: &mut [u64; 512],
     tail: &mut [u8; 512],
     medium: &mut [u8],
     cache: &mut [u8],

@@ -24,7 +24,7 @@ pub enum Passed {
 
 // The questions put to a write or an erase.
 fn asks(
-    words: &[u64; 448],
+    words: &[u64; 512],
     tail: &[u8; 512],
     medium: &[u8],
     cache: &[u8],
@@ -68,7 +68,7 @@ fn slot_or_none(f: Found) -> u64
 
 // Counts the new version of the transaction in place i, whose record the tail took.
 fn count_version(words: &mut [u64], tail: &[u8], i: u64)
-    requires words_len { (length words.old ≡ 448) × (length tail.now ≡ 512) }
+    requires words_len { (length words.old ≡ 512) × (length tail.now ≡ 512) }
     requires i_bound { (i < 64) × (get_or words.old 2 0 < 960) }
     ensures { state_of words.new tail.now ≡ written (state_of words.old tail.now) i (record { medium = tail.now; tail = tail.now; end = (state_of words.old tail.now).end; saved = (state_of words.old tail.now).saved }) }
 {
@@ -80,7 +80,7 @@ fn count_version(words: &mut [u64], tail: &[u8], i: u64)
 
 // Logs the version, puts it into its slot and counts it.
 fn step(
-    words: &mut [u64; 448],
+    words: &mut [u64; 512],
     tail: &mut [u8; 512],
     medium: &mut [u8],
     cache: &mut [u8],
@@ -113,7 +113,7 @@ fn step(
 
 // Adds a version of either kind.
 pub(crate) fn add(
-    words: &mut [u64; 448],
+    words: &mut [u64; 512],
     tail: &mut [u8; 512],
     medium: &mut [u8],
     cache: &mut [u8],
@@ -142,7 +142,7 @@ pub(crate) fn add(
 }
 
 pub fn write(
-    words: &mut [u64; 448],
+    words: &mut [u64; 512],
     tail: &mut [u8; 512],
     medium: &mut [u8],
     cache: &mut [u8],

@@ -47,10 +47,10 @@ impl Filler {
     }
 
     pub fn format(&mut self) {
-        self.call(Line::Format {
-            log_blocks: self.size.log_blocks as u64,
-            pages: self.size.pages as u64,
-        });
+        self.call(Line::Format(Sizes::plain(
+            self.size.log_blocks as u64,
+            self.size.pages as u64,
+        )));
         self.call(Line::Open { fill: 0 });
     }
 
@@ -58,7 +58,11 @@ impl Filler {
     pub fn commit(&mut self, n: usize) {
         let number = self.call(Line::Begin { clock: 0 });
         self.write(number, n);
-        self.call(Line::Commit { number, clock: 0 });
+        self.call(Line::Commit {
+            number,
+            clock: 0,
+            user: 0,
+        });
     }
 
     pub fn write(&mut self, number: u64, n: usize) {

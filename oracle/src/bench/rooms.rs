@@ -89,10 +89,7 @@ impl Rooms {
     fn format(&mut self) -> Line {
         self.opened = self.clock;
         self.desks.clear();
-        Line::Format {
-            log_blocks: MAX_LOG_BLOCKS as u64,
-            pages: MAX_PAGES as u64,
-        }
+        Line::Format(Sizes::plain(MAX_LOG_BLOCKS as u64, MAX_PAGES as u64))
     }
 
     fn cut(&mut self) -> Line {
@@ -191,6 +188,7 @@ impl Rooms {
         Line::Commit {
             number,
             clock: self.clock,
+            user: 0,
         }
     }
 }

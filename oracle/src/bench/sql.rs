@@ -91,12 +91,12 @@ fn asked_statement(line: &Line, answer: u64) -> String {
         );
     }
     match *line {
-        Line::Format { .. } => {
+        Line::Format(_) => {
             "DELETE FROM versions;DELETE FROM commits;DELETE FROM open;COMMIT;BEGIN;".into()
         }
         Line::Cut => "ROLLBACK;BEGIN;DELETE FROM open;".into(),
         Line::Begin { clock } => format!("INSERT INTO open VALUES({answer},{clock});"),
-        Line::Commit { number, clock } => format!(
+        Line::Commit { number, clock, .. } => format!(
             "INSERT INTO commits SELECT tx,max(clock,{clock},1+ifnull((SELECT max(time) FROM \
              commits),0)) FROM open WHERE tx={number} RETURNING time;\
              DELETE FROM open WHERE tx={number};"
@@ -111,7 +111,7 @@ fn told_statement(line: &Line, answer: u64) -> String {
         return format!("INSERT INTO versions VALUES({answer},{version},{number});");
     }
     match *line {
-        Line::Format { .. } => "DELETE FROM versions;DELETE FROM commits;COMMIT;BEGIN;".into(),
+        Line::Format(_) => "DELETE FROM versions;DELETE FROM commits;COMMIT;BEGIN;".into(),
         Line::Cut => "ROLLBACK;BEGIN;".into(),
         Line::Commit { number, .. } if answer > 0 => {
             format!("INSERT INTO commits VALUES({number},{answer});")

@@ -8,6 +8,7 @@ use crate::store::rules::Sound;
 /// What an edit works on: a medium copied from a sound history.
 pub struct Damaged<'a> {
     pub bytes: Vec<u8>,
+    pub sizes: Sizes,
     pub log_blocks: usize,
     pub pages: usize,
     pub random: &'a mut Random,
@@ -22,7 +23,7 @@ impl Damaged<'_> {
     }
 
     fn survey(&self) -> Survey<'_, Sound> {
-        Survey::of(&self.bytes, self.log_blocks, self.pages)
+        Survey::of(&self.bytes, self.sizes)
     }
 
     fn records(&self) -> Vec<Place> {
@@ -111,6 +112,9 @@ pub const EDITS: [fn(&mut Damaged); 18] = [
     odd_field,
     random_bytes,
 ];
+
+/// Where users are recorded, these as well.
+pub const USER_EDITS: [fn(&mut Damaged); 4] = [user_line, user_line, user_record, user_blocks];
 
 fn master_field(damaged: &mut Damaged) {
     let at = damaged.below(64);
@@ -345,7 +349,7 @@ fn next_number_last(damaged: &mut Damaged) {
 /// A pair twice in the table, twice in the log, or in both, with one time or two.
 fn second_pair(damaged: &mut Damaged) {
     let commit = |record: &Record| matches!(record, Record::Commit { .. });
-    let Some((_, Record::Commit { number, time })) = damaged.pick_record(commit) else {
+    let Some((_, Record::Commit { number, time, .. })) = damaged.pick_record(commit) else {
         return;
     };
     let place = BLOCK + damaged.below(TABLE_PLACES) * PAIR_BYTES;
@@ -396,5 +400,86 @@ fn random_bytes(damaged: &mut Damaged) {
     let from = damaged.below(BLOCK);
     for at in start + from..start + BLOCK {
         damaged.bytes[at] = damaged.random.draw() as u8;
+    }
+}
+
+/// A line near the last one that has no time or other zeros, does not rise, is above the last time, is
+/// missing or comes too late; or one of another user, which is sound.
+fn user_line(damaged: &mut Damaged) {
+    let (lines, last, time) = {
+        let survey = damaged.survey();
+        (survey.lines, survey.last_line, survey.last_time)
+    };
+    let back = damaged.below(4);
+    let line = match damaged.below(3) {
+        0 => lines + back,
+        1 => lines.saturating_sub(1 + back),
+        _ => damaged.below(lines + 1),
+    };
+    if line >= damaged.sizes.user_lines() {
+        return;
+    }
+    let first = damaged.sizes.line_block(0) * BLOCK;
+    let at = first + line * LINE_BYTES;
+    match damaged.below(7) {
+        0 => put64(&mut damaged.bytes, at, 0),
+        1 => {
+            let zero = damaged.below(4);
+            damaged.bytes[at + 12 + zero] ^= 1 << damaged.random.below(8);
+        }
+        2 if line > 0 => {
+            let before = get64(&damaged.bytes, at - LINE_BYTES);
+            let number = before.wrapping_add(damaged.random.below(3)).wrapping_sub(1);
+            put64(&mut damaged.bytes, at, number);
+        }
+        3 => put64(
+            &mut damaged.bytes,
+            at,
+            time.wrapping_add(damaged.random.below(2)),
+        ),
+        4 => damaged.bytes[at..at + LINE_BYTES].fill(0),
+        5 => put64(&mut damaged.bytes, at, last.wrapping_add(1).min(time)),
+        _ => {
+            let user = damaged.random.draw() as User;
+            put32(&mut damaged.bytes, at + 8, user);
+        }
+    }
+}
+
+/// A commit record with the other tag, length or user.
+fn user_record(damaged: &mut Damaged) {
+    let commit = |record: &Record| matches!(record, Record::Commit { .. });
+    let Some((at, record)) = damaged.pick_record(commit) else {
+        return;
+    };
+    match damaged.below(4) {
+        0 => damaged.bytes[at] ^= COMMIT_TAG ^ USER_COMMIT_TAG,
+        1 => damaged.bytes[at + 1] ^= 4,
+        2 if record.bytes() == USER_COMMIT_BYTES => {
+            // The last record of its block becomes one without a user.
+            let start = at / BLOCK * BLOCK;
+            let end = at + USER_COMMIT_BYTES;
+            if get16(&damaged.bytes, start + 8) as usize == end - start {
+                damaged.bytes[at] = COMMIT_TAG;
+                put16(&mut damaged.bytes, at + 1, 16);
+                damaged.bytes[end - 4..end].fill(0);
+                put16(&mut damaged.bytes, start + 8, (end - start - 4) as u16);
+            }
+        }
+        _ if record.bytes() == USER_COMMIT_BYTES => {
+            let user = damaged.random.draw() as User;
+            put32(&mut damaged.bytes, at + FIELD_HEADER + 16, user);
+        }
+        _ => {}
+    }
+}
+
+/// The master names another number of blocks, or none.
+fn user_blocks(damaged: &mut Damaged) {
+    let blocks = damaged.random.below(18) as u16;
+    match damaged.below(3) {
+        0 => put16(&mut damaged.bytes, MASTER_USER_BLOCKS, blocks),
+        1 => damaged.bytes[MASTER_USERS_TAG..MASTER_USER_BLOCKS + 2].fill(0),
+        _ => damaged.bytes[MASTER_USERS_TAG + damaged.random.below(3) as usize] ^= 1,
     }
 }

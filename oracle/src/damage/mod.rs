@@ -2,8 +2,8 @@
 
 pub mod edits;
 
-use crate::damage::edits::{Damaged, EDITS};
-use crate::history::profiles::by_seed;
+use crate::damage::edits::{Damaged, EDITS, USER_EDITS};
+use crate::history::profiles::{by_seed, with_users, Profile};
 use crate::history::History;
 use crate::judge::{demand, Verdict};
 use crate::random::Random;
@@ -18,7 +18,7 @@ use std::panic::{catch_unwind, AssertUnwindSafe};
 #[derive(Clone, Copy, Default, Debug)]
 pub struct Tally {
     pub accepted: u64,
-    pub refused: [u64; 11],
+    pub refused: [u64; 12],
 }
 
 impl Tally {
@@ -39,18 +39,23 @@ const SNAPSHOT_EVERY: u64 = 20;
 const COPIES_OF_EACH: u64 = 12;
 
 /// The media of one history, from the last formatting on.
-fn media(seed: u64) -> (Machine<Sound>, Vec<Vec<u8>>) {
+fn media(seed: u64, profile: &'static Profile) -> (Machine<Sound>, Vec<Vec<u8>>) {
     let mut machine = Machine::default();
     if seed.is_multiple_of(5) {
-        crowd(&mut machine);
+        let user_blocks = profile.user_blocks.last().copied().unwrap_or(0);
+        let sizes = Sizes {
+            user_blocks,
+            ..CROWDED
+        };
+        crowd(&mut machine, sizes);
         let medium = machine.medium.clone();
         return (machine, vec![medium; 4]);
     }
-    let mut history = History::new(seed, by_seed(seed));
+    let mut history = History::new(seed, profile);
     let mut snapshots = Vec::new();
     for call in 0..CALLS {
         let line = history.next_line(&machine);
-        if matches!(line, Line::Format { .. }) {
+        if matches!(line, Line::Format(_)) {
             snapshots.clear();
         }
         machine.call(&line);
@@ -62,13 +67,12 @@ fn media(seed: u64) -> (Machine<Sound>, Vec<Vec<u8>>) {
     (machine, snapshots)
 }
 
+pub const CROWDED: Sizes = Sizes::plain(32, 64);
+
 /// 64 live commits, and aborted numbers whose versions wait as well.
-pub fn crowd<R: Rules>(machine: &mut Machine<R>) {
+pub fn crowd<R: Rules>(machine: &mut Machine<R>, sizes: Sizes) {
     let places = TABLE_PLACES as u64;
-    machine.call(&Line::Format {
-        log_blocks: 32,
-        pages: 64,
-    });
+    machine.call(&Line::Format(sizes));
     machine.call(&Line::Open { fill: 0 });
     for number in 1..=places + 4 {
         machine.call(&Line::Begin { clock: 1 });
@@ -83,7 +87,11 @@ pub fn crowd<R: Rules>(machine: &mut Machine<R>) {
         }
     }
     for number in 5..=places + 4 {
-        machine.call(&Line::Commit { number, clock: 9 });
+        machine.call(&Line::Commit {
+            number,
+            clock: 9,
+            user: number as User,
+        });
     }
     machine.call(&Line::StoreLog);
 }
@@ -92,8 +100,7 @@ pub fn crowd<R: Rules>(machine: &mut Machine<R>) {
 fn pairs_for_aborted(damaged: &mut Damaged) {
     let state = {
         let mut cache = vec![0; BLOCK * damaged.pages];
-        let sizes = (damaged.log_blocks as u64, damaged.pages as u64);
-        match open::<Sound>(&damaged.bytes, &mut cache, sizes.0, sizes.1) {
+        match open::<Sound>(&damaged.bytes, &mut cache, damaged.sizes) {
             Ok(state) => state,
             Err(_) => return,
         }
@@ -112,18 +119,32 @@ fn pairs_for_aborted(damaged: &mut Damaged) {
     let block = block_mut(&mut damaged.bytes, tail);
     for number in (1..=count).take((BLOCK - used) / COMMIT_BYTES) {
         time += 1;
-        put_record(block, used, &Record::Commit { number, time });
+        put_record(
+            block,
+            used,
+            &Record::Commit {
+                number,
+                time,
+                user: None,
+            },
+        );
         used += COMMIT_BYTES;
     }
     put16(block, 8, used as u16);
 }
 
-/// Damages every medium of a seed's history in many ways and opens each.
+/// Damages every medium of a seed's histories in many ways and opens each.
 pub fn run_seed(seed: u64) -> Verdict<Tally> {
-    let (machine, snapshots) = media(seed);
+    let mut tally = run_profile(seed, by_seed(seed))?;
+    tally.add(&run_profile(seed, with_users(seed))?);
+    Ok(tally)
+}
+
+fn run_profile(seed: u64, profile: &'static Profile) -> Verdict<Tally> {
+    let (machine, snapshots) = media(seed, profile);
     let mut random = Random::new(seed ^ 0xdada);
     let mut tally = Tally::default();
-    let sizes = (machine.log_blocks, machine.pages);
+    let sizes = machine.sizes;
     for medium in &snapshots {
         let round = COPIES_OF_EACH * EDITS.len() as u64;
         for copy in 0..round {
@@ -140,7 +161,7 @@ pub fn run_seed(seed: u64) -> Verdict<Tally> {
 pub fn damage(
     medium: &[u8],
     old: &[u8],
-    (log_blocks, pages): (u64, u64),
+    sizes: Sizes,
     random: &mut Random,
     turn: usize,
 ) -> Vec<u8> {
@@ -151,11 +172,16 @@ pub fn damage(
     );
     let mut damaged = Damaged {
         bytes: medium.to_vec(),
-        log_blocks: log_blocks as usize,
-        pages: pages as usize,
+        sizes,
+        log_blocks: sizes.log_blocks as usize,
+        pages: sizes.pages as usize,
         random,
     };
-    match turn % (EDITS.len() + 3) {
+    let mut edits = EDITS.to_vec();
+    if sizes.user_blocks > 0 {
+        edits.extend(USER_EDITS);
+    }
+    match turn % (edits.len() + 3) {
         0 => block_mut(&mut damaged.bytes, one).copy_from_slice(block(old, one)),
         1 => {
             let first = block(medium, one);
@@ -164,23 +190,23 @@ pub fn damage(
         }
         2 => pairs_for_aborted(&mut damaged),
         edit => {
-            EDITS[edit - 3](&mut damaged);
+            edits[edit - 3](&mut damaged);
             if damaged.random.percent(10) {
-                let second = damaged.random.below(EDITS.len() as u64) as usize;
-                EDITS[second](&mut damaged);
+                let second = damaged.random.below(edits.len() as u64) as usize;
+                edits[second](&mut damaged);
             }
         }
     }
     damaged.bytes
 }
 
-fn open_damaged(medium: &[u8], (log_blocks, pages): (u64, u64), tally: &mut Tally) -> Verdict<()> {
+fn open_damaged(medium: &[u8], sizes: Sizes, tally: &mut Tally) -> Verdict<()> {
     let before = medium.to_vec();
-    let mut cache = vec![0x5a; BLOCK * pages as usize];
-    let mut other = vec![0; BLOCK * pages as usize];
+    let mut cache = vec![0x5a; sizes.cache_bytes()];
+    let mut other = vec![0; sizes.cache_bytes()];
     let opened = catch_unwind(AssertUnwindSafe(|| {
-        let first = open::<Sound>(medium, &mut cache, log_blocks, pages);
-        (first, open::<Sound>(medium, &mut other, log_blocks, pages))
+        let first = open::<Sound>(medium, &mut cache, sizes);
+        (first, open::<Sound>(medium, &mut other, sizes))
     }));
     let (first, second) = opened.map_err(|_| "opening panics".to_string())?;
     demand(medium == before, || "the medium changed".into())?;
@@ -213,11 +239,12 @@ fn go_on(mut state: State, mut medium: Vec<u8>, mut cache: Vec<u8>) -> Verdict<(
             for record in 0..40 {
                 let _ = write::<Sound>(state, medium, cache, (number, 250 + record), &[1; 16]);
             }
-            let _ = commit::<Sound>(state, medium, cache, number, 7);
+            let _ = commit::<Sound>(state, medium, cache, number, (7, 7));
         }
         let _ = crate::store::journal::store_log::<Sound>(state, medium, cache);
         let _ = crate::store::pages::store_page::<Sound>(state, medium, cache, 0);
-        for _ in 0..3 {
+        let calls = if state.user_blocks > 0 { 6 } else { 3 };
+        for _ in 0..calls {
             let _ = crate::store::checkpoint::checkpoint::<Sound>(state, medium, cache);
         }
         let _ = crate::store::chain::as_of::<Sound>(state, medium, cache, 3, state.stored_time);

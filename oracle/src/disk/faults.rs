@@ -176,7 +176,7 @@ fn no_access(launch: &mut Launch) -> Result<u64, String> {
 
 fn lengths(launch: &Launch) -> Result<u64, String> {
     let path = launch.setup.memory.join("long");
-    let longest = medium_of(MAX_LOG_BLOCKS, MAX_PAGES);
+    let longest = medium_of(LONGEST);
     for more in [1, 511, 512, 1 << 30] {
         place(&path, Some(&longest))?;
         let file = std::fs::OpenOptions::new().write(true).open(&path);
@@ -199,9 +199,9 @@ fn lengths(launch: &Launch) -> Result<u64, String> {
     Ok(5)
 }
 
-fn medium_of(log_blocks: usize, pages: usize) -> Vec<u8> {
-    let mut medium = vec![0; medium_bytes(log_blocks, pages)];
-    medium[..BLOCK].copy_from_slice(&master((log_blocks, pages), 1, 1, 0));
+fn medium_of(sizes: Sizes) -> Vec<u8> {
+    let mut medium = vec![0; sizes.medium_bytes()];
+    medium[..BLOCK].copy_from_slice(&master(sizes, 1, 1, 0));
     medium
 }
 

@@ -6,13 +6,13 @@ use crate::store::layout::*;
 /// A file of a length that no medium has, or of a medium's with other bytes, and lines for it.
 pub fn odd(seed: u64) -> (Vec<u8>, Vec<u8>) {
     let random = &mut Random::new(seed ^ 0x0dd);
-    let sizes = (random.within((2, 4)), random.within((1, 3)));
+    let sizes = Sizes::plain(random.within((2, 4)), random.within((1, 3)));
     let file = odd_file(seed, sizes, random);
     let text = odd_lines(file.len() as u64, sizes, random);
     (file, text.into_bytes())
 }
 
-fn odd_file(seed: u64, sizes: (u64, u64), random: &mut Random) -> Vec<u8> {
+fn odd_file(seed: u64, sizes: Sizes, random: &mut Random) -> Vec<u8> {
     let lengths = [
         0, 1, 9, 511, 512, 513, 700, 1024, 3071, 3072, 3073, 50687, 50688,
     ];
@@ -24,14 +24,16 @@ fn odd_file(seed: u64, sizes: (u64, u64), random: &mut Random) -> Vec<u8> {
     let mut file: Vec<u8> = (0..length).map(|_| random.draw() as u8).collect();
     if random.percent(60) && length >= BLOCK {
         file.fill(0);
-        let master = master((sizes.0 as usize, sizes.1 as usize), 1, 1, 0);
-        file[..BLOCK].copy_from_slice(&master);
+        file[..BLOCK].copy_from_slice(&master(sizes, 1, 1, 0));
     }
     file
 }
 
 /// Lines for any file, a format, and more lines over new processes.
-fn odd_lines(length: u64, (log_blocks, pages): (u64, u64), random: &mut Random) -> String {
+fn odd_lines(length: u64, sizes: Sizes, random: &mut Random) -> String {
+    let Sizes {
+        log_blocks, pages, ..
+    } = sizes;
     let mut text = String::new();
     for _ in 0..14 {
         let near = (length + 3).saturating_sub(random.below(600));

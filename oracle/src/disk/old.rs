@@ -8,10 +8,10 @@ use crate::media::going_on::go_on;
 use crate::media::old::{is_old, kept, play, random, widths};
 use crate::media::probe;
 use crate::random::Random;
-use crate::script::machine::Machine;
+use crate::script::machine::{named_sizes, Machine};
 use crate::script::put_line;
 use crate::script::words::lines;
-use crate::store::layout::{get16, Width, MASTER_LOG_BLOCKS, MASTER_PAGES};
+use crate::store::layout::Width;
 use crate::store::widths::Before;
 use std::path::Path;
 
@@ -95,7 +95,7 @@ fn medium(
     let mut session = Session::new(setup, &path)?;
     play_lines(&mut session, &text)?;
     let written = std::fs::read(&path).map_err(|error| error.to_string())?;
-    let blocks = widths(&written, sizes(&written));
+    let blocks = widths(&written, named_sizes(&written));
     let both = |block: &&Vec<Width>| block.contains(&Width::One) && block.contains(&Width::Two);
     tally.both += blocks.iter().filter(both).count();
     tally.written += gone_on.versions.len();
@@ -113,11 +113,6 @@ fn medium(
     session.end()?;
     tally.counts.add(&session.counts);
     Ok(())
-}
-
-fn sizes(medium: &[u8]) -> (u64, u64) {
-    let named = |at| get16(medium, at).into();
-    (named(MASTER_LOG_BLOCKS), named(MASTER_PAGES))
 }
 
 fn play_lines(session: &mut Session, text: &[u8]) -> Result<(), String> {

@@ -58,7 +58,7 @@ impl<R: Rules> RoomOf<R> {
         let Some(line) = parse(line) else {
             return nothing;
         };
-        let formats = matches!(line, Line::Format { .. });
+        let formats = matches!(line, Line::Format(_));
         if self.file.is_none() && !formats {
             return nothing;
         }
@@ -87,10 +87,9 @@ impl<R: Rules> RoomOf<R> {
             return false;
         };
         let machine = &self.machine;
-        let sizes = (machine.log_blocks, machine.pages);
-        let known = !machine.medium.is_empty() && sizes == named_sizes(&machine.medium);
+        let known = !machine.medium.is_empty() && machine.sizes == named_sizes(&machine.medium);
         match line {
-            Line::Format { .. } => true,
+            Line::Format(_) => true,
             Line::Cut => known,
             // A refused opening leaves open what is.
             Line::Open { .. } | Line::OpenSized { .. } if machine.state.is_some() => {
@@ -129,6 +128,7 @@ fn without_bytes(line: &Line) -> Reply {
         Line::Cut | Line::Poke { .. } => Reply::Answer(0),
         Line::ShowBlock { .. } => Reply::ShownBlock(None),
         Line::ShowPage { .. } => Reply::ShownPage(None),
+        Line::ShowUser { .. } => Reply::ShownUser(None),
         _ => Reply::Ended,
     }
 }

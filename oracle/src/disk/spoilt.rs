@@ -66,8 +66,8 @@ impl Program {
     pub fn spoil_room<R: Rules>(&self, room: &mut RoomOf<R>) {
         let machine = &mut room.machine;
         if self.is(Spoilt::SizesFromLength) {
-            let others = FIRST_LOG_BLOCK as u64 + machine.log_blocks;
-            machine.pages = ((machine.medium.len() / BLOCK) as u64).saturating_sub(others);
+            let others = FIRST_LOG_BLOCK as u64 + machine.sizes.log_blocks;
+            machine.sizes.pages = ((machine.medium.len() / BLOCK) as u64).saturating_sub(others);
         }
     }
 

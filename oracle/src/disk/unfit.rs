@@ -61,7 +61,7 @@ pub fn files(launch: &Launch, damaged: u64) -> Result<u64, String> {
     let mut files = Vec::new();
     for seed in 0..damaged {
         let machine = medium(seed);
-        let (bytes, sizes) = (machine.medium, (machine.log_blocks, machine.pages));
+        let (bytes, sizes) = (machine.medium, machine.sizes);
         let length = bytes.len();
         for cut in [0, 1, 300, 511, 512, 513, length - BLOCK, length - 1] {
             files.push(bytes[..cut].to_vec());

@@ -9,8 +9,9 @@ use crate::history::{count_committed, History};
 use crate::judge::{Judge, Strictness};
 use crate::script::machine::{Line, Reply};
 use crate::script::put_line;
+use crate::store::lines::is_missing;
 use crate::store::rules::Rules;
-use crate::store::state::{REFUSALS, TIME_AHEAD};
+use crate::store::state::{Checkpoint, REFUSALS, TIME_AHEAD};
 use std::panic::{catch_unwind, AssertUnwindSafe};
 
 /// Handovers of some histories.
@@ -51,6 +52,11 @@ pub struct Reached {
     pub asked_again: u64,
     /// Versions of records from 256 on.
     pub high_records: u64,
+    /// The most user lines on a medium, and the most missing at once.
+    pub lines: usize,
+    pub missing: usize,
+    /// Cuts with some of a checkpoint's user lines stored.
+    pub torn_lines: u64,
     pub handovers: Handovers,
 }
 
@@ -109,6 +115,9 @@ impl Reached {
         self.unstored += other.unstored;
         self.asked_again += other.asked_again;
         self.high_records += other.high_records;
+        self.lines = self.lines.max(other.lines);
+        self.missing = self.missing.max(other.missing);
+        self.torn_lines += other.torn_lines;
         self.handovers.add(&other.handovers);
     }
 }
@@ -135,6 +144,7 @@ pub fn run_seed<R: Rules>(
         lines.push(line);
         let table = table_numbers(&judge);
         let torn = line == Line::Cut && under_way(&judge);
+        let torn_lines = line == Line::Cut && between_lines(&judge);
         let rows = judge.book.rows().len();
         let medium = match line {
             Line::Hand(_) => judge.machine.medium.clone(),
@@ -150,6 +160,7 @@ pub fn run_seed<R: Rules>(
                     reached.handovers.note(&reply, stored, added);
                 }
                 reached.torn += u64::from(torn);
+                reached.torn_lines += u64::from(torn_lines);
                 reached.places_reused += reused(&table, &table_numbers(&judge));
                 reached.begun_over_dead += u64::from(begun_over_dead(&judge, &line, &reply));
                 continue;
@@ -164,7 +175,12 @@ pub fn run_seed<R: Rules>(
 
 fn under_way<R: Rules>(judge: &Judge<R>) -> bool {
     let state = judge.machine.state.as_ref();
-    state.is_some_and(|state| state.checkpoint != crate::store::state::Checkpoint::None)
+    state.is_some_and(|state| state.checkpoint != Checkpoint::None)
+}
+
+fn between_lines<R: Rules>(judge: &Judge<R>) -> bool {
+    let state = judge.machine.state.as_ref();
+    state.is_some_and(|state| matches!(state.checkpoint, Checkpoint::LinesStored { .. }))
 }
 
 fn table_numbers<R: Rules>(judge: &Judge<R>) -> Vec<u64> {
@@ -207,6 +223,10 @@ fn observe<R: Rules>(reached: &mut Reached, judge: &Judge<R>, line: &Line, reply
     reached.table_pairs = reached.table_pairs.max(pairs);
     if let Some(state) = &judge.machine.state {
         reached.live_commits = reached.live_commits.max(count_committed(state));
+        let places = state.places.iter();
+        let missing = places.filter(|place| is_missing::<R>(state, place)).count();
+        reached.missing = reached.missing.max(missing);
+        reached.lines = reached.lines.max(state.lines);
         let opened = matches!(line, Line::Open { .. }) && matches!(reply, Reply::Answer(_));
         let empty = state.tail_used == crate::store::layout::LOG_HEADER && state.tail_sequence > 1;
         reached.none_matched += u64::from(opened && empty);

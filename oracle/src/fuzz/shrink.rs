@@ -22,7 +22,7 @@ pub fn failure<R: Rules>(lines: &[Line], strictness: Strictness) -> Option<(usiz
 
 /// Leaves out lines and whole transactions as long as the history still fails.
 pub fn shrink<R: Rules>(lines: &[Line], strictness: Strictness) -> Vec<Line> {
-    let is_format = |line: &Line| matches!(line, Line::Format { .. });
+    let is_format = |line: &Line| matches!(line, Line::Format(_));
     let start = lines.iter().rposition(is_format).unwrap_or(0);
     let Some(mut kept) = failing::<R>(lines[start..].to_vec(), strictness) else {
         return lines.to_vec();

@@ -24,7 +24,7 @@ fn hand_checked(
             let strip = owned_by(handover.to, strip);
             store.write(number, handover.flight, strip)
         })
-        .and_then(|_| store.commit(number, handover.ended));
+        .and_then(|_| store.commit(number, handover.ended, handover.user));
     give_up_refused(store, number, handed)
 }
 
@@ -114,7 +114,7 @@ impl Rules for NoAbort {
         let read = store.current_read(number, handover.flight)?;
         let strip = owned_by(handover.to, check(read, handover)?);
         store.write(number, handover.flight, strip)?;
-        store.commit(number, handover.ended)
+        store.commit(number, handover.ended, handover.user)
     }
 }
 

@@ -4,7 +4,7 @@ pub mod boards;
 
 use crate::script::machine::{Line, Reply};
 use crate::store::chain::Strip;
-use crate::store::layout::{RecordNumber, Value};
+use crate::store::layout::{RecordNumber, User, Value};
 use crate::store::state::{Refusal, NOT_OWNER};
 
 /// "Byte 0 of a strip is the owner, 0 for nobody".
@@ -19,6 +19,7 @@ pub struct Handover {
     /// The clocks of its begin and of its commit.
     pub began: u64,
     pub ended: u64,
+    pub user: User,
 }
 
 /// An open store, by the calls that a handover makes; it sees nothing else of it.
@@ -44,8 +45,12 @@ pub trait Store {
         }))
     }
 
-    fn commit(&mut self, number: u64, clock: u64) -> Result<u64, Refusal> {
-        answered(self.make(&Line::Commit { number, clock }))
+    fn commit(&mut self, number: u64, clock: u64, user: User) -> Result<u64, Refusal> {
+        answered(self.make(&Line::Commit {
+            number,
+            clock,
+            user,
+        }))
     }
 
     fn abort(&mut self, number: u64) -> Result<u64, Refusal> {
@@ -90,7 +95,7 @@ fn hand_under(store: &mut impl Store, number: u64, handover: &Handover) -> Resul
     let read = store.current_read(number, handover.flight)?;
     let strip = check(read, handover)?;
     store.write(number, handover.flight, owned_by(handover.to, strip))?;
-    store.commit(number, handover.ended)
+    store.commit(number, handover.ended, handover.user)
 }
 
 /// "17, is the strip present, a its owner, and neither a nor b 0?"

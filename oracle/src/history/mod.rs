@@ -13,6 +13,7 @@ use crate::random::Random;
 use crate::script::machine::{Line, Machine, MAX_BUFFER};
 use crate::store::journal::check_room;
 use crate::store::layout::*;
+use crate::store::lines;
 use crate::store::rules::{Rules, Sound};
 use crate::store::state::*;
 use std::collections::VecDeque;
@@ -77,10 +78,11 @@ impl History {
         }
     }
 
-    /// Slots, times, numbers or the log are used up for good.
+    /// Slots, times, numbers, user lines or the log are used up for good.
     fn is_dry(&self, state: &State, medium: &[u8]) -> bool {
         let log_full = !self.checkpoints && check_room(state, medium, VERSION_BYTES).is_err();
         log_full
+            || lines::check_room::<Sound>(state).is_err()
             || state.next_slot >= state.slots()
             || state.last_time == u64::MAX
             || state.next_number == u64::MAX
@@ -95,16 +97,20 @@ impl History {
             Clocks::SomeLast if self.random.percent(20) => u64::MAX - self.random.below(60),
             _ => self.random.below(50),
         };
-        Line::Format {
+        Line::Format(Sizes {
             log_blocks: self.random.within(self.profile.log_blocks),
             pages: self.random.within(self.profile.pages),
-        }
+            user_blocks: match self.profile.user_blocks {
+                [] => 0,
+                drawn => self.random.pick(drawn).copied().unwrap_or(0),
+            },
+        })
     }
 
     fn line_while_closed<R: Rules>(&mut self, machine: &Machine<R>) -> Line {
         match self.random.below(20) {
             0 => Line::Cut,
-            1 => self.wrong_cache(machine.pages),
+            1 => self.wrong_cache(machine.sizes.pages),
             _ => Line::Open {
                 fill: self.random.below(256) as u8,
             },
@@ -160,6 +166,7 @@ impl History {
                     _ => Line::Commit {
                         number,
                         clock: self.clock(state),
+                        user: self.user(),
                     },
                 }
             }
@@ -186,6 +193,7 @@ impl History {
             Kind::Commit => Line::Commit {
                 number: self.number(state),
                 clock: self.clock(state),
+                user: self.user(),
             },
             Kind::Abort => Line::Abort {
                 number: self.number(state),
@@ -204,7 +212,7 @@ impl History {
             Kind::Reopen => Line::Open {
                 fill: self.random.below(256) as u8,
             },
-            Kind::WrongCache => self.wrong_cache(machine.pages),
+            Kind::WrongCache => self.wrong_cache(machine.sizes.pages),
             Kind::Hand => self.handover(state, &machine.cache),
         }
     }
@@ -213,8 +221,23 @@ impl History {
         let clocks = (self.clock(state), self.clock(state));
         let record = self.record();
         let flight = sectors::flight(&mut self.random, record, state, cache);
+        let user = self.user();
         let random = &mut self.random;
-        Line::Hand(sectors::handover(random, flight, state, cache, clocks))
+        let handover = sectors::handover(random, flight, state, cache, clocks, user);
+        Line::Hand(handover)
+    }
+
+    /// One of a few users, where the profile has any.
+    fn user(&mut self) -> User {
+        if self.profile.user_blocks.is_empty() {
+            return 0;
+        }
+        match self.random.below(8) {
+            0 => 0,
+            1 => User::MAX,
+            2 => self.random.draw() as User,
+            user => user as User,
+        }
     }
 
     /// Mostly an active number, now and then one that is not.

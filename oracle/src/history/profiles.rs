@@ -58,12 +58,16 @@ pub enum Waves {
     Reuse,
     /// Handovers in a rush, of flights that others hold, and with cuts between them.
     Handovers,
+    /// Many short transactions, each stored and stamped, and checkpoints that store their user lines.
+    Lines,
 }
 
 pub struct Profile {
     pub name: &'static str,
     pub log_blocks: (u64, u64),
     pub pages: (u64, u64),
+    /// One of these, or none at all where no commit names a user.
+    pub user_blocks: &'static [u64],
     /// How many record numbers are in use.
     pub records: u64,
     /// How many transactions are active at once before begins become rare.
@@ -81,6 +85,7 @@ const fn profile(name: &'static str, log_blocks: (u64, u64), pages: (u64, u64)) 
         name,
         log_blocks,
         pages,
+        user_blocks: &[],
         records: 12,
         active: 6,
         clocks: Clocks::Near,
@@ -167,6 +172,66 @@ pub static PROFILES: [Profile; 15] = [
     },
 ];
 
+/// Histories with users, most of them with one block of user lines or two.
+pub static USERS: [Profile; 8] = [
+    Profile {
+        user_blocks: &[0, 1, 1, 1, 2, 2, 2, 3, 5, 16],
+        ..profile("users", (2, 8), (2, 20))
+    },
+    Profile {
+        user_blocks: &[0, 0, 1, 1, 2, 2, 16],
+        ..profile("users-mixed", (2, 32), (1, 64))
+    },
+    Profile {
+        user_blocks: &[1, 1, 2],
+        weights: [12, 14, 2, 16, 2, 3, 3, 8, 12, 12, 2, 1, 0, 3],
+        ..profile("users-small", (2, 4), (2, 8))
+    },
+    Profile {
+        user_blocks: &[1, 1, 1, 2, 2],
+        weights: [14, 14, 1, 18, 1, 2, 2, 8, 12, 14, 2, 1, 0, 4],
+        ..profile("users-full", (2, 10), (8, 30))
+    },
+    Profile {
+        user_blocks: &[2, 2, 3, 3, 4, 8],
+        records: 256,
+        active: 64,
+        waves: Waves::Lines,
+        weights: [8, 12, 1, 9, 2, 1, 1, 6, 4, 6, 1, 1, 0, 2],
+        ..profile("users-crowd", (6, 32), (16, 64))
+    },
+    Profile {
+        user_blocks: &[1, 2, 2, 3],
+        weights: [10, 14, 1, 12, 2, 2, 2, 8, 10, 20, 10, 4, 1, 3],
+        ..profile("users-cuts", (2, 8), (4, 20))
+    },
+    Profile {
+        user_blocks: &[1, 2, 2, 4],
+        records: 256,
+        active: 64,
+        waves: Waves::Torn,
+        weights: [8, 12, 1, 9, 2, 1, 1, 4, 4, 9, 4, 1, 0, 2],
+        ..profile("users-torn", (3, 12), (10, 40))
+    },
+    Profile {
+        user_blocks: &[0, 1, 1, 2, 2, 3],
+        records: 5,
+        active: 4,
+        clocks: Clocks::SomeLast,
+        waves: Waves::Handovers,
+        sectors: true,
+        weights: [4, 8, 2, 9, 2, 3, 2, 5, 6, 8, 1, 1, 0, 30],
+        ..profile("users-sectors", (2, 12), (1, 10))
+    },
+];
+
+/// Small logs that run full again and again, with user lines.
+pub static FULL_USERS: Profile = Profile {
+    user_blocks: &[1, 2, 2, 3, 4],
+    weights: [9, 40, 0, 14, 2, 0, 0, 3, 6, 5, 1, 0, 0, 3],
+    ..profile("full-users", (2, 4), (2, 16))
+};
+
 /// Small logs that run full again and again, in every phase of a checkpoint. No seed stands for it.
 pub static FULL: Profile = Profile {
     weights: [8, 50, 0, 10, 2, 0, 0, 3, 6, 4, 1, 0, 0, 3],
@@ -174,11 +239,16 @@ pub static FULL: Profile = Profile {
 };
 
 pub fn by_name(name: &str) -> Option<&'static Profile> {
-    let mut all = PROFILES.iter().chain([&FULL]);
+    let mut all = PROFILES.iter().chain(&USERS).chain([&FULL, &FULL_USERS]);
     all.find(|profile| profile.name == name)
 }
 
 /// The profile that a seed stands for where none is named.
 pub fn by_seed(seed: u64) -> &'static Profile {
     &PROFILES[(seed % PROFILES.len() as u64) as usize]
+}
+
+/// The profile with users that a seed stands for.
+pub fn with_users(seed: u64) -> &'static Profile {
+    &USERS[(seed % USERS.len() as u64) as usize]
 }

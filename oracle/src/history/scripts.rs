@@ -72,8 +72,21 @@ impl Writer {
                 put_line(&mut self.out, &Line::ShowBlock { block });
             }
         } else if self.random.percent(2) {
-            let page = self.random.below(self.machine.pages + 1);
+            let page = self.random.below(self.machine.sizes.pages + 1);
             put_line(&mut self.out, &Line::ShowPage { page });
+        }
+    }
+
+    /// Shows who made a commit, now and then.
+    fn show_user(&mut self) {
+        let state = self.machine.state.as_ref();
+        let last = state.map_or(0, |state| state.last_time);
+        if self.random.percent(12) {
+            let time = match self.random.below(8) {
+                0 => self.random.within((0, last)),
+                back => last.saturating_sub(back - 1),
+            };
+            put_line(&mut self.out, &Line::ShowUser { time });
         }
     }
 
@@ -81,7 +94,7 @@ impl Writer {
         for block in 0..(self.machine.medium.len() / BLOCK) as u64 {
             put_line(&mut self.out, &Line::ShowBlock { block });
         }
-        for page in 0..self.machine.pages.min(MAX_PAGES as u64) {
+        for page in 0..self.machine.sizes.pages.min(MAX_PAGES as u64) {
             put_line(&mut self.out, &Line::ShowPage { page });
         }
     }
@@ -89,9 +102,9 @@ impl Writer {
     /// Pokes damage into the medium, opens it, and mostly takes the damage back again.
     fn damage(&mut self) {
         let sound = self.machine.medium.clone();
-        let sizes = (self.machine.log_blocks, self.machine.pages);
+        let sizes = self.machine.sizes;
         // A damaged master may have named other sizes to a new process.
-        if sound.len() != medium_bytes(sizes.0 as usize, sizes.1 as usize) {
+        if sound.len() != sizes.medium_bytes() {
             return;
         }
         let turn = self.random.below(1000) as usize;
@@ -142,12 +155,15 @@ pub fn script_from(machine: Machine<Sound>, options: &Options) -> Vec<u8> {
     };
     for _ in 0..options.calls {
         let line = history.next_line(&writer.machine);
-        if matches!(line, Line::Format { .. }) && options.shows {
+        if matches!(line, Line::Format(_)) && options.shows {
             writer.show_all();
         }
         writer.call(&line);
         if options.shows {
             writer.show_changed();
+            if !options.profile.user_blocks.is_empty() {
+                writer.show_user();
+            }
         }
         if options.damage && writer.random.percent(8) {
             writer.damage();
@@ -212,7 +228,11 @@ fn stripbook_line(machine: &Machine<Sound>, random: &mut Random) -> Line {
             record,
             value: [random.below(256) as u8; 16],
         },
-        8..=9 => Line::Commit { number, clock },
+        8..=9 => Line::Commit {
+            number,
+            clock,
+            user: 0,
+        },
         10 if random.percent(cuts) => Line::Cut,
         _ => Line::AsOf {
             record,

@@ -48,6 +48,7 @@ pub fn handover(
     state: &State,
     cache: &[u8],
     (began, ended): (u64, u64),
+    user: User,
 ) -> Handover {
     let from = match random.below(16) {
         0 => NOBODY,
@@ -67,5 +68,6 @@ pub fn handover(
         to,
         began,
         ended,
+        user,
     }
 }

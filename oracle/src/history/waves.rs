@@ -52,6 +52,10 @@ pub fn plan(waves: Waves, state: &State, random: &mut Random) -> Plan {
             3 => cut_handovers(&mut plan, random),
             _ => tidy(&mut plan, random),
         },
+        Waves::Lines => {
+            miss_lines(&mut plan, state, random);
+            store_lines(&mut plan, random);
+        }
     }
     plan
 }
@@ -136,6 +140,44 @@ fn checkpoint(plan: &mut Plan, random: &mut Random, cut: u64) {
         }
         if random.percent(cut) {
             calls(plan, Kind::Cut, 1);
+        }
+    }
+}
+
+/// Commits of one version each, their pages stored, so that little but their lines is missing.
+fn miss_lines(plan: &mut Plan, state: &State, random: &mut Random) {
+    let places = state.places.iter();
+    let free = places.filter(|place| place.life == Life::Free).count() as u64;
+    let commits = random.below(free + 2);
+    for _ in 0..commits {
+        calls(plan, Kind::Begin, 1);
+        plan.push_back(Step::VersionOfPoorest);
+        calls(plan, Kind::Commit, 1);
+    }
+    if random.percent(90) {
+        calls(plan, Kind::StoreLog, 1);
+        let dirty = commits / 15 + random.below(4);
+        plan.extend((0..dirty).map(|_| Step::StoreDirtyPage));
+    }
+}
+
+/// A checkpoint of up to six calls, some of it or a second one behind it, with other calls between.
+fn store_lines(plan: &mut Plan, random: &mut Random) {
+    for _ in 0..1 + random.below(9) {
+        calls(plan, Kind::Checkpoint, 1);
+        match random.below(12) {
+            0 => {
+                calls(plan, Kind::Begin, 1);
+                plan.push_back(Step::VersionOfPoorest);
+                calls(plan, Kind::Commit, 1);
+                calls(plan, Kind::StoreLog, random.below(2));
+            }
+            1 => plan.push_back(Step::StoreDirtyPage),
+            2 => calls(plan, Kind::StoreLog, 1),
+            3 => calls(plan, Kind::Begin, 1),
+            4 if random.percent(50) => calls(plan, Kind::Cut, 1),
+            5 if random.percent(50) => calls(plan, Kind::Reopen, 1),
+            _ => {}
         }
     }
 }

@@ -6,6 +6,7 @@ use std::collections::HashMap;
 
 pub type Value = [u8; 16];
 pub type RecordNumber = u16;
+pub type User = u32;
 
 #[derive(Clone, Copy, PartialEq, Eq, Debug)]
 pub enum Row {
@@ -18,6 +19,7 @@ pub enum Row {
     Commit {
         number: u64,
         time: u64,
+        user: User,
     },
 }
 
@@ -111,13 +113,14 @@ impl Book {
         Some(begun.max(clock).max(next))
     }
 
-    pub fn commit(&mut self, number: u64, clock: u64, log_changed: bool) {
+    /// The user is 0 where none is recorded.
+    pub fn commit(&mut self, number: u64, clock: u64, user: User, log_changed: bool) {
         if let Some(time) = self.commit_time(number, clock) {
             if log_changed {
                 self.stored = self.rows.len();
             }
             self.commits.insert(number, (self.rows.len(), time));
-            self.rows.push(Row::Commit { number, time });
+            self.rows.push(Row::Commit { number, time, user });
         }
         self.close(number);
     }
@@ -145,6 +148,22 @@ impl Book {
 
     pub fn stored_last_time(&self) -> u64 {
         last_time(&self.rows[..self.stored])
+    }
+
+    /// Time and user of each commit row.
+    pub fn users(&self) -> impl Iterator<Item = (u64, User)> + '_ {
+        users(&self.rows)
+    }
+
+    /// Those that an opening would find if the power were cut now.
+    pub fn stored_users(&self) -> impl Iterator<Item = (u64, User)> + '_ {
+        users(&self.rows[..self.stored])
+    }
+
+    /// The user of a commit time, 0 where no commit row has it.
+    pub fn user_of(&self, wanted: u64) -> User {
+        let mut users = self.users().filter(|&(time, _)| time == wanted);
+        users.next().map_or(0, |(_, user)| user)
     }
 
     /// The row and time of a number's commit.
@@ -226,6 +245,13 @@ impl Book {
         }
         lines
     }
+}
+
+fn users(rows: &[Row]) -> impl Iterator<Item = (u64, User)> + '_ {
+    rows.iter().filter_map(|row| match *row {
+        Row::Commit { time, user, .. } => Some((time, user)),
+        Row::Version { .. } => None,
+    })
 }
 
 fn last_time(rows: &[Row]) -> u64 {

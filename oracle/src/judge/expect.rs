@@ -51,12 +51,16 @@ pub fn refusal(book: &Book, shadow: &Shadow, medium: &[u8], pages: u64, line: &L
             first_no(&[
                 (book.is_open(number), NOT_ACTIVE),
                 (!rows || book.last_time() < u64::MAX, NO_TIME_LEFT),
-                (!rows || shadow.has_room(medium, COMMIT_BYTES), LOG_FULL),
+                (
+                    !rows || shadow.has_room(medium, shadow.commit_bytes()),
+                    LOG_FULL,
+                ),
             ])
         }
         Line::Abort { number } => first_no(&[(book.is_open(number), NOT_ACTIVE)]),
         Line::OpenSized { bytes } => first_no(&[(bytes == pages * BLOCK as u64, CACHE_LENGTH)]),
         Line::StoreLog => store_log(book, shadow),
+        Line::Checkpoint => first_no(&[(shadow.has_lines_left(book), NO_LINE_LEFT)]),
         Line::StorePage { page } => store_page(book, shadow, medium, pages, page),
         _ => read(book, line),
     }
@@ -93,7 +97,7 @@ pub fn handover(
         (book.slots().count() < slots, NO_SLOT_LEFT),
         (shadow.has_room(medium, VERSION_BYTES), LOG_FULL),
         (book.last_time() < u64::MAX, NO_TIME_LEFT),
-        (written.has_room(medium, COMMIT_BYTES), LOG_FULL),
+        (written.has_room(medium, shadow.commit_bytes()), LOG_FULL),
     ])
 }
 
@@ -147,7 +151,7 @@ fn store_page(book: &Book, shadow: &Shadow, medium: &[u8], pages: u64, page: u64
     if last.is_some_and(|row| row >= book.stored()) {
         return Expected::Refused(PAGE_AHEAD);
     }
-    let first_page = medium.len() / BLOCK - pages as usize;
-    let changes = block(medium, first_page + page) != shadow.page(book, page);
+    let index = page_block(page, shadow.sizes.log_blocks as usize);
+    let changes = block(medium, index) != shadow.page(book, page);
     first_no(&[(changes, NO_CHANGE)])
 }

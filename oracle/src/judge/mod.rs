@@ -13,6 +13,7 @@ use crate::judge::shadow::Shadow;
 use crate::script::machine::{Line, Machine, Reply};
 use crate::store::chain::Strip;
 use crate::store::layout::*;
+use crate::store::lines::user_of;
 use crate::store::rules::Rules;
 use crate::store::state::*;
 
@@ -52,7 +53,7 @@ impl<R: Rules> Judge<R> {
         Judge {
             machine: Machine::default(),
             book: Book::default(),
-            shadow: Shadow::new(2),
+            shadow: Shadow::new(Sizes::plain(2, 1)),
             answered: Answered::default(),
             strictness,
             medium_before: Vec::new(),
@@ -77,9 +78,9 @@ impl<R: Rules> Judge<R> {
         if reply == Reply::Ended {
             return Ok(reply);
         }
-        if let Line::Format { log_blocks, .. } = line {
+        if let Line::Format(sizes) = line {
             self.book = Book::default();
-            self.shadow = Shadow::new(*log_blocks as usize);
+            self.shadow = Shadow::new(*sizes);
             self.answered = Answered::default();
             demand(reply == Reply::Answer(0), || format!("{reply:?}"))?;
             return self.cut_here().map(|()| reply);
@@ -92,6 +93,9 @@ impl<R: Rules> Judge<R> {
         self.answered.note(line, &reply, &self.machine);
         if !matches!(reply, Reply::Refused(_)) {
             self.feed(line, &reply)?;
+            if self.strictness == Strictness::All {
+                self.judge_lines(line)?;
+            }
         }
         self.cut_here()?;
         Ok(reply)
@@ -103,7 +107,7 @@ impl<R: Rules> Judge<R> {
             &self.book,
             &self.shadow,
             &self.medium_before,
-            self.machine.pages,
+            self.machine.sizes.pages,
             line,
         );
         let refusal = match reply {
@@ -136,7 +140,7 @@ impl<R: Rules> Judge<R> {
         }
         if let (Line::StorePage { page }, Reply::Answer(0)) = (line, reply) {
             let page = *page as usize;
-            let index = page_block(page, machine.log_blocks as usize);
+            let index = page_block(page, machine.sizes.log_blocks as usize);
             let expected = self.shadow.page(&self.book, page);
             let stored = block(&machine.medium, index) == expected;
             demand(stored && block(&machine.cache, page) == expected, || {
@@ -162,8 +166,12 @@ impl<R: Rules> Judge<R> {
             (Line::Write { .. } | Line::Erase { .. }, _) => {
                 Reply::Answer(book.slots().count() as u64)
             }
-            (Line::Commit { number, clock }, _) => {
+            (Line::Commit { number, clock, .. }, _) => {
                 Reply::Answer(book.commit_time(*number, *clock).unwrap_or(0))
+            }
+            (Line::ShowUser { time }, _) => {
+                let open = self.machine.state.is_some();
+                Reply::ShownUser(open.then(|| book.user_of(*time)))
             }
             (Line::Read { number, record }, _) => strip(book.current(*number, *record)),
             (Line::AsOf { record, time }, _) => strip(book.as_of(*record, *time)),
@@ -222,7 +230,18 @@ impl<R: Rules> Judge<R> {
                 self.book
                     .version(number, record, ERASED, [0; 16], log_changed)
             }
-            (Line::Commit { number, clock }, _) => self.book.commit(number, clock, log_changed),
+            (
+                Line::Commit {
+                    number,
+                    clock,
+                    user,
+                },
+                _,
+            ) => {
+                let user = recorded(self.machine.sizes, user);
+                self.book.commit(number, clock, user, log_changed);
+            }
+            (Line::Checkpoint, _) => self.shadow.checkpoint(&self.book),
             (Line::Abort { number }, _) => self.book.close(number),
             (Line::StoreLog, _) => self.book.store_log(),
             (Line::Cut | Line::Open { .. } | Line::OpenSized { .. }, _) => {
@@ -233,21 +252,37 @@ impl<R: Rules> Judge<R> {
         }
         if self.book.rows().len() > rows {
             self.shadow.add(match line {
-                Line::Commit { .. } => COMMIT_BYTES,
+                Line::Commit { .. } => self.shadow.commit_bytes(),
                 _ => VERSION_BYTES,
             });
         }
         match (line, &self.machine.state) {
             (Line::Open { .. } | Line::OpenSized { .. }, Some(state)) => {
                 judge_found(&self.book, state, &self.machine.cache)?;
+                judge_users::<R>(self.book.stored_users(), state, &self.machine.medium)?;
                 self.answered.ask_again(&mut self.machine)
             }
             _ => Ok(()),
         }
     }
 
+    /// User lines and the master's time follow from the rows, and the users that an open store knows.
+    fn judge_lines(&self, line: &Line) -> Verdict<()> {
+        let medium = &self.machine.medium;
+        demand(self.shadow.agrees(&self.book, medium), || {
+            "user lines or the master's time are not what the rows say".into()
+        })?;
+        match (line, &self.machine.state) {
+            (Line::Commit { .. } | Line::Checkpoint | Line::StorePage { .. }, Some(state)) => {
+                judge_users::<R>(self.book.users(), state, medium)
+            }
+            _ => Ok(()),
+        }
+    }
+
     fn log_changed(&self) -> bool {
-        let log = FIRST_LOG_BLOCK * BLOCK..page_block(0, self.machine.log_blocks as usize) * BLOCK;
+        let log =
+            FIRST_LOG_BLOCK * BLOCK..page_block(0, self.machine.sizes.log_blocks as usize) * BLOCK;
         self.machine.medium[log.clone()] != self.medium_before[log]
     }
 
@@ -259,7 +294,7 @@ impl<R: Rules> Judge<R> {
 
     fn judge_cut(&mut self) -> Verdict<()> {
         self.machine.cut_into(&mut self.probe);
-        let cache_bytes = BLOCK * self.machine.pages as usize;
+        let cache_bytes = BLOCK * self.machine.sizes.pages as usize;
         let opened = self.probe.try_open(cache_bytes, 0xee);
         let last_time = opened.map_err(|fault| format!("refused, {fault:?}"))?;
         let last = self.book.stored_last_time();
@@ -271,6 +306,9 @@ impl<R: Rules> Judge<R> {
             format!("number {} given again", state.next_number)
         })?;
         judge_found(&self.book, state, &self.probe.cache)?;
+        if self.machine.medium != self.medium_before {
+            judge_users::<R>(self.book.stored_users(), state, &self.probe.medium)?;
+        }
         // Where the call changed no byte, the others were asked of the same medium before.
         if self.machine.medium == self.medium_before {
             self.answered.ask_last_again(&mut self.probe)
@@ -299,6 +337,28 @@ fn judge_found(book: &Book, state: &State, cache: &[u8]) -> Verdict<()> {
         n += 1;
     }
     demand(n == state.next_slot, || format!("slot {n} should be empty"))
+}
+
+/// "in 01's book a commit row holds the user given too, 0 where A is 0"
+pub fn recorded(sizes: Sizes, user: User) -> User {
+    match sizes.user_blocks {
+        0 => 0,
+        _ => user,
+    }
+}
+
+/// "an opening finds these users"
+fn judge_users<R: Rules>(
+    mut users: impl Iterator<Item = (u64, User)>,
+    state: &State,
+    medium: &[u8],
+) -> Verdict<()> {
+    users.try_for_each(|(time, user)| {
+        let found = user_of::<R>(state, medium, time);
+        demand(found == user, || {
+            format!("the user of {time} is {found}, the book says {user}")
+        })
+    })
 }
 
 fn strip(found: Option<Found>) -> Reply {

@@ -5,7 +5,7 @@ use crate::handover::{owned_by, Handover, Noted, NOBODY, OWNER};
 use crate::judge::book::{Book, Row};
 use crate::judge::expect;
 use crate::judge::witness::{is_owned, Answer, Question, Witness};
-use crate::judge::{demand, strip_of, Judge, Strictness, Verdict};
+use crate::judge::{demand, recorded, strip_of, Judge, Strictness, Verdict};
 use crate::script::machine::{answer, Line, Machine, Reply};
 use crate::store::chain::Strip;
 use crate::store::layout::*;
@@ -47,7 +47,7 @@ impl<R: Rules> Judge<R> {
     fn look(&self, handover: &Handover) -> Before<R> {
         let (machine, book) = (self.machine.clone(), self.book.clone());
         let witness = Witness::new(&machine, &book, handover.flight);
-        let (medium, pages) = (&machine.medium, machine.pages);
+        let (medium, pages) = (&machine.medium, machine.sizes.pages);
         Before {
             handover: *handover,
             expected: expect::handover(&book, &self.shadow, medium, pages, handover),
@@ -229,6 +229,7 @@ impl<R: Rules> Before<R> {
         let Handover {
             flight, from, to, ..
         } = self.handover;
+        let user = recorded(self.machine.sizes, self.handover.user);
         let read = self.book.current(0, flight);
         let strip = read.filter(|found| found.kind == PRESENT);
         let strip = strip.map(|found| found.value);
@@ -244,7 +245,7 @@ impl<R: Rules> Before<R> {
             value: owned_by(to, strip.unwrap_or_default()),
         };
         let new = !self.book.has_row(number) && !self.book.is_open(number);
-        let committed = *commit == Row::Commit { number, time };
+        let committed = *commit == Row::Commit { number, time, user };
         demand(new && *version == written && committed, || {
             format!("handover: {version:?} and {commit:?} at {time}, of {read:?}")
         })

@@ -8,17 +8,42 @@ use std::collections::{HashMap, HashSet};
 
 #[derive(Clone)]
 pub struct Shadow {
-    log_blocks: usize,
+    pub sizes: Sizes,
     /// The end place of each row's record.
     ends: Vec<u64>,
     sequence: u64,
     used: usize,
+    /// How many commit rows have their line, and which time the master.
+    lines: usize,
+    master_time: u64,
+    checkpoint: Stage,
+}
+
+/// What a checkpoint call stores next.
+#[derive(Clone, Copy, PartialEq, Eq, Debug)]
+enum Stage {
+    /// None is under way.
+    Begin,
+    /// Lines of so many commit rows, or the table's first block.
+    Lines {
+        commits: usize,
+        time: u64,
+    },
+    Second {
+        time: u64,
+    },
+    Master {
+        time: u64,
+    },
 }
 
 impl Shadow {
-    pub fn new(log_blocks: usize) -> Self {
+    pub fn new(sizes: Sizes) -> Self {
         Shadow {
-            log_blocks,
+            sizes,
+            lines: 0,
+            master_time: 0,
+            checkpoint: Stage::Begin,
             ends: Vec::new(),
             sequence: 1,
             used: LOG_HEADER,
@@ -35,7 +60,7 @@ impl Shadow {
 
     pub fn has_room(&self, medium: &[u8], bytes: usize) -> bool {
         let oldest = get64(medium, MASTER_OLDEST);
-        self.fits_tail(bytes) || self.sequence + 1 < oldest + self.log_blocks as u64
+        self.fits_tail(bytes) || self.sequence + 1 < oldest + self.sizes.log_blocks
     }
 
     /// A row was added whose record has this many bytes.
@@ -51,6 +76,7 @@ impl Shadow {
     /// Unstored rows went; the tail is the last stored row's block, or empty under the oldest.
     pub fn cut(&mut self, stored: usize, medium: &[u8]) {
         self.ends.truncate(stored);
+        self.checkpoint = Stage::Begin;
         let oldest = get64(medium, MASTER_OLDEST);
         let last = self.ends.last().copied().unwrap_or(0);
         let sequence = last.saturating_sub(1) / BLOCK as u64;
@@ -61,14 +87,71 @@ impl Shadow {
         };
     }
 
-    /// Committed numbers with a version not stamped on the medium.
+    pub fn commit_bytes(&self) -> usize {
+        commit_bytes(self.sizes.user_blocks > 0)
+    }
+
+    /// "has the area space for the missing line of every commit record stored by then?" None is ever
+    /// dropped, so that they are all stored commit rows.
+    pub fn has_lines_left(&self, book: &Book) -> bool {
+        self.sizes.user_blocks == 0
+            || self.checkpoint != Stage::Begin
+            || book.stored_users().count() <= self.sizes.user_lines()
+    }
+
+    /// A checkpoint call was accepted.
+    pub fn checkpoint(&mut self, book: &Book) {
+        if self.checkpoint == Stage::Begin {
+            self.checkpoint = Stage::Lines {
+                commits: match self.sizes.user_blocks {
+                    0 => 0,
+                    _ => book.stored_users().count(),
+                },
+                time: book.stored_last_time(),
+            };
+        }
+        self.checkpoint = match self.checkpoint {
+            Stage::Lines { commits, .. } if self.lines < commits => {
+                let full = (self.lines / BLOCK_LINES + 1) * BLOCK_LINES;
+                self.lines = commits.min(full);
+                self.checkpoint
+            }
+            Stage::Begin => Stage::Begin,
+            Stage::Lines { time, .. } => Stage::Second { time },
+            Stage::Second { time } => Stage::Master { time },
+            Stage::Master { time } => {
+                self.master_time = time;
+                Stage::Begin
+            }
+        };
+    }
+
+    /// Are the master's time and the user lines what the rows say?
+    pub fn agrees(&self, book: &Book, medium: &[u8]) -> bool {
+        let mut area = vec![0; self.sizes.area_of(medium).len()];
+        let lines = area.chunks_exact_mut(LINE_BYTES);
+        for (line, (time, user)) in lines.zip(book.users()).take(self.lines) {
+            line[..8].copy_from_slice(&time.to_le_bytes());
+            line[8..12].copy_from_slice(&user.to_le_bytes());
+        }
+        area == self.sizes.area_of(medium) && get64(medium, MASTER_TIME) == self.master_time
+    }
+
+    /// Committed numbers with a version not stamped on the medium, or without their line.
     pub fn live_commits(&self, book: &Book, medium: &[u8]) -> usize {
-        let pages = &medium[page_block(0, self.log_blocks) * BLOCK..];
+        let pages = self.sizes.pages_of(medium);
         let unstamped = book.slots().enumerate().filter(|(n, found)| {
             let on_medium = slot_state(slot(pages, *n));
             found.time.is_some() && !matches!(on_medium, Slot::Stamped(_))
         });
-        let numbers: HashSet<u64> = unstamped.map(|(_, found)| found.number).collect();
+        let mut numbers: HashSet<u64> = unstamped.map(|(_, found)| found.number).collect();
+        if self.sizes.user_blocks > 0 {
+            let commits = book.rows().iter().filter_map(|row| match row {
+                Row::Commit { number, .. } => Some(*number),
+                Row::Version { .. } => None,
+            });
+            numbers.extend(commits.skip(self.lines));
+        }
         numbers.len()
     }
 

@@ -51,13 +51,17 @@ pub fn go_on(medium: &[u8]) -> Option<GoneOn> {
     let Reply::Answer(last) = player.call(Line::Open { fill: 7 }) else {
         return None;
     };
-    for page in 0..player.machine.pages {
+    for page in 0..player.machine.sizes.pages {
         player.call(Line::ShowPage { page });
     }
     let (mut versions, mut time) = (Vec::new(), None);
     if let Reply::Answer(number) = player.insist(Line::Begin { clock: last }) {
         versions = write(&mut player, number);
-        let commit = player.insist(Line::Commit { number, clock: 0 });
+        let commit = player.insist(Line::Commit {
+            number,
+            clock: 0,
+            user: 0,
+        });
         time = match commit {
             Reply::Answer(time @ 1..) => Some(time),
             _ => None,
@@ -101,7 +105,7 @@ fn write(player: &mut Player, number: u64) -> Vec<(RecordNumber, u8, Value)> {
 fn read(player: &mut Player) {
     let last = player.machine.state.as_ref();
     let last = last.map_or(0, |state| state.last_time);
-    for page in 0..player.machine.pages {
+    for page in 0..player.machine.sizes.pages {
         player.call(Line::ShowPage { page });
     }
     for record in WRITTEN.into_iter().chain([1, 2, 4, 5, RECORDS]) {

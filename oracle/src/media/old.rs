@@ -1,7 +1,7 @@
 //! Media from before request #104: those in the folder `media`, and random ones. The opening gives of them
 //! what it gave then, and the store goes on with them.
 
-use crate::damage::{crowd, damage};
+use crate::damage::{crowd, damage, CROWDED};
 use crate::history::profiles::by_seed;
 use crate::history::History;
 use crate::judge::{demand, Verdict};
@@ -65,7 +65,7 @@ pub fn play<R: Rules>(medium: &[u8], script: &[u8]) -> Vec<u8> {
 /// A medium as the store left it before the request.
 pub struct Left {
     pub medium: Vec<u8>,
-    pub sizes: (u64, u64),
+    pub sizes: Sizes,
     /// A checkpoint was under way.
     pub torn: bool,
 }
@@ -91,13 +91,13 @@ pub fn random(seed: u64) -> Vec<Left> {
     for _ in 0..CALLS {
         let line = history.next_line(&machine);
         machine.call(&line);
-        if matches!(line, Line::Format { .. }) {
+        if matches!(line, Line::Format(_)) {
             earlier.clone_from(&machine.medium);
         }
         if random.below(CUT) != 0 {
             continue;
         }
-        let sizes = (machine.log_blocks, machine.pages);
+        let sizes = machine.sizes;
         let medium = match media.len() % 2 {
             0 => machine.medium.clone(),
             _ => damage(
@@ -119,8 +119,8 @@ pub fn random(seed: u64) -> Vec<Left> {
 }
 
 fn crowds(machine: &mut Machine<Before>, random: &mut Random) -> Vec<Left> {
-    crowd(machine);
-    let (medium, sizes) = (&machine.medium, (machine.log_blocks, machine.pages));
+    crowd(machine, CROWDED);
+    let (medium, sizes) = (&machine.medium, machine.sizes);
     let copies = (0..COPIES).map(|turn| Left {
         medium: damage(medium, medium, sizes, random, turn),
         sizes,
@@ -133,12 +133,12 @@ fn under_way(state: &State) -> bool {
     state.checkpoint != Checkpoint::None
 }
 
-fn survey(medium: &[u8], (log_blocks, pages): (u64, u64)) -> Survey<'_, Sound> {
-    Survey::of(medium, log_blocks as usize, pages as usize)
+fn survey(medium: &[u8], sizes: Sizes) -> Survey<'_, Sound> {
+    Survey::of(medium, sizes)
 }
 
 /// The widths of the version records that an opening reads, by log blocks.
-pub fn widths(medium: &[u8], sizes: (u64, u64)) -> Vec<Vec<Width>> {
+pub fn widths(medium: &[u8], sizes: Sizes) -> Vec<Vec<Width>> {
     let survey = survey(medium, sizes);
     let width = |logged: Logged| match logged.record {
         Record::Version(version) => Some(version.width),
@@ -151,7 +151,7 @@ pub fn widths(medium: &[u8], sizes: (u64, u64)) -> Vec<Vec<Width>> {
 }
 
 /// No slot has a high byte, and no record of the log is under tag 3.
-pub fn is_old(medium: &[u8], sizes: (u64, u64)) -> bool {
+pub fn is_old(medium: &[u8], sizes: Sizes) -> bool {
     let pages = survey(medium, sizes).pages_on_medium().chunks_exact(BLOCK);
     let mut slots = pages.flat_map(|page| page[PAGE_HEADER..].chunks_exact(SLOT_BYTES));
     let widths = widths(medium, sizes).concat();
@@ -166,7 +166,7 @@ pub struct Counts {
     pub passed_over: u64,
     pub accepted: u64,
     /// By the condition that fails first.
-    pub refused: [u64; 11],
+    pub refused: [u64; 12],
     /// With version records in the log.
     pub logged: u64,
     /// With versions that wait, and with some that wait and are committed.
@@ -183,10 +183,10 @@ pub fn compare<R: Rules>(left: &Left, counts: &mut Counts) -> Verdict<()> {
         counts.passed_over += 1;
         return Ok(());
     }
-    let bytes = BLOCK * sizes.1 as usize;
+    let bytes = sizes.cache_bytes();
     let (mut cache, mut cache_then) = (vec![0x5a; bytes], vec![0xa5; bytes]);
-    let now = open::<R>(medium, &mut cache, sizes.0, sizes.1);
-    let then = open::<Before>(medium, &mut cache_then, sizes.0, sizes.1);
+    let now = open::<R>(medium, &mut cache, *sizes);
+    let then = open::<Before>(medium, &mut cache_then, *sizes);
     demand(now == then, || {
         let answer = |opened: &Result<State, Fault>| {
             opened

@@ -13,13 +13,14 @@ struct Foreign {
 
 type Edit = fn(&mut Foreign);
 
-const EDITS: [(&str, Edit); 12] = [
+const EDITS: [(&str, Edit); 13] = [
     ("words", Foreign::words),
     ("numbers", Foreign::numbers),
     ("phase", Foreign::phase),
     ("first changes", Foreign::first_changes),
     ("unchanged pages", Foreign::unchanged_pages),
     ("places", Foreign::places),
+    ("user lines", Foreign::user_lines),
     ("tail", Foreign::tail),
     ("stored tail", Foreign::stored_tail),
     ("oldest", Foreign::oldest),
@@ -166,6 +167,16 @@ impl Foreign {
         }
     }
 
+    /// The lines on the medium and the last one's time, and users of places.
+    fn user_lines(&mut self) {
+        let place = self.below(TABLE_PLACES);
+        let time = self.room.words[TIMES + place];
+        let (odd, lines) = (self.odd(), self.room.words[LINES + 1]);
+        self.room.words[LINES + 1] = self.pick(&[0, 1, 31, 32, 33, 64, lines, lines, odd]);
+        self.room.words[LINES + 2] = self.pick(&[0, time, time, time.wrapping_add(1), odd]);
+        self.room.words[USERS + place] = self.random.draw();
+    }
+
     fn tail(&mut self) {
         let at = self.below(BLOCK);
         match self.random.below(3) {
@@ -255,9 +266,10 @@ impl Foreign {
     fn sizes(&mut self) {
         let word = self.below(3);
         let slots = (PAGE_SLOTS * self.pages()) as u64;
-        match self.random.below(4) {
+        match self.random.below(5) {
             0 => self.room.words[2] = self.pick(&[0, slots, slots + 1, u64::MAX]),
             1 => self.room.words[word] = self.pick(&[0, 1, 2, 3, 31, 32, 33, 64, 65, u64::MAX]),
+            4 => self.room.words[LINES] = self.pick(&[0, 1, 2, 15, 16, 17, u64::MAX]),
             2 => {
                 let length = self.other_length(self.room.medium.len(), MAX_MEDIUM);
                 self.room.medium.resize(length, 7);

@@ -1,7 +1,7 @@
 //! After a refusal 8, on copies of the room: the calls of the list are made, or those that asking for
 //! the next one names, and then the refused call is made again.
 
-use super::{left_of, list, most, next, ONE_MORE};
+use super::{list, most, next};
 use crate::history::profiles::Profile;
 use crate::history::History;
 use crate::judge::{demand, Verdict};
@@ -27,12 +27,14 @@ impl<R: Rules> WayOut<R> {
 /// What made room after one refusal 8.
 #[derive(Clone, Copy, PartialEq, Eq, Debug)]
 pub struct Freed {
-    /// How many calls of the checkpoint under way had been made.
+    /// Which blocks of the checkpoint under way had been stored: none, one of the table, two, or user lines.
     pub phase: usize,
     pub stores: usize,
+    /// Those of user lines among them.
+    pub user_blocks: usize,
     /// How many stores more the list might have had.
     pub spare: usize,
-    /// Asking ends three calls earlier than the list.
+    /// Asking ends a checkpoint earlier than the list.
     pub cut_short: bool,
 }
 
@@ -50,19 +52,28 @@ pub fn judge<R: Rules>(
         return Ok(None);
     }
     let listed = (way.list)(machine);
+    if meets_nineteen(machine, &listed) {
+        return Ok(None);
+    }
     let mut calls = listed.iter().copied();
-    frees(machine, line, |_| calls.next()).map_err(|text| format!("the list: {text}"))?;
+    let (_, user_blocks) =
+        frees(machine, line, |_| calls.next()).map_err(|text| format!("the list: {text}"))?;
     let told = |room: &Machine<R>| (way.next)(room.state.as_ref()?, &room.medium, &room.cache);
-    let asked = frees(machine, line, told).map_err(|text| format!("asking: {text}"))?;
+    let (asked, _) = frees(machine, line, told).map_err(|text| format!("asking: {text}"))?;
     let cut_short = will_be_oldest(state);
-    let rest = if cut_short { ONE_MORE } else { 0 };
+    let rest = if cut_short {
+        last_checkpoint(machine, &listed)
+    } else {
+        0
+    };
     demand(asked == listed[..listed.len().saturating_sub(rest)], || {
         format!("asking: {asked:?} in place of {listed:?}, cut short: {cut_short}")
     })?;
     Ok(Some(Freed {
-        phase: (ONE_MORE - left_of(state)) % ONE_MORE,
+        phase: phase(state),
         stores: listed.len(),
-        spare: most(machine.pages) - listed.len(),
+        user_blocks,
+        spare: most(machine.sizes) + user_blocks - listed.len(),
         cut_short,
     }))
 }
@@ -71,22 +82,55 @@ pub fn judge<R: Rules>(
 fn will_be_oldest(state: &State) -> bool {
     match state.checkpoint {
         Checkpoint::None => false,
-        Checkpoint::FirstStored { oldest, .. } | Checkpoint::SecondStored { oldest, .. } => {
-            oldest == state.tail_sequence
-        }
+        Checkpoint::LinesStored { oldest, .. }
+        | Checkpoint::FirstStored { oldest, .. }
+        | Checkpoint::SecondStored { oldest, .. } => oldest == state.tail_sequence,
     }
 }
 
-/// Makes calls until none comes. Then the refused one must be accepted, and no store be left.
+fn phase(state: &State) -> usize {
+    match state.checkpoint {
+        Checkpoint::None => 0,
+        Checkpoint::FirstStored { .. } => 1,
+        Checkpoint::SecondStored { .. } => 2,
+        Checkpoint::LinesStored { .. } => 3,
+    }
+}
+
+/// "With A above 0 it holds if 19 is not met".
+fn meets_nineteen<R: Rules>(machine: &Machine<R>, calls: &[Line]) -> bool {
+    let mut room = machine.clone();
+    let mut replies = calls.iter().map(|call| room.call(call));
+    replies.any(|reply| reply == Reply::Refused(NO_LINE_LEFT))
+}
+
+/// How many of the calls are the last checkpoint.
+fn last_checkpoint<R: Rules>(machine: &Machine<R>, calls: &[Line]) -> usize {
+    let mut room = machine.clone();
+    let mut length = 0;
+    for call in calls {
+        let state = room.state.as_ref();
+        length += 1;
+        if state.is_some_and(|state| state.checkpoint == Checkpoint::None) {
+            length = usize::from(*call == Line::Checkpoint);
+        }
+        room.call(call);
+    }
+    length
+}
+
+/// Makes calls until none comes. Then the refused one must be accepted, and no store be left. Answers the
+/// calls, and how many of them changed a block of user lines.
 fn frees<R: Rules>(
     machine: &Machine<R>,
     refused: &Line,
     mut next: impl FnMut(&Machine<R>) -> Option<Line>,
-) -> Verdict<Vec<Line>> {
+) -> Verdict<(Vec<Line>, usize)> {
     let mut room = machine.clone();
-    let mut made = Vec::new();
+    let sizes = machine.sizes;
+    let (mut made, mut user_blocks) = (Vec::new(), 0);
     while let Some(call) = next(&room) {
-        demand(made.len() < most(machine.pages), || {
+        demand(made.len() <= most(sizes) + user_blocks, || {
             format!("{call:?} is one too many after {made:?}")
         })?;
         let before = room.medium.clone();
@@ -99,13 +143,17 @@ fn frees<R: Rules>(
             format!("{call:?} changes {changed} blocks")
         })?;
         made.push(call);
+        user_blocks += usize::from(sizes.area_of(&room.medium) != sizes.area_of(&before));
     }
+    demand(made.len() <= most(sizes) + user_blocks, || {
+        format!("{} calls are too many: {made:?}", made.len())
+    })?;
     let again = room.clone().call(refused);
     demand(goes_on(refused, &again), || {
         format!("{refused:?} is answered {again:?} after {made:?}")
     })?;
     all_stored(&mut room)?;
-    Ok(made)
+    Ok((made, user_blocks))
 }
 
 /// The call is done. A handover is several: where its write was refused 8, its commit may find no time
@@ -120,7 +168,7 @@ fn goes_on(refused: &Line, again: &Reply) -> bool {
 
 /// "the log if it differs, each page that differs": none does any more.
 fn all_stored<R: Rules>(room: &mut Machine<R>) -> Verdict<()> {
-    let pages = (0..room.pages).map(|page| Line::StorePage { page });
+    let pages = (0..room.sizes.pages).map(|page| Line::StorePage { page });
     for store in std::iter::once(Line::StoreLog).chain(pages) {
         let reply = room.call(&store);
         demand(reply == Reply::Refused(NO_CHANGE), || {
@@ -134,12 +182,15 @@ fn all_stored<R: Rules>(room: &mut Machine<R>) -> Verdict<()> {
 #[derive(Clone, Copy, Debug)]
 pub struct Tally {
     pub calls: u64,
-    /// Refusals 8 without a checkpoint under way, after its first call, and after its second.
-    pub full: [u64; 3],
+    /// Refusals 8 without a checkpoint under way, behind its first block of the table, its second, and user
+    /// lines.
+    pub full: [u64; 4],
     pub stores: u64,
     pub shortest: usize,
     pub longest: usize,
     pub spare: usize,
+    /// The most blocks of user lines on the way.
+    pub user_blocks: usize,
     pub cut_short: u64,
 }
 
@@ -147,11 +198,12 @@ impl Default for Tally {
     fn default() -> Self {
         Tally {
             calls: 0,
-            full: [0; 3],
+            full: [0; 4],
             stores: 0,
             shortest: usize::MAX,
             longest: 0,
             spare: usize::MAX,
+            user_blocks: 0,
             cut_short: 0,
         }
     }
@@ -164,6 +216,7 @@ impl Tally {
         self.shortest = self.shortest.min(freed.stores);
         self.longest = self.longest.max(freed.stores);
         self.spare = self.spare.min(freed.spare);
+        self.user_blocks = self.user_blocks.max(freed.user_blocks);
         self.cut_short += u64::from(freed.cut_short);
     }
 
@@ -176,6 +229,7 @@ impl Tally {
         self.shortest = self.shortest.min(other.shortest);
         self.longest = self.longest.max(other.longest);
         self.spare = self.spare.min(other.spare);
+        self.user_blocks = self.user_blocks.max(other.user_blocks);
         self.cut_short += other.cut_short;
     }
 }
@@ -183,11 +237,11 @@ impl Tally {
 impl fmt::Display for Tally {
     fn fmt(&self, out: &mut fmt::Formatter) -> fmt::Result {
         let all: u64 = self.full.iter().sum();
-        let [idle, first, second] = self.full;
+        let [idle, first, second, lines] = self.full;
         writeln!(
             out,
             "{all} refusals 8 in {} calls: {idle} without a checkpoint under way, {first} after its first call, {second} \
-             after its second",
+             after its second, {lines} after user lines",
             self.calls
         )?;
         if all == 0 {
@@ -195,11 +249,12 @@ impl fmt::Display for Tally {
         }
         write!(
             out,
-            "lists of {} to {} stores, {:.1} on average, the nearest {} below 1 + D + 5; {} are told without the last three",
+            "lists of {} to {} stores, {:.1} on average, the nearest {} below what they may be, up to {} of user lines; {} are told without the last checkpoint",
             self.shortest,
             self.longest,
             self.stores as f64 / all as f64,
             self.spare,
+            self.user_blocks,
             self.cut_short
         )
     }

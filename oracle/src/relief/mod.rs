@@ -8,42 +8,52 @@ pub mod rooms;
 pub mod same;
 
 use crate::script::machine::{Line, Machine, Reply};
-use crate::store::checkpoint::new_oldest;
+use crate::store::checkpoint::{self, new_oldest};
 use crate::store::journal;
 use crate::store::layout::*;
 use crate::store::pages;
 use crate::store::rules::Rules;
 use crate::store::state::*;
 
-/// "A checkpoint is three calls".
+/// "A checkpoint is three calls" where no user line is missing.
 pub const ONE_MORE: usize = 3;
 
-/// "at most 1 + D + 5 stores"
-pub fn most(pages: u64) -> usize {
-    1 + pages as usize + 5
+/// "at most 1 + D + 5 stores where A = 0. With A above 0 [..] at most 1 + D + 6 stores and one for each block
+/// of user lines stored on the way": without those.
+pub fn most(sizes: Sizes) -> usize {
+    let last = if sizes.user_blocks > 0 { 6 } else { 5 };
+    1 + sizes.pages as usize + last
 }
 
 /// The whole list, for a running store.
 pub fn list<R: Rules>(machine: &Machine<R>) -> Vec<Line> {
     let mut copy = machine.clone();
-    let pages = (0..machine.pages).map(|page| Line::StorePage { page });
+    let pages = (0..machine.sizes.pages).map(|page| Line::StorePage { page });
     // A store counts when those before it are made. One that differs from nothing changes nothing.
     let mut calls: Vec<Line> = std::iter::once(Line::StoreLog)
         .chain(pages)
         .filter(|store| copy.call(store) != Reply::Refused(NO_CHANGE))
         .collect();
-    let left = machine.state.as_ref().map_or(0, left_of);
-    calls.extend(vec![Line::Checkpoint; left + ONE_MORE]);
+    calls.extend(finish(&mut copy));
+    calls.push(Line::Checkpoint);
+    copy.call(&Line::Checkpoint);
+    calls.extend(finish(&mut copy));
     calls
 }
 
-/// How many calls finish the checkpoint under way.
-pub fn left_of(state: &State) -> usize {
-    match state.checkpoint {
-        Checkpoint::None => 0,
-        Checkpoint::FirstStored { .. } => 2,
-        Checkpoint::SecondStored { .. } => 1,
+/// Makes and answers the calls that finish the checkpoint under way.
+fn finish<R: Rules>(machine: &mut Machine<R>) -> Vec<Line> {
+    let mut calls = Vec::new();
+    let under_way = |machine: &Machine<R>| {
+        let state = machine.state.as_ref();
+        state.is_some_and(|state| state.checkpoint != Checkpoint::None)
+    };
+    // A sound one has at most two blocks of user lines left, and the three stores of table and master.
+    while under_way(machine) && calls.len() < TABLE_PLACES {
+        calls.push(Line::Checkpoint);
+        machine.call(&Line::Checkpoint);
     }
+    calls
 }
 
 /// The next call of the list, from what stands there now; none where nothing is left.
@@ -59,7 +69,8 @@ pub fn next<R: Rules>(state: &State, medium: &[u8], cache: &[u8]) -> Option<Line
     }
     let under_way = state.checkpoint != Checkpoint::None;
     let moves = new_oldest(state) != get64(medium, MASTER_OLDEST);
-    (under_way || moves).then_some(Line::Checkpoint)
+    let accepted = checkpoint::check::<R>(state, medium, cache).is_ok();
+    (accepted && (under_way || moves)).then_some(Line::Checkpoint)
 }
 
 /// A room whose list is as long as can be, with the call that was refused 8. From two pages on: with one
@@ -75,13 +86,7 @@ pub fn longest<R: Rules>(pages: u64) -> (Machine<R>, Line) {
         record: record as RecordNumber,
         value: [record as u8; 16],
     };
-    let mut lines = vec![
-        Line::Format {
-            log_blocks: 2,
-            pages,
-        },
-        Line::Open { fill: 0 },
-    ];
+    let mut lines = vec![Line::Format(Sizes::plain(2, pages)), Line::Open { fill: 0 }];
     lines.extend((1..2 * slots).map(|_| Line::Begin { clock }));
     for page in 0..pages - 1 {
         // From a full tail on, the log takes half a page before it is freed, and not a whole one.
@@ -94,7 +99,11 @@ pub fn longest<R: Rules>(pages: u64) -> (Machine<R>, Line) {
     lines.push(Line::Checkpoint);
     lines.extend((slots + 1..2 * slots).map(|number| write(number, number)));
     // The versions of the last page leave room for some of the commits, and never for all.
-    lines.extend((1..2 * slots).map(|number| Line::Commit { number, clock }));
+    lines.extend((1..2 * slots).map(|number| Line::Commit {
+        number,
+        clock,
+        user: 0,
+    }));
     let refused = write(2 * slots - 1, 200);
     for line in &lines {
         machine.call(line);

@@ -1,4 +1,4 @@
-//! A room as the program `relief` is given it and prints it: the lengths of medium and cache, the 448
+//! A room as the program `relief` is given it and prints it: the lengths of medium and cache, the 512
 //! words that hold the state, the tail, the medium and the cache. Any words hold a state.
 
 use crate::script::machine::Line;
@@ -11,18 +11,20 @@ use crate::store::pages::store_page;
 use crate::store::rules::Sound;
 use crate::store::state::*;
 
-pub const WORDS: usize = 448;
+pub const WORDS: usize = 512;
 pub const MAX_CACHE: usize = BLOCK * MAX_PAGES;
 
-// Where the words lie that are not a number of the state: the checkpoint under way, the first changes of
-// the pages, and a row for each part of a place.
+// Where the words lie that are not a number of the state: the checkpoint under way, the user lines, the
+// first changes of the pages, and a row for each part of a place.
 pub const PHASE: usize = 8;
+pub const LINES: usize = 11;
 pub const FIRSTS: usize = 64;
 pub const KINDS: usize = 128;
 pub const NUMBERS: usize = 192;
 pub const TIMES: usize = 256;
 pub const ENDS: usize = 320;
 pub const COUNTS: usize = 384;
+pub const USERS: usize = 448;
 
 pub type Words = [u64; WORDS];
 
@@ -52,6 +54,9 @@ impl Room {
         State {
             log_blocks: words[0] as usize,
             pages: words[1] as usize,
+            user_blocks: words[LINES] as usize,
+            lines: words[LINES + 1] as usize,
+            last_line: words[LINES + 2],
             next_slot: words[2] as usize,
             next_number: words[3],
             last_time: words[4],
@@ -145,7 +150,8 @@ fn take_word(input: &mut &[u8]) -> Option<u64> {
 /// Kind 1 is active, with its clock as the time, 2 committed, any other free.
 fn place_in(words: &Words, i: usize) -> Place {
     let (number, time) = (words[NUMBERS + i], words[TIMES + i]);
-    let life = match words[KINDS + i] {
+    let kind = words[KINDS + i];
+    let life = match kind {
         1 => Life::Active {
             number,
             clock: time,
@@ -160,15 +166,20 @@ fn place_in(words: &Words, i: usize) -> Place {
     Place {
         life,
         waiting: words[COUNTS + i],
+        user: match kind {
+            2 => words[USERS + i] as User,
+            _ => 0,
+        },
     }
 }
 
-/// Kind 1 is after the first store, 2 after the second, any other none.
+/// Kind 1 is after the table's first block, 2 after its second, 3 after user lines, any other none.
 fn checkpoint_in(words: &Words) -> Checkpoint {
     let (oldest, time) = (words[PHASE + 1], words[PHASE + 2]);
     match words[PHASE] {
         1 => Checkpoint::FirstStored { oldest, time },
         2 => Checkpoint::SecondStored { oldest, time },
+        3 => Checkpoint::LinesStored { oldest, time },
         _ => Checkpoint::None,
     }
 }
@@ -186,7 +197,10 @@ pub fn lay(words: &mut Words, state: &State) {
         state.search_from as u64,
     ]);
     match state.checkpoint {
-        Checkpoint::None => lay_none(&mut words[PHASE]),
+        Checkpoint::None => lay_none(&mut words[PHASE], &[1, 2, 3]),
+        Checkpoint::LinesStored { oldest, time } => {
+            words[PHASE..PHASE + 3].copy_from_slice(&[3, oldest, time]);
+        }
         Checkpoint::FirstStored { oldest, time } => {
             words[PHASE..PHASE + 3].copy_from_slice(&[1, oldest, time]);
         }
@@ -194,6 +208,11 @@ pub fn lay(words: &mut Words, state: &State) {
             words[PHASE..PHASE + 3].copy_from_slice(&[2, oldest, time]);
         }
     }
+    words[LINES..LINES + 3].copy_from_slice(&[
+        state.user_blocks as u64,
+        state.lines as u64,
+        state.last_line,
+    ]);
     words[FIRSTS..FIRSTS + MAX_PAGES].copy_from_slice(&state.first_changed);
     for (i, place) in state.places.iter().enumerate() {
         lay_place(words, i, place);
@@ -203,7 +222,7 @@ pub fn lay(words: &mut Words, state: &State) {
 fn lay_place(words: &mut Words, i: usize, place: &Place) {
     words[COUNTS + i] = place.waiting;
     match place.life {
-        Life::Free => lay_none(&mut words[KINDS + i]),
+        Life::Free => lay_none(&mut words[KINDS + i], &[1, 2]),
         Life::Active { number, clock } => {
             (words[KINDS + i], words[NUMBERS + i]) = (1, number);
             words[TIMES + i] = clock;
@@ -211,13 +230,17 @@ fn lay_place(words: &mut Words, i: usize, place: &Place) {
         Life::Committed { number, time, end } => {
             (words[KINDS + i], words[NUMBERS + i]) = (2, number);
             (words[TIMES + i], words[ENDS + i]) = (time, end);
+            // Of its word the lower half counts.
+            if words[USERS + i] as User != place.user {
+                words[USERS + i] = place.user.into();
+            }
         }
     }
 }
 
-/// A kind that is neither 1 nor 2.
-fn lay_none(kind: &mut u64) {
-    if matches!(kind, 1 | 2) {
+/// A kind that is none of these.
+fn lay_none(kind: &mut u64, others: &[u64]) {
+    if others.contains(kind) {
         *kind = 0;
     }
 }

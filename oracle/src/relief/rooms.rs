@@ -4,7 +4,7 @@
 use super::foreign::edited;
 use super::longest;
 use super::room::{lay, Room, WORDS};
-use crate::history::profiles::{by_seed, Profile, FULL};
+use crate::history::profiles::{by_seed, with_users, Profile, FULL, FULL_USERS};
 use crate::history::History;
 use crate::random::Random;
 use crate::script::machine::{Machine, Reply};
@@ -33,7 +33,9 @@ pub fn rooms(seed: u64) -> Vec<Sample> {
     let mut random = Random::new(!seed);
     let mut samples = Vec::new();
     gather(seed, &FULL, SMALL, &mut random, &mut samples);
+    gather(seed, &FULL_USERS, SMALL, &mut random, &mut samples);
     gather(seed, by_seed(seed), LARGE, &mut random, &mut samples);
+    gather(seed, with_users(seed), LARGE, &mut random, &mut samples);
     // 2 to 64
     let pages = 64 - seed % 63;
     let (machine, _) = longest::<Sound>(pages);

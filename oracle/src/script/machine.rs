@@ -6,6 +6,7 @@ use crate::store::checkpoint::checkpoint;
 use crate::store::format::format;
 use crate::store::journal::store_log;
 use crate::store::layout::*;
+use crate::store::lines::user_of;
 use crate::store::open::{open, Fault};
 use crate::store::pages::store_page;
 use crate::store::rules::Rules;
@@ -20,10 +21,7 @@ pub const UNTOUCHED: u8 = 170;
 /// One line of the script language.
 #[derive(Clone, Copy, PartialEq, Eq, Debug)]
 pub enum Line {
-    Format {
-        log_blocks: u64,
-        pages: u64,
-    },
+    Format(Sizes),
     Open {
         fill: u8,
     },
@@ -50,6 +48,7 @@ pub enum Line {
     Commit {
         number: u64,
         clock: u64,
+        user: User,
     },
     Abort {
         number: u64,
@@ -76,6 +75,9 @@ pub enum Line {
     ShowPage {
         page: u64,
     },
+    ShowUser {
+        time: u64,
+    },
     Poke {
         offset: u64,
         byte: u8,
@@ -96,12 +98,12 @@ pub enum Reply {
     },
     ShownBlock(Option<usize>),
     ShownPage(Option<usize>),
+    ShownUser(Option<User>),
 }
 
 #[derive(Clone)]
 pub struct Machine<R: Rules> {
-    pub log_blocks: u64,
-    pub pages: u64,
+    pub sizes: Sizes,
     /// Empty as long as no formatting was accepted.
     pub medium: Vec<u8>,
     pub state: Option<State>,
@@ -116,8 +118,7 @@ pub struct Machine<R: Rules> {
 impl<R: Rules> Default for Machine<R> {
     fn default() -> Self {
         Machine {
-            log_blocks: 0,
-            pages: 0,
+            sizes: Sizes::default(),
             medium: Vec::new(),
             state: None,
             cache: Vec::new(),
@@ -129,21 +130,26 @@ impl<R: Rules> Default for Machine<R> {
 }
 
 /// The sizes that a medium's master names, 0 if it has none.
-pub fn named_sizes(medium: &[u8]) -> (u64, u64) {
-    let named = |at| match medium.len() {
-        0..BLOCK => 0,
-        _ => get16(medium, at).into(),
-    };
-    (named(MASTER_LOG_BLOCKS), named(MASTER_PAGES))
+pub fn named_sizes(medium: &[u8]) -> Sizes {
+    if medium.len() < BLOCK {
+        return Sizes::default();
+    }
+    let named = |at| get16(medium, at).into();
+    Sizes {
+        log_blocks: named(MASTER_LOG_BLOCKS),
+        pages: named(MASTER_PAGES),
+        user_blocks: match medium[MASTER_USERS_TAG] {
+            6 => named(MASTER_USER_BLOCKS),
+            _ => 0,
+        },
+    }
 }
 
 impl<R: Rules> Machine<R> {
     /// A machine on a medium that is there already, with the sizes that its master names.
     pub fn loaded(medium: Vec<u8>) -> Self {
-        let (log_blocks, pages) = named_sizes(&medium);
         Machine {
-            log_blocks,
-            pages,
+            sizes: named_sizes(&medium),
             medium,
             ..Machine::default()
         }
@@ -151,9 +157,9 @@ impl<R: Rules> Machine<R> {
 
     pub fn call(&mut self, line: &Line) -> Reply {
         match *line {
-            Line::Format { log_blocks, pages } => self.format(log_blocks, pages),
+            Line::Format(sizes) => self.format(sizes),
             _ if self.medium.is_empty() => Reply::Ended,
-            Line::Open { fill } => self.open(BLOCK * self.pages as usize, fill),
+            Line::Open { fill } => self.open(self.sizes.cache_bytes(), fill),
             Line::OpenSized { bytes } => self.open(bytes as usize, 0),
             Line::Cut => {
                 self.end();
@@ -164,8 +170,12 @@ impl<R: Rules> Machine<R> {
                 Reply::ShownBlock((block < blocks as u64).then_some(block as usize))
             }
             Line::ShowPage { page } => {
-                let shown = self.state.is_some() && page < self.pages;
+                let shown = self.state.is_some() && page < self.sizes.pages;
                 Reply::ShownPage(shown.then_some(page as usize))
+            }
+            Line::ShowUser { time } => {
+                let state = self.state.as_ref();
+                Reply::ShownUser(state.map(|state| user_of::<R>(state, &self.medium, time)))
             }
             Line::Poke { offset, byte } => {
                 if offset < self.medium.len() as u64 {
@@ -178,16 +188,15 @@ impl<R: Rules> Machine<R> {
         }
     }
 
-    fn format(&mut self, log_blocks: u64, pages: u64) -> Reply {
+    fn format(&mut self, sizes: Sizes) -> Reply {
         (self.state, self.rules) = (None, R::default());
         self.medium.clear();
-        if sizes_in_range(log_blocks, pages) {
-            let bytes = medium_bytes(log_blocks as usize, pages as usize);
-            self.medium.resize(bytes, 0);
+        if sizes.in_range() {
+            self.medium.resize(sizes.medium_bytes(), 0);
         }
-        match format(&mut self.medium, log_blocks, pages) {
+        match format(&mut self.medium, sizes) {
             Ok(()) => {
-                (self.log_blocks, self.pages) = (log_blocks, pages);
+                self.sizes = sizes;
                 Reply::Answer(0)
             }
             Err(refusal) => Reply::Refused(refusal),
@@ -205,8 +214,7 @@ impl<R: Rules> Machine<R> {
     pub fn try_open(&mut self, cache_bytes: usize, fill: u8) -> Result<u64, Fault> {
         self.opening.clear();
         self.opening.resize(cache_bytes, fill);
-        let (log_blocks, pages) = (self.log_blocks, self.pages);
-        let mut state = open::<R>(&self.medium, &mut self.opening, log_blocks, pages)?;
+        let mut state = open::<R>(&self.medium, &mut self.opening, self.sizes)?;
         self.end();
         self.rules.put_back(&mut state);
         let last_time = state.last_time;
@@ -224,7 +232,7 @@ impl<R: Rules> Machine<R> {
 
     /// Makes another machine what this one would be if the power were cut now.
     pub fn cut_into(&self, other: &mut Self) {
-        (other.log_blocks, other.pages) = (self.log_blocks, self.pages);
+        other.sizes = self.sizes;
         other.medium.clone_from(&self.medium);
         other.state.clone_from(&self.state);
         other.rules = self.rules.clone();
@@ -252,9 +260,11 @@ impl<R: Rules> Machine<R> {
             Line::Read { number, record } => strip(chain::current_read::<R>(
                 state, medium, cache, number, record,
             )),
-            Line::Commit { number, clock } => {
-                answer(commit::<R>(state, medium, cache, number, clock))
-            }
+            Line::Commit {
+                number,
+                clock,
+                user,
+            } => answer(commit::<R>(state, medium, cache, number, (clock, user))),
             Line::Abort { number } => done(abort(state, medium, cache, number)),
             Line::AsOf { record, time } => {
                 strip(chain::as_of::<R>(state, medium, cache, record, time))

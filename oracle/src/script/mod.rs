@@ -31,6 +31,7 @@ pub fn letter(line: &Line) -> u8 {
         Line::Checkpoint => b'K',
         Line::ShowBlock { .. } => b'M',
         Line::ShowPage { .. } => b'V',
+        Line::ShowUser { .. } => b'U',
         Line::Poke { .. } => b'Z',
     }
 }
@@ -47,8 +48,9 @@ pub fn parse(line: &[u8]) -> Option<Line> {
     }
     let rest = rest.strip_prefix(b" ")?;
     match letter {
-        b'O' | b'o' | b'B' | b'A' | b'P' | b'M' | b'V' => parse_one(letter, rest),
-        b'F' | b'E' | b'R' | b'C' | b'Q' | b'Z' => parse_two(letter, rest),
+        b'O' | b'o' | b'B' | b'A' | b'P' | b'M' | b'V' | b'U' => parse_one(letter, rest),
+        b'E' | b'R' | b'Q' | b'Z' => parse_two(letter, rest),
+        b'F' | b'C' => parse_two_or_three(letter, rest),
         b'W' => {
             let [tx, record, value] = words(rest)?;
             Some(Line::Write {
@@ -58,13 +60,18 @@ pub fn parse(line: &[u8]) -> Option<Line> {
             })
         }
         b'H' => {
-            let [flight, from, to, began, ended] = words(rest)?;
+            let with_user = words::<6>(rest);
+            let [flight, from, to, began, ended] = match with_user {
+                Some([handover @ .., _]) => handover,
+                None => words(rest)?,
+            };
             Some(Line::Hand(Handover {
                 flight: record_number(flight)?,
                 from: byte(from)?,
                 to: byte(to)?,
                 began: number(began)?,
                 ended: number(ended)?,
+                user: with_user.map_or(Some(0), |words| user(words[5]))?,
             }))
         }
         b'L' => {
@@ -90,6 +97,7 @@ fn parse_one(letter: u8, word: &[u8]) -> Option<Line> {
         b'P' => Line::StorePage { page: only },
         b'M' => Line::ShowBlock { block: only },
         b'V' => Line::ShowPage { page: only },
+        b'U' => Line::ShowUser { time: only },
         _ => return None,
     })
 }
@@ -97,10 +105,6 @@ fn parse_one(letter: u8, word: &[u8]) -> Option<Line> {
 fn parse_two(letter: u8, rest: &[u8]) -> Option<Line> {
     let [first, second] = words(rest)?;
     Some(match letter {
-        b'F' => Line::Format {
-            log_blocks: number(first)?,
-            pages: number(second)?,
-        },
         b'E' => Line::Erase {
             number: number(first)?,
             record: record_number(second)?,
@@ -108,10 +112,6 @@ fn parse_two(letter: u8, rest: &[u8]) -> Option<Line> {
         b'R' => Line::Read {
             number: number(first)?,
             record: record_number(second)?,
-        },
-        b'C' => Line::Commit {
-            number: number(first)?,
-            clock: number(second)?,
         },
         b'Q' => Line::AsOf {
             record: record_number(first)?,
@@ -125,7 +125,30 @@ fn parse_two(letter: u8, rest: &[u8]) -> Option<Line> {
     })
 }
 
-/// Writes a line as `parse` reads it.
+/// The third word is about users, and 0 where it is missing.
+fn parse_two_or_three(letter: u8, rest: &[u8]) -> Option<Line> {
+    let [first, second, third] = match words(rest) {
+        Some(words) => words,
+        None => {
+            let [first, second] = words(rest)?;
+            [first, second, b"0"]
+        }
+    };
+    Some(match letter {
+        b'F' => Line::Format(Sizes {
+            log_blocks: number(first)?,
+            pages: number(second)?,
+            user_blocks: number(third)?,
+        }),
+        _ => Line::Commit {
+            number: number(first)?,
+            clock: number(second)?,
+            user: user(third)?,
+        },
+    })
+}
+
+/// Writes a line as `parse` reads it, without a last word that is 0 where it may be missing.
 pub fn put_line(out: &mut Vec<u8>, line: &Line) {
     out.push(letter(line));
     let (numbers, count) = numbers(line);
@@ -146,36 +169,49 @@ pub fn put_line(out: &mut Vec<u8>, line: &Line) {
 }
 
 /// The decimal words of a line, and how many they are.
-fn numbers(line: &Line) -> ([u64; 5], usize) {
+fn numbers(line: &Line) -> ([u64; 6], usize) {
+    let with_last = |last: u64| usize::from(last > 0);
     match *line {
-        Line::Cut | Line::StoreLog | Line::Checkpoint => ([0; 5], 0),
-        Line::Open { fill } => ([fill.into(), 0, 0, 0, 0], 1),
+        Line::Cut | Line::StoreLog | Line::Checkpoint => ([0; 6], 0),
+        Line::Open { fill } => ([fill.into(), 0, 0, 0, 0, 0], 1),
         Line::OpenSized { bytes: only }
         | Line::Begin { clock: only }
         | Line::Abort { number: only }
         | Line::StorePage { page: only }
         | Line::ShowBlock { block: only }
         | Line::ShowPage { page: only }
-        | Line::Poke { offset: only, .. } => ([only, 0, 0, 0, 0], 1),
+        | Line::ShowUser { time: only }
+        | Line::Poke { offset: only, .. } => ([only, 0, 0, 0, 0, 0], 1),
         Line::Write { number, record, .. }
         | Line::Erase { number, record }
-        | Line::Read { number, record } => ([number, record.into(), 0, 0, 0], 2),
-        Line::Format { log_blocks, pages } => ([log_blocks, pages, 0, 0, 0], 2),
-        Line::Commit { number, clock } => ([number, clock, 0, 0, 0], 2),
-        Line::AsOf { record, time } => ([record.into(), time, 0, 0, 0], 2),
-        Line::Hand(Handover {
-            flight,
-            from,
-            to,
-            began,
-            ended,
-        }) => ([flight.into(), from.into(), to.into(), began, ended], 5),
+        | Line::Read { number, record } => ([number, record.into(), 0, 0, 0, 0], 2),
+        Line::Format(sizes) => {
+            let last = sizes.user_blocks;
+            let words = [sizes.log_blocks, sizes.pages, last, 0, 0, 0];
+            (words, 2 + with_last(last))
+        }
+        Line::Commit {
+            number,
+            clock,
+            user,
+        } => {
+            let last = user.into();
+            ([number, clock, last, 0, 0, 0], 2 + with_last(last))
+        }
+        Line::AsOf { record, time } => ([record.into(), time, 0, 0, 0, 0], 2),
+        Line::Hand(handover) => {
+            let Handover { began, ended, .. } = handover;
+            let (from, to) = (handover.from.into(), handover.to.into());
+            let last = handover.user.into();
+            let words = [handover.flight.into(), from, to, began, ended, last];
+            (words, 5 + with_last(last))
+        }
         Line::Changes {
             record,
             from,
             to,
             bytes,
-        } => ([record.into(), from, to, bytes, 0], 4),
+        } => ([record.into(), from, to, bytes, 0, 0], 4),
     }
 }
 
@@ -202,6 +238,11 @@ pub fn put_reply<R: Rules>(out: &mut Vec<u8>, machine: &Machine<R>, line: &Line,
         Reply::Listed { lines, kept } => put_list(out, &machine.answer, lines, kept),
         Reply::ShownBlock(shown) => put_shown(out, shown.map(|i| block(&machine.medium, i))),
         Reply::ShownPage(shown) => put_shown(out, shown.map(|i| block(&machine.cache, i))),
+        Reply::ShownUser(Some(user)) => {
+            out.push(b' ');
+            put_number(out, user.into());
+        }
+        Reply::ShownUser(None) => put_shown(out, None),
     }
     out.push(b'\n');
 }

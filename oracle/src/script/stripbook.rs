@@ -3,6 +3,7 @@
 use crate::script::machine::{Line, Machine, Reply};
 use crate::script::words::*;
 use crate::store::chain::Strip;
+use crate::store::layout::Sizes;
 use crate::store::rules::Sound;
 
 pub const LOG_BLOCKS: u64 = 4;
@@ -31,6 +32,7 @@ pub fn parse(line: &[u8]) -> Option<Line> {
             Line::Commit {
                 number: number(tx)?,
                 clock: number(clock)?,
+                user: 0,
             }
         }
         b'Q' => {
@@ -47,10 +49,7 @@ pub fn parse(line: &[u8]) -> Option<Line> {
 /// A formatted and opened machine.
 pub fn machine() -> Machine<Sound> {
     let mut machine = Machine::default();
-    machine.call(&Line::Format {
-        log_blocks: LOG_BLOCKS,
-        pages: PAGES,
-    });
+    machine.call(&Line::Format(Sizes::plain(LOG_BLOCKS, PAGES)));
     machine.call(&Line::Open { fill: 0 });
     machine
 }

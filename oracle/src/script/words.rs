@@ -20,6 +20,10 @@ pub fn record_number(word: &[u8]) -> Option<u16> {
     number(word)?.try_into().ok()
 }
 
+pub fn user(word: &[u8]) -> Option<u32> {
+    number(word)?.try_into().ok()
+}
+
 fn hex_digit(digit: u8) -> Option<u8> {
     match digit {
         b'0'..=b'9' => Some(digit - b'0'),

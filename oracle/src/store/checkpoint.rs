@@ -1,6 +1,7 @@
-//! The checkpoint: table block 1, block 2, master, one store to a call.
+//! The checkpoint: the blocks of user lines that change, table block 1, block 2, master, one store to a call.
 
 use crate::store::layout::*;
+use crate::store::lines;
 use crate::store::rules::Rules;
 use crate::store::state::*;
 
@@ -9,25 +10,51 @@ pub fn checkpoint<R: Rules>(
     medium: &mut [u8],
     cache: &[u8],
 ) -> Result<(), Refusal> {
-    state.check_fit(medium, cache)?;
+    check::<R>(state, medium, cache)?;
     state.checkpoint = match state.checkpoint {
         Checkpoint::None => {
-            let (oldest, time) = (new_oldest(state), state.stored_time);
-            store_table::<R>(state, medium, 0, oldest);
-            Checkpoint::FirstStored { oldest, time }
+            let fixed = (new_oldest(state), state.stored_time);
+            store_first::<R>(state, medium, fixed)
         }
+        Checkpoint::LinesStored { oldest, time } => store_first::<R>(state, medium, (oldest, time)),
         Checkpoint::FirstStored { oldest, time } => {
             store_table::<R>(state, medium, 1, oldest);
             Checkpoint::SecondStored { oldest, time }
         }
         Checkpoint::SecondStored { oldest, time } => {
-            let sizes = (state.log_blocks, state.pages);
-            let bytes = master(sizes, oldest, state.next_number, time);
+            let bytes = master(state.sizes(), oldest, state.next_number, time);
             block_mut(medium, 0).copy_from_slice(&bytes);
             Checkpoint::None
         }
     };
+    R::after_checkpoint(state, medium);
     Ok(())
+}
+
+/// The questions of a checkpoint call.
+pub fn check<R: Rules>(state: &State, medium: &[u8], cache: &[u8]) -> Result<(), Refusal> {
+    state.check_fit(medium, cache)?;
+    match state.checkpoint {
+        Checkpoint::None => lines::check_room::<R>(state),
+        _ => Ok(()),
+    }
+}
+
+/// "stores the changed blocks of this area, lowest first, before the table".
+fn store_first<R: Rules>(
+    state: &mut State,
+    medium: &mut [u8],
+    (oldest, time): (u64, u64),
+) -> Checkpoint {
+    let due = R::due(state, time);
+    if due.is_empty() || state.lines >= state.sizes().user_lines() {
+        let (oldest, time) = R::fixed_at_table(state, (oldest, time));
+        store_table::<R>(state, medium, 0, oldest);
+        Checkpoint::FirstStored { oldest, time }
+    } else {
+        R::store_lines(state, medium, &due);
+        Checkpoint::LinesStored { oldest, time }
+    }
 }
 
 /// The least block that first changed a page not stored since, or the tail.

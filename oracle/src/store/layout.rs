@@ -16,8 +16,14 @@ pub const LOG_HEADER: usize = 10;
 pub const FIELD_HEADER: usize = 3;
 /// A version record as it is written, under tag 3.
 pub const VERSION_BYTES: usize = Width::Two.record_bytes();
+/// A commit record without a user, under tag 2, and with one, under tag 4.
 pub const COMMIT_BYTES: usize = FIELD_HEADER + 16;
 pub const COMMIT_TAG: u8 = 2;
+pub const USER_COMMIT_BYTES: usize = FIELD_HEADER + 20;
+pub const USER_COMMIT_TAG: u8 = 4;
+pub const MAX_USER_BLOCKS: usize = 16;
+pub const BLOCK_LINES: usize = 32;
+pub const LINE_BYTES: usize = 16;
 /// The most commit records that a block can hold.
 pub const BLOCK_COMMITS: usize = (BLOCK - LOG_HEADER) / COMMIT_BYTES;
 pub const SEQUENCE_LIMIT: u64 = 1 << 48;
@@ -28,6 +34,7 @@ pub const ERASED: u8 = 1;
 
 pub type Value = [u8; 16];
 pub type RecordNumber = u16;
+pub type User = u32;
 
 /// Record numbers are below this.
 pub const RECORDS: RecordNumber = 1024;
@@ -71,6 +78,12 @@ pub fn get16(bytes: &[u8], at: usize) -> u16 {
     u16::from_le_bytes([bytes[at], bytes[at + 1]])
 }
 
+pub fn get32(bytes: &[u8], at: usize) -> u32 {
+    let mut field = [0; 4];
+    field.copy_from_slice(&bytes[at..at + 4]);
+    u32::from_le_bytes(field)
+}
+
 pub fn get64(bytes: &[u8], at: usize) -> u64 {
     let mut field = [0; 8];
     field.copy_from_slice(&bytes[at..at + 8]);
@@ -81,6 +94,10 @@ pub fn put16(bytes: &mut [u8], at: usize, number: u16) {
     bytes[at..at + 2].copy_from_slice(&number.to_le_bytes());
 }
 
+pub fn put32(bytes: &mut [u8], at: usize, number: u32) {
+    bytes[at..at + 4].copy_from_slice(&number.to_le_bytes());
+}
+
 pub fn put64(bytes: &mut [u8], at: usize, number: u64) {
     bytes[at..at + 8].copy_from_slice(&number.to_le_bytes());
 }
@@ -89,16 +106,73 @@ pub fn all_zero(bytes: &[u8]) -> bool {
     bytes.iter().all(|&byte| byte == 0)
 }
 
-pub fn sizes_in_range(log_blocks: u64, pages: u64) -> bool {
-    (2..=MAX_LOG_BLOCKS as u64).contains(&log_blocks) && (1..=MAX_PAGES as u64).contains(&pages)
+/// The sizes of a medium, in blocks: its log, its pages and its user lines.
+#[derive(Clone, Copy, PartialEq, Eq, Default, Debug)]
+pub struct Sizes {
+    pub log_blocks: u64,
+    pub pages: u64,
+    pub user_blocks: u64,
 }
 
-/// The longest medium's bytes.
-pub const MAX_MEDIUM: usize = BLOCK * (FIRST_LOG_BLOCK + MAX_LOG_BLOCKS + MAX_PAGES);
+impl Sizes {
+    /// Those of a medium that records no user.
+    pub const fn plain(log_blocks: u64, pages: u64) -> Self {
+        Sizes {
+            log_blocks,
+            pages,
+            user_blocks: 0,
+        }
+    }
 
-pub fn medium_bytes(log_blocks: usize, pages: usize) -> usize {
-    BLOCK * (FIRST_LOG_BLOCK + log_blocks + pages)
+    pub fn in_range(&self) -> bool {
+        (2..=MAX_LOG_BLOCKS as u64).contains(&self.log_blocks)
+            && (1..=MAX_PAGES as u64).contains(&self.pages)
+            && self.user_blocks <= MAX_USER_BLOCKS as u64
+    }
+
+    /// In range, and those of a medium of this length?
+    pub fn fit(&self, medium: &[u8]) -> bool {
+        self.in_range() && medium.len() == self.medium_bytes()
+    }
+
+    pub fn medium_bytes(&self) -> usize {
+        BLOCK * (FIRST_LOG_BLOCK + (self.log_blocks + self.pages + self.user_blocks) as usize)
+    }
+
+    pub fn cache_bytes(&self) -> usize {
+        BLOCK * self.pages as usize
+    }
+
+    /// The pages as they lie on the medium.
+    pub fn pages_of<'a>(&self, medium: &'a [u8]) -> &'a [u8] {
+        let first = BLOCK * page_block(0, self.log_blocks as usize);
+        &medium[first..first + self.cache_bytes()]
+    }
+
+    /// The area of user lines.
+    pub fn area_of<'a>(&self, medium: &'a [u8]) -> &'a [u8] {
+        &medium[self.medium_bytes() - BLOCK * self.user_blocks as usize..]
+    }
+
+    /// How many user lines there are, empty ones too.
+    pub fn user_lines(&self) -> usize {
+        BLOCK_LINES * self.user_blocks as usize
+    }
+
+    /// The block of the medium that holds a user line.
+    pub fn line_block(&self, line: usize) -> usize {
+        page_block(self.pages as usize, self.log_blocks as usize) + line / BLOCK_LINES
+    }
 }
+
+/// The sizes of the longest medium, and its bytes.
+pub const LONGEST: Sizes = Sizes {
+    log_blocks: MAX_LOG_BLOCKS as u64,
+    pages: MAX_PAGES as u64,
+    user_blocks: MAX_USER_BLOCKS as u64,
+};
+pub const MAX_MEDIUM: usize =
+    BLOCK * (FIRST_LOG_BLOCK + MAX_LOG_BLOCKS + MAX_PAGES + MAX_USER_BLOCKS);
 
 /// The block of the medium that holds a sequence of the log.
 pub fn log_block(sequence: u64, log_blocks: usize) -> usize {
@@ -130,19 +204,28 @@ pub fn end_place(sequence: u64, offset: usize) -> u64 {
 }
 
 // Offsets of the master's contents, each behind its tag and length.
-const MASTER_FIELDS: [(u8, u16); 5] = [(1, 2), (2, 2), (3, 8), (4, 8), (5, 8)];
+const MASTER_FIELDS: [(u8, u16); 6] = [(1, 2), (2, 2), (3, 8), (4, 8), (5, 8), (6, 2)];
 pub const MASTER_LOG_BLOCKS: usize = 3;
 pub const MASTER_PAGES: usize = 8;
 pub const MASTER_OLDEST: usize = 13;
 pub const MASTER_NUMBER: usize = 24;
 pub const MASTER_TIME: usize = 35;
+/// Where the tag of the last field lies, which is missing where no user is recorded.
+pub const MASTER_USERS_TAG: usize = 43;
+pub const MASTER_USER_BLOCKS: usize = 46;
 
 /// The whole master block.
-pub fn master(sizes: (usize, usize), oldest: u64, number: u64, time: u64) -> [u8; BLOCK] {
+pub fn master(sizes: Sizes, oldest: u64, number: u64, time: u64) -> [u8; BLOCK] {
     let mut bytes = [0; BLOCK];
-    let contents = [sizes.0 as u64, sizes.1 as u64, oldest, number, time];
+    let Sizes {
+        log_blocks,
+        pages,
+        user_blocks,
+    } = sizes;
+    let contents = [log_blocks, pages, oldest, number, time, user_blocks];
+    let fields = MASTER_FIELDS.into_iter().zip(contents);
     let mut at = 0;
-    for ((tag, length), content) in MASTER_FIELDS.into_iter().zip(contents) {
+    for ((tag, length), content) in fields.take(5 + usize::from(user_blocks > 0)) {
         bytes[at] = tag;
         put16(&mut bytes, at + 1, length);
         at += FIELD_HEADER;
@@ -151,6 +234,13 @@ pub fn master(sizes: (usize, usize), oldest: u64, number: u64, time: u64) -> [u8
         at += width;
     }
     bytes
+}
+
+/// A user line: the commit time, the user, zeros. All zeros is an empty one.
+pub fn put_user_line(line: &mut [u8], time: u64, user: User) {
+    put64(line, 0, time);
+    put32(line, 8, user);
+    put32(line, 12, 0);
 }
 
 /// What a slot's state and shared field say. Codes other than 1 and 2 are no version.
@@ -224,14 +314,19 @@ pub fn put_version(cache: &mut [u8], version: &Version, end: u64) {
 #[derive(Clone, Copy, PartialEq, Eq, Debug)]
 pub enum Record {
     Version(Version),
-    Commit { number: u64, time: u64 },
+    Commit {
+        number: u64,
+        time: u64,
+        /// None under tag 2.
+        user: Option<User>,
+    },
 }
 
 impl Record {
     pub fn bytes(&self) -> usize {
         match self {
             Record::Version(version) => version.width.record_bytes(),
-            Record::Commit { .. } => COMMIT_BYTES,
+            Record::Commit { user, .. } => commit_bytes(user.is_some()),
         }
     }
 
@@ -240,6 +335,13 @@ impl Record {
             Record::Version(version) => version.number,
             Record::Commit { number, .. } => *number,
         }
+    }
+}
+
+pub fn commit_bytes(with_user: bool) -> usize {
+    match with_user {
+        true => USER_COMMIT_BYTES,
+        false => COMMIT_BYTES,
     }
 }
 
@@ -253,10 +355,14 @@ pub fn put_record(block: &mut [u8], at: usize, record: &Record) {
             header[0] = version.width.tag();
             put_version_body(body, version);
         }
-        Record::Commit { number, time } => {
+        Record::Commit { number, time, user } => {
             header[0] = COMMIT_TAG;
             put64(body, 0, *number);
             put64(body, 8, *time);
+            if let Some(user) = user {
+                header[0] = USER_COMMIT_TAG;
+                put32(body, 16, *user);
+            }
         }
     }
 }
@@ -287,6 +393,12 @@ pub fn get_record(block: &[u8], at: usize, used: usize) -> Option<Record> {
         (COMMIT_TAG, 16) => Some(Record::Commit {
             number: get64(body, 0),
             time: get64(body, 8),
+            user: None,
+        }),
+        (USER_COMMIT_TAG, 20) => Some(Record::Commit {
+            number: get64(body, 0),
+            time: get64(body, 8),
+            user: Some(get32(body, 16)),
         }),
         _ => None,
     }

@@ -1,6 +1,7 @@
 //! Stamping and storing a page.
 
 use crate::store::layout::*;
+use crate::store::lines;
 use crate::store::rules::Rules;
 use crate::store::state::*;
 
@@ -15,7 +16,7 @@ pub fn store_page<R: Rules>(
     let page = page as usize;
     block_mut(medium, page_block(page, state.log_blocks)).copy_from_slice(&stamped);
     block_mut(cache, page).copy_from_slice(&stamped);
-    drop_waiting(state, &dropped);
+    drop_waiting::<R>(state, &dropped);
     if !R::KEEP_FIRST_CHANGE {
         state.first_changed[page] = 0;
     }
@@ -78,14 +79,14 @@ fn stamp_page<R: Rules>(state: &State, page: &mut [u8], dropped: &mut [u16; TABL
     }
 }
 
-/// Lowers the waiting counts; at 0 a committed transaction is no longer live.
-fn drop_waiting(state: &mut State, dropped: &[u16; TABLE_PLACES]) {
-    for (place, &count) in state.places.iter_mut().zip(dropped) {
-        if count > 0 {
-            place.waiting = place.waiting.saturating_sub(count.into());
-            if place.waiting == 0 {
-                *place = FREE;
-            }
+/// Lowers the waiting counts; a committed transaction whose count is 0 and whose line is not missing is no
+/// longer live.
+fn drop_waiting<R: Rules>(state: &mut State, dropped: &[u16; TABLE_PLACES]) {
+    for (i, &count) in dropped.iter().enumerate().filter(|(_, &count)| count > 0) {
+        let waiting = &mut state.places[i].waiting;
+        *waiting = waiting.saturating_sub(count.into());
+        if lines::is_dead::<R>(state, &state.places[i]) {
+            state.places[i] = FREE;
         }
     }
 }
@@ -95,6 +96,6 @@ pub fn stamp_cache_and_drop(state: &mut State, cache: &mut [u8]) {
     for page in cache.chunks_exact_mut(BLOCK) {
         let mut dropped = [0u16; TABLE_PLACES];
         stamp_page::<crate::store::rules::Sound>(state, page, &mut dropped);
-        drop_waiting(state, &dropped);
+        drop_waiting::<crate::store::rules::Sound>(state, &dropped);
     }
 }

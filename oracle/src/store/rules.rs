@@ -1,12 +1,13 @@
 //! The sound store and wrong ones: the four shortcuts of document 01 that spoil a history, three stores
 //! of which request #102 is not true, since an answer as of a time may not survive a cut, and one of
 //! which #114 is not true, since its full log stays full. Wrong handovers are in `boards`, and stores
-//! that take record numbers wrongly in `widths`.
+//! that take record numbers wrongly in `widths`, or users in `users`.
 //!
 //! Each wrong one is a type, so the sound store is compiled without a trace of them.
 
 use crate::handover::{self, Handover, Store};
-use crate::store::layout::{self, Record, RecordNumber, Version, Width};
+use crate::store::layout::{self, Record, RecordNumber, User, Version, Width};
+use crate::store::lines;
 use crate::store::state::{Refusal, State};
 
 pub trait Rules: Clone + Default {
@@ -32,6 +33,42 @@ pub trait Rules: Clone + Default {
     /// Asks for the number, or for the time, before it asks for the record.
     const NUMBER_FIRST: bool = false;
     const TIME_FIRST: bool = false;
+
+    /// Request #105: of live transactions, of the lines that are missing, of what a checkpoint stores.
+    const LIVE_BY_VERSIONS: bool = false;
+    const LAST_LINE_AGAIN: bool = false;
+    const UNSTORED_LINES: bool = false;
+    const AS_MANY_AS_FIT: bool = false;
+    const UNSTORED_COUNTED: bool = false;
+    const FREED_EARLY: bool = false;
+    /// Finds a missing line at an opening only where versions wait.
+    const FOUND_BY_VERSIONS: bool = false;
+
+    /// User lines are stored by this number.
+    fn line_order(_number: u64, time: u64) -> u64 {
+        time
+    }
+
+    fn user_in_line(user: User) -> User {
+        user
+    }
+
+    /// The places whose lines a checkpoint stores before the table.
+    fn due(state: &State, last: u64) -> Vec<usize> {
+        lines::due::<Self>(state, last)
+    }
+
+    fn store_lines(state: &mut State, medium: &mut [u8], due: &[usize]) {
+        lines::store::<Self>(state, medium, due);
+    }
+
+    /// The oldest block and the time of a checkpoint, as its first call fixed them.
+    fn fixed_at_table(_state: &State, fixed: (u64, u64)) -> (u64, u64) {
+        fixed
+    }
+
+    /// What a checkpoint call does beside its store.
+    fn after_checkpoint(_state: &mut State, _medium: &mut [u8]) {}
 
     fn slot_record(slot: &[u8]) -> RecordNumber {
         layout::slot_record(slot)

@@ -24,8 +24,9 @@ pub const NO_NUMBER_LEFT: Refusal = Refusal(15);
 pub const MISFIT: Refusal = Refusal(16);
 pub const NOT_OWNER: Refusal = Refusal(17);
 pub const NO_RECORD: Refusal = Refusal(18);
+pub const NO_LINE_LEFT: Refusal = Refusal(19);
 /// As many refusals as there are, with one more for 0.
-pub const REFUSALS: usize = 19;
+pub const REFUSALS: usize = 20;
 
 #[derive(Clone, Copy, PartialEq, Eq, Debug)]
 pub enum Life {
@@ -39,25 +40,43 @@ pub enum Life {
 pub struct Place {
     pub life: Life,
     pub waiting: u64,
+    /// Of a committed one whose line is missing.
+    pub user: User,
 }
 
 pub const FREE: Place = Place {
     life: Life::Free,
     waiting: 0,
+    user: 0,
 };
 
 /// The checkpoint under way, with what its first call fixed.
 #[derive(Clone, Copy, PartialEq, Eq, Debug)]
 pub enum Checkpoint {
     None,
-    FirstStored { oldest: u64, time: u64 },
-    SecondStored { oldest: u64, time: u64 },
+    /// Some user lines, of those with times up to this one.
+    LinesStored {
+        oldest: u64,
+        time: u64,
+    },
+    FirstStored {
+        oldest: u64,
+        time: u64,
+    },
+    SecondStored {
+        oldest: u64,
+        time: u64,
+    },
 }
 
 #[derive(Clone, PartialEq, Eq, Debug)]
 pub struct State {
     pub log_blocks: usize,
     pub pages: usize,
+    pub user_blocks: usize,
+    /// How many user lines the medium has, and the time of the last one.
+    pub lines: usize,
+    pub last_line: u64,
     pub next_slot: usize,
     pub next_number: u64,
     /// The last commit time given, and the last one whose record is stored.
@@ -81,10 +100,17 @@ impl State {
         PAGE_SLOTS * self.pages
     }
 
+    pub fn sizes(&self) -> Sizes {
+        Sizes {
+            log_blocks: self.log_blocks as u64,
+            pages: self.pages as u64,
+            user_blocks: self.user_blocks as u64,
+        }
+    }
+
     /// Question 16: do the state and the buffers' lengths fit?
     pub fn check_fit(&self, medium: &[u8], cache: &[u8]) -> Result<(), Refusal> {
-        let fit = sizes_in_range(self.log_blocks as u64, self.pages as u64)
-            && medium.len() == medium_bytes(self.log_blocks, self.pages)
+        let fit = self.sizes().fit(medium)
             && cache.len() == BLOCK * self.pages
             && self.next_slot <= self.slots()
             && (LOG_HEADER..=BLOCK).contains(&self.tail_used)

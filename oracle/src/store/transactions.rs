@@ -18,7 +18,7 @@ pub fn begin(state: &mut State, medium: &[u8], cache: &[u8], clock: u64) -> Resu
     let number = state.next_number;
     state.places[found] = Place {
         life: Life::Active { number, clock },
-        waiting: 0,
+        ..FREE
     };
     state.search_from = (found + 1) % TABLE_PLACES;
     state.next_number += 1;
@@ -82,13 +82,14 @@ fn add_version<R: Rules>(
     Ok(slot)
 }
 
-/// Answers the commit time, or 0 for a transaction without versions.
+/// Answers the commit time, or 0 for a transaction without versions. The user is recorded where there is an
+/// area for user lines.
 pub fn commit<R: Rules>(
     state: &mut State,
     medium: &mut [u8],
     cache: &[u8],
     number: u64,
-    clock: u64,
+    (clock, user): (u64, User),
 ) -> Result<u64, Refusal> {
     state.check_fit(medium, cache)?;
     let place = state.active_place(number)?;
@@ -102,10 +103,13 @@ pub fn commit<R: Rules>(
     if state.last_time == u64::MAX {
         return Err(NO_TIME_LEFT);
     }
-    journal::check_room(state, medium, COMMIT_BYTES)?;
+    let user = (state.user_blocks > 0).then_some(user);
+    journal::check_room(state, medium, commit_bytes(user.is_some()))?;
     let time = begun.max(clock).max(state.last_time + 1);
-    let end = journal::append::<R>(state, medium, &Record::Commit { number, time });
+    let record = Record::Commit { number, time, user };
+    let end = journal::append::<R>(state, medium, &record);
     state.places[place].life = Life::Committed { number, time, end };
+    state.places[place].user = user.unwrap_or(0);
     state.last_time = time;
     if R::STORED_AT_COMMIT {
         state.stored_time = time;

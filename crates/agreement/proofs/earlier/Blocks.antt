@@ -1,4 +1,4 @@
--- What stands before the pages of a medium is bytes, and each log block holds records of tag 1 and commits alone. A call stores at
+-- What stands before the pages of a medium is bytes, and each log block holds records of tags 1 and 2 alone. A call stores at
 -- most one block, and one that it stores in the log is the tail, which grew by such records: so this is kept, whatever is stored.
 use Prim.Native.Nat.{ℕ, ◌+◌, ◌-◌, ◌≤◌, ◌<◌}
 use native.Mathlib.Omega.{arith}
@@ -14,14 +14,14 @@ use Rattle.fields.specs.Cells.{flat}
 use Rattle.fields.proofs.BlockLaws.{blk_same, blk_other}
 use Rattle.fields.proofs.FieldLaws.{Bytes, bytes_enc}
 use Rattle.fields.proofs.CellLaws.{Each, each_append, each_map, bytes_cons, bytes_append, bytes_zeros, bytes_flat}
-use Rattle.layout.specs.Item.{bytes_of, tag_of, item_bytes, item_of}
-use Rattle.layout.specs.Journal.{Record, version, commit, version_body, record_bytes, record_size, log_bytes, sequence_of, used_of, body_of, parse, parsed, empty_block, add_record}
-use Rattle.layout.specs.Table.{pair_bytes}
+use Rattle.layout.specs.Item.{bytes_of, tag_of, user_bytes_of, commit_tag_of, item_bytes, item_of}
+use Rattle.layout.specs.Journal.{Record, version, commit, version_body, commit_body, record_bytes, record_size, log_bytes, sequence_of, used_of, body_of, parse, parsed, empty_block, add_record}
+use Rattle.layout.specs.declared.item.Form.{Form}
+use Rattle.layout.specs.declared.item.Form.TheVariants.{Plain, Signed}
 use Rattle.layout.specs.declared.item.Width.{Width}
 use Rattle.layout.specs.declared.item.Width.TheVariants.{One, Two}
-use Rattle.layout.proofs.RecordLaws.{RecordSized, bytes_few}
+use Rattle.layout.proofs.RecordLaws.{RecordSized, bytes_few, user_few}
 use Rattle.layout.proofs.JournalLaws.{parsed_log_bytes, length_empty_block, used_empty_block, parsed_empty_block, parsed_add_record}
-use Rattle.layout.proofs.TableLaws.{bytes_pair_bytes}
 use Rattle.store.specs.declared.State.{State}
 use Rattle.store.specs.Tail.{tail_fits, stored_tail, logged_if, logged}
 use Rattle.store.proofs.FitLaws.{fit_of}
@@ -35,7 +35,7 @@ use Rattle.agreement.proofs.invariant.Invariant.{Up}
 
 -- ---- a block
 
--- a record of tag 1, or a commit
+-- a record of tag 1 or 2
 abbrev pub Short : Record → Type 0
 Short r = old_record r ≡ true
 
@@ -52,7 +52,7 @@ abbrev pub Kept : ℕ → List ℕ → Type 0
 Kept l m = (k : ℕ) → k < 3 + l → KeptBlock k (blk m k)
 
 -- one of them is replaced, or a page
-pub kept_put : (l d : ℕ) (m : List ℕ) (k : ℕ) (b : List ℕ) → length m ≡ medium_length l d → length b ≡ 512 → (k < 3 + l → KeptBlock k b) → Kept l m → Kept l (put m k b)
+pub kept_put : (l d : ℕ) (m : List ℕ) (k : ℕ) (b : List ℕ) → length m ≡ medium_length l d 0 → length b ≡ 512 → (k < 3 + l → KeptBlock k b) → Kept l m → Kept l (put m k b)
 unfolding medium_length
 kept_put l d m k b size e new kept j h = go (same? j k)
   where
@@ -67,12 +67,17 @@ unfolding tag_of
 tag_low One = omega arith
 tag_low Two = omega arith
 
+commit_tag_low : (f : Form) → commit_tag_of f < 256
+unfolding commit_tag_of
+commit_tag_low Plain = omega arith
+commit_tag_low Signed = omega arith
+
 bytes_item : (tag : ℕ) (b : List ℕ) → tag < 256 → Bytes b → Bytes (item_bytes tag b)
 unfolding item_bytes
 bytes_item tag b h z = bytes_cons tag (enc 2 (length b) ++ b) h (bytes_append (enc 2 (length b)) b (bytes_enc 2 (length b)) z)
 
 bytes_record : (r : Record) → RecordSized r → Bytes (record_bytes r)
-unfolding record_bytes version_body
+unfolding record_bytes version_body commit_body
 bytes_record (version h v) s =
     let e = enc 8 h.number.0 ++ v in
     let d = enc 2 h.earlier ++ e in
@@ -83,7 +88,10 @@ bytes_record (version h v) s =
     (bytes_cons h.kind d s.kind
     (bytes_append (enc 2 h.earlier) e (bytes_enc 2 h.earlier)
     (bytes_append (enc 8 h.number.0) v (bytes_enc 8 h.number.0) s.bytes)))))
-bytes_record (commit p) s = bytes_item 2 (pair_bytes p) (omega arith) (bytes_pair_bytes p)
+bytes_record (commit p) s =
+    bytes_item (commit_tag_of p.form) (commit_body p) (commit_tag_low p.form)
+    (bytes_append (enc 8 p.number.0) (enc 8 p.time.0 ++ enc (user_bytes_of p.form) p.user) (bytes_enc 8 p.number.0)
+    (bytes_append (enc 8 p.time.0) (enc (user_bytes_of p.form) p.user) (bytes_enc 8 p.time.0) (bytes_enc (user_bytes_of p.form) p.user)))
 
 bytes_log_bytes : (q : ℕ) (rs : List Record) → Each RecordSized rs → Bytes (log_bytes q rs)
 unfolding log_bytes
@@ -113,11 +121,11 @@ short_more b r len fits bytes sized low whole new old =
 record_fits : (r : Record) → 10 + record_size r ≤ 512
 unfolding record_size
 record_fits (version h v) = omega (arith, bytes_few h.width)
-record_fits (commit p) = omega arith
+record_fits (commit p) = omega (arith, user_few p.form)
 
-module _ {l d : ℕ} {m c : List ℕ} {s : State} {b : Book} {disk : Disk} {closed : List (List Record)} {tail : List Record} (u : Up l d m c s b disk closed tail) where
+module _ {l d : ℕ} {m c : List ℕ} {s : State} {b : Book} {disk : Disk} {closed : List (List Record)} {tail : List Record} (u : Up l d 0 m c s b disk closed tail) where
   tail_sized : Each RecordSized tail
-  tail_sized = each_map (Sound d) RecordSized tail (λ r z. z.sized) (tail_sound closed tail u.medium).each
+  tail_sized = each_map (Sound d 0) RecordSized tail (λ r z. z.sized) (tail_sound closed tail u.medium).each
 
   tail_bytes : Bytes s.tail
   tail_bytes = subst Bytes (sym u.state.tail_block) (bytes_log_bytes (length closed) tail tail_sized)
@@ -125,7 +133,7 @@ module _ {l d : ℕ} {m c : List ℕ} {s : State} {b : Book} {disk : Disk} {clos
   tail_whole : (parsed s.tail).whole ≡ true
   tail_whole =
       let z = tail_sound closed tail u.medium in
-      rw (u.state.tail_block, parsed_log_bytes (length closed) tail tail_sized (omega (arith, block_size d tail z, z.fits)))
+      rw (u.state.tail_block, parsed_log_bytes (length closed) tail tail_sized (omega (arith, block_size d 0 tail z, z.fits)))
 
   -- the tail is stored
   pub kept_tail : ShortBlock s.tail → Kept l m → Kept l (stored_tail s.blocks m s.tail)

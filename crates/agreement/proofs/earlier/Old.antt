@@ -75,7 +75,7 @@ module _ (m : List ℕ) (l : ℕ) (some : 0 < l) (kept : Kept l m) where
 
 -- ---- the medium
 
-module _ {l d : ℕ} {m : List ℕ} {disk : Disk} {history : List (List Record)} (medium : OnMedium l d m disk history) (kept : Kept l m) where
+module _ {l d : ℕ} {m : List ℕ} {disk : Disk} {history : List (List Record)} (medium : OnMedium l d 0 m disk history) (kept : Kept l m) where
   block_bytes : (k : ℕ) → (k < 3 + l) ⊎ (3 + l ≤ k) → (k < 3 + l + d) ⊎ (3 + l + d ≤ k) → Bytes (blk m k)
   unfolding page_block_at blk medium_length
   block_bytes k (inl a) b = (kept k a).bytes
@@ -93,6 +93,6 @@ module _ {l d : ℕ} {m : List ℕ} {disk : Disk} {history : List (List Record)}
     slots = high_bytes medium (low_versions (records history) low);
   }
 
-pub old_medium : {l d : ℕ} {w : World} {b : Book} → Inv l d w b → Kept l (medium_of w) → Each LowRow b.rows → Old (medium_of w) l d
+pub old_medium : {l d : ℕ} {w : World} {b : Book} → Inv l d 0 w b → Kept l (medium_of w) → Each LowRow b.rows → Old (medium_of w) l d
 old_medium (running u) kept low = old_is u.medium kept (subst (λ (rs : List Row). Each LowRow rs) u.rows low)
 old_medium (fallen x) kept low = old_is x.medium kept (subst (λ (rs : List Row). Each LowRow rs) x.rows low)

@@ -51,24 +51,24 @@ use Rattle.agreement.proofs.earlier.Calls.{KeptWorld, by_way, kept_opening, kept
 -- ---- what holds at every moment of a run
 
 pub record Holds (l d : ℕ) (w : World) (b : Book) : Type 0 where
-  pub inv : Inv l d w b
+  pub inv : Inv l d 0 w b
   pub kept : KeptWorld l w
   pub low : Each LowRow b.rows
 
 -- what an event shows, and what holds of the world that it leaves
 abbrev OldKeeps : ℕ → ℕ → World → Book → Event → Type 0
 OldKeeps l d w b e =
-    Fits d b e (old_step l d w e).seen × Inv l d (old_step l d w e).world (feed b e (old_step l d w e).seen) × KeptWorld l (old_step l d w e).world
+    Fits d b e (old_step l d w e).seen × Inv l d 0 (old_step l d w e).world (feed b e (old_step l d w e).seen) × KeptWorld l (old_step l d w e).world
 
 -- ---- a version under tag 1
 
-module _ {l d : ℕ} {m c : List ℕ} {s : State} {b : Book} {disk : Disk} {closed : List (List Record)} {tail : List Record} (u : Up l d m c s b disk closed tail)
+module _ {l d : ℕ} {m c : List ℕ} {s : State} {b : Book} {disk : Disk} {closed : List (List Record)} {tail : List Record} (u : Up l d 0 m c s b disk closed tail)
     (kept : Kept l m) (short : ShortBlock s.tail) (low : Low c) where
   -- the slot answered is the version's row, and the book has one row more where the call is not refused
   abbrev Adds : ℕ → ℕ → ℕ → List ℕ → Outcome → Type 0
   Adds n key kind v o =
       (answer_number o.answer ≡ 0 → answer_value o.answer ≡ length (versions b.rows))
-      × Inv l d (after o) (unless_refused (answer_number o.answer) b
+      × Inv l d 0 (after o) (unless_refused (answer_number o.answer) b
       (add b (version (record { number = n; key = key; kind = kind; value = v })) (log_changed l m o.medium) b.opened))
       × KeptWorld l (after o)
 
@@ -94,7 +94,7 @@ module _ {l d : ℕ} {m c : List ℕ} {s : State} {b : Book} {disk : Disk} {clos
 
 -- ---- an event
 
-module _ {l d : ℕ} {m c : List ℕ} {s : State} {b : Book} {disk : Disk} {closed : List (List Record)} {tail : List Record} (u : Up l d m c s b disk closed tail)
+module _ {l d : ℕ} {m c : List ℕ} {s : State} {b : Book} {disk : Disk} {closed : List (List Record)} {tail : List Record} (u : Up l d 0 m c s b disk closed tail)
     (kept : Kept l m) (short : ShortBlock s.tail) (rows : Each LowRow b.rows) where
   low : Low c
   low = low_cache u.medium (low_versions (records (closed ++ (tail ∷ []))) (subst (λ (rs : List Row). Each LowRow rs) u.rows rows)) u.cache
@@ -103,7 +103,7 @@ module _ {l d : ℕ} {m c : List ℕ} {s : State} {b : Book} {disk : Disk} {clos
   same : (x : Call) → is_adding x ≡ false → call_typed x ≡ true → of_byte x ≡ true → OldKeeps l d (up m c s) b (call x)
   unfolding typed old_step step
   same x a t h =
-      let k = keeps l d (up m c s) b (call x) (running u) refl t in
+      let k = keeps l d 0 (up m c s) b (call x) (running u) refl t in
       rw (call_same m c s low x a h) (k.0, k.1, by_way u kept short a t (way m c s x))
 
   call_keeps : (x : Call) → call_typed x ≡ true → of_byte x ≡ true → OldKeeps l d (up m c s) b (call x)
@@ -115,7 +115,7 @@ module _ {l d : ℕ} {m c : List ℕ} {s : State} {b : Book} {disk : Disk} {clos
       added u kept short low n key 0 v (ltb-true key 256 h) (omega arith) (eqb-true (length v) 16 (and_0 (eqb (length v) 16) (are_bytes v) t2)) (bytes_of_law v (and_1 (eqb (length v) 16) (are_bytes v) t2)) refl
   call_keeps (erase n key) t h = added u kept short low n key 1 (zeros 16) (ltb-true key 256 h) (omega arith) refl (bytes_zeros 16) (zero_zeros 16)
   call_keeps (current_read n key) t h = same (current_read n key) refl t h
-  call_keeps (commit n k) t h = same (commit n k) refl t h
+  call_keeps (commit n k u) t h = same (commit n k u) refl t h
   call_keeps (abort n) t h = same (abort n) refl t h
   call_keeps (as_of key k) t h = same (as_of key k) refl t h
   call_keeps (changes key t1 t2 y) t h = same (changes key t1 t2 y) refl t h
@@ -123,24 +123,24 @@ module _ {l d : ℕ} {m c : List ℕ} {s : State} {b : Book} {disk : Disk} {clos
   call_keeps (store_page p) t h = same (store_page p) refl t h
   call_keeps checkpoint t h = same checkpoint refl t h
 
-sizes_on : {l d : ℕ} {w : World} {b : Book} → Inv l d w b → SizesOn l d (medium_of w)
+sizes_on : {l d : ℕ} {w : World} {b : Book} → Inv l d 0 w b → SizesOn l d 0 (medium_of w)
 sizes_on (running u) = u.medium.sizes
 sizes_on (fallen x) = x.medium.sizes
 
-open_keeps : {l d : ℕ} {w : World} {b : Book} (y : List ℕ) → Holds l d w b → allowed l d w (opening y) ≡ true → typed (opening y) ≡ true → OldKeeps l d w b (opening y)
+open_keeps : {l d : ℕ} {w : World} {b : Book} (y : List ℕ) → Holds l d w b → allowed l d 0 w (opening y) ≡ true → typed (opening y) ≡ true → OldKeeps l d w b (opening y)
 unfolding old_step step
 open_keeps {l} {d} {w} {b} y i a t =
-    let k = keeps l d w b (opening y) i.inv a t in
+    let k = keeps l d 0 w b (opening y) i.inv a t in
     let z = sizes_on i.inv in
     rw (opening_same l d w y (old_medium i.inv i.kept.0 i.low) z.size) (k.0, k.1, kept_opening l d w y (omega (arith, z.range.blocks_low)) i.kept)
 
-old_keeps : (l d : ℕ) (w : World) (b : Book) (e : Event) → Holds l d w b → allowed l d w e ≡ true → old_typed e ≡ true → OldKeeps l d w b e
+old_keeps : (l d : ℕ) (w : World) (b : Book) (e : Event) → Holds l d w b → allowed l d 0 w e ≡ true → old_typed e ≡ true → OldKeeps l d w b e
 unfolding old_typed typed
 old_keeps l d w b (opening y) i a t = open_keeps y i a t
-old_keeps l d w b cut i a t = let k = keeps l d w b cut i.inv a t in unfold old_step step in (k.0, k.1, (i.kept.0, tt))
+old_keeps l d w b cut i a t = let k = keeps l d 0 w b cut i.inv a t in unfold old_step step in (k.0, k.1, (i.kept.0, tt))
 old_keeps l d (up m c s) b (call x) i a t = go i.inv
   where
-    go : Inv l d (up m c s) b → OldKeeps l d (up m c s) b (call x)
+    go : Inv l d 0 (up m c s) b → OldKeeps l d (up m c s) b (call x)
     go (running u) = call_keeps u i.kept.0 i.kept.1 i.low x (and_0 (call_typed x) (of_byte x) t) (and_1 (call_typed x) (of_byte x) t)
 old_keeps l d (down m) b (call x) i a t = absurd (false≢true a)
 
@@ -154,29 +154,29 @@ old_runs l d [] w b i r = (tt, i)
 old_runs l d (e ∷ es) w b i r =
     let t = and_0 (old_typed e) _ r in
     let r1 = and_1 (old_typed e) _ r in
-    let k : OldKeeps l d w b e = old_keeps l d w b e i (and_0 (allowed l d w e) _ r1) t in
+    let k : OldKeeps l d w b e = old_keeps l d w b e i (and_0 (allowed l d 0 w e) _ r1) t in
     let n : Holds l d (old_step l d w e).world (feed b e (old_step l d w e).seen) = record { inv = k.1; kept = k.2; low = low_feed b e (old_step l d w e).seen t i.low } in
-    let q = old_runs l d es _ _ n (and_1 (allowed l d w e) _ r1) in
+    let q = old_runs l d es _ _ n (and_1 (allowed l d 0 w e) _ r1) in
     ((k.0, q.0), q.1)
 
 -- from a medium at rest that the invariant holds of with a book, whatever the tags of its records
-pub taken_over : {l d : ℕ} {m : List ℕ} {b : Book} {disk : Disk} → Down l d m b disk → (es : List Event) → is_run l d (down m) es ≡ true → Agrees l d (down m) b es
-taken_over {l} {d} {m} {b} x es r = runs l d es (down m) b (fallen x) r
+pub taken_over : {l d : ℕ} {m : List ℕ} {b : Book} {disk : Disk} → Down l d 0 m b disk → (es : List Event) → is_run l d 0 (down m) es ≡ true → Agrees l d 0 (down m) b es
+taken_over {l} {d} {m} {b} x es r = runs l d 0 es (down m) b (fallen x) r
 
 -- a cut leaves the medium
-cut_inv : {l d : ℕ} {w : World} {b : Book} → Inv l d w b → Inv l d (down (medium_of w)) (fall b)
+cut_inv : {l d : ℕ} {w : World} {b : Book} → Inv l d 0 w b → Inv l d 0 (down (medium_of w)) (fall b)
 cut_inv (running u) = fallen (cut_down u)
 cut_inv (fallen x) = rw (fall_down x) (fallen x)
 
 -- from the formatted medium
-old_run : (l d : ℕ) → in_range l d ≡ true → (es : List Event) → is_old_run l d (formatted l d) es ≡ true
-    → OldAgrees l d (formatted l d) blank es × Holds l d (old_world l d (formatted l d) es) (old_book l d (formatted l d) blank es)
+old_run : (l d : ℕ) → in_range l d 0 ≡ true → (es : List Event) → is_old_run l d (formatted l d 0) es ≡ true
+    → OldAgrees l d (formatted l d 0) (blank 0) es × Holds l d (old_world l d (formatted l d 0) es) (old_book l d (formatted l d 0) (blank 0) es)
 unfolding formatted blank
-old_run l d h es r = old_runs l d es (formatted l d) blank (record { inv = fallen (start l d h); kept = (kept_start l d h, tt); low = tt }) r
+old_run l d h es r = old_runs l d es (formatted l d 0) (blank 0) (record { inv = fallen (start l d 0 h); kept = (kept_start l d h, tt); low = tt }) r
 
 pub old_media : OldMedia
 old_media = record {
   before = λ l d h es r. (old_run l d h es r).0;
   left = λ l d h es r. let i = (old_run l d h es r).1 in old_medium i.inv i.kept.0 i.low;
-  since = λ l d h es r fs q. runs l d fs _ _ (cut_inv (old_run l d h es r).1.inv) q;
+  since = λ l d h es r fs q. runs l d 0 fs _ _ (cut_inv (old_run l d h es r).1.inv) q;
 }

@@ -34,12 +34,12 @@ use Rattle.agreement.proofs.invariant.MediumFacts.{cells_sized, cell_fields, few
 -- a version row has a record number of one byte
 abbrev pub LowRow : Row → Type 0
 LowRow (version v) = v.key < 256
-LowRow (committed n t) = Unit {0}
+LowRow (committed n t u) = Unit {0}
 
-low_commit : (t : Bool) (b : Book) (n clock : ℕ) (changed : Bool) → Each LowRow b.rows → Each LowRow (commits t b n clock changed).rows
+low_commit : (t : Bool) (b : Book) (n clock user : ℕ) (changed : Bool) → Each LowRow b.rows → Each LowRow (commits t b n clock user changed).rows
 unfolding add
-low_commit true b n clock changed h = each_append LowRow b.rows _ h (tt, tt)
-low_commit false b n clock changed h = h
+low_commit true b n clock user changed h = each_append LowRow b.rows _ h (tt, tt)
+low_commit false b n clock user changed h = h
 
 low_entered : (b : Book) (x : Call) (n : ℕ) (changed : Bool) → of_byte x ≡ true → Each LowRow b.rows → Each LowRow (entered b x n changed).rows
 unfolding entered add
@@ -47,7 +47,7 @@ low_entered b (begin k) n changed t h = h
 low_entered b (write i key v) n changed t h = each_append LowRow b.rows _ h (ltb-true key 256 t, tt)
 low_entered b (erase i key) n changed t h = each_append LowRow b.rows _ h (ltb-true key 256 t, tt)
 low_entered b (current_read i key) n changed t h = h
-low_entered b (commit i k) n changed t h = low_commit (has_row b.rows i) b i k changed h
+low_entered b (commit i k u) n changed t h = low_commit (has_row b.rows i) b i k u changed h
 low_entered b (abort i) n changed t h = h
 low_entered b (as_of key k) n changed t h = h
 low_entered b (changes key t1 t2 y) n changed t h = h
@@ -83,7 +83,7 @@ low_versions (x ∷ xs) h = go x.rec h.0 (low_versions xs h.1)
 
 -- ---- the pages of the medium
 
-module _ {l d : ℕ} {m : List ℕ} {disk : Disk} {history : List (List Record)} (medium : OnMedium l d m disk history) where
+module _ {l d : ℕ} {m : List ℕ} {disk : Disk} {history : List (List Record)} (medium : OnMedium l d 0 m disk history) where
   cells_on : (p k : ℕ) → Each SlotSized (take k (drop (15 * p) disk.cells))
   cells_on p k = each_take SlotSized k (drop (15 * p) disk.cells) (each_drop SlotSized (15 * p) disk.cells (cells_sized medium))
 

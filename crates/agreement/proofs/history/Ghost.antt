@@ -11,14 +11,17 @@ use Rattle.layout.specs.Journal.{Record, version, commit, record_size, record_fo
 use Rattle.layout.specs.Slot.{Cell}
 use Rattle.layout.specs.Page.{page_bytes}
 use Rattle.layout.specs.declared.slot.Slot.TheVariants.{Waiting, Stamped}
+use Rattle.layout.specs.declared.line.UserLine.{UserLine}
 use Rattle.layout.proofs.RecordLaws.{RecordSized}
 use Rattle.fields.proofs.CellLaws.{Each}
 use Rattle.layout.proofs.PageLaws.{no_cell}
 use Rattle.store.specs.declared.Found.{Found}
 use Rattle.store.specs.declared.Found.TheVariants.{At, Nothing}
+use Rattle.store.specs.declared.Area.{Area}
 use Rattle.store.specs.declared.Timing.{Timing}
 use Rattle.store.specs.declared.Timing.TheVariants.{Timed, Untimed}
 use Rattle.store.specs.OpenLog.{Placed, place_from, number_in}
+use Rattle.store.specs.Commit.{form_of}
 use Rattle.store.specs.OpenPairs.{waits_under}
 use Rattle.runs.specs.Book.{Row, version as version_row, committed as commit_row}
 
@@ -34,17 +37,23 @@ abbrev pub Placeable : ℕ → Record → Type 0
 Placeable d (version h v) = h.slot < 15 * d
 Placeable d (commit p) = 1 ≤ p.time.0
 
+-- a commit's form is the one of the area: with a user just if there are user lines
+abbrev pub FormedBy : ℕ → Record → Type 0
+FormedBy a (version h v) = Unit {0}
+FormedBy a (commit p) = p.form ≡ form_of a
+
 -- a record that a call may log
-pub record Sound (d : ℕ) (r : Record) : Type 0 where
+pub record Sound (d a : ℕ) (r : Record) : Type 0 where
   pub sized : RecordSized r  -- its fields fit their widths
   pub form : record_form r ≡ true  -- a record number below 1,024, kind 0 or 1, an erased value zeros
   pub low : 1 ≤ number_in r
   pub high : number_in r < 2 ^ 64 - 1
   pub placeable : Placeable d r
+  pub signed : FormedBy a r
 
 -- the records of a block are sound and fit it
-pub record BlockSound (d : ℕ) (b : List Record) : Type 0 where
-  pub each : Each (Sound d) b
+pub record BlockSound (d a : ℕ) (b : List Record) : Type 0 where
+  pub each : Each (Sound d a) b
   pub fits : size_of b ≤ 502
 
 -- ---- the records with their places
@@ -100,10 +109,11 @@ pub record LoggedCommit : Type 0 where
   pub end : ℕ
   pub num : ℕ
   pub time : ℕ
+  pub user : ℕ
 
 abbrev pub as_commit : Record → ℕ → ℕ → List LoggedCommit
 as_commit (version h v) q e = []
-as_commit (commit p) q e = record { seq = q; end = e; num = p.number.0; time = p.time.0 } ∷ []
+as_commit (commit p) q e = record { seq = q; end = e; num = p.number.0; time = p.time.0; user = p.user } ∷ []
 
 unfoldable pub commits_in : List Placed → List LoggedCommit
 commits_in [] = []
@@ -114,7 +124,7 @@ abbrev pub commits_of : List (List Record) → List LoggedCommit
 commits_of bs = commits_in (records bs)
 
 abbrev pub no_commit : LoggedCommit
-no_commit = record { seq = 0; end = 0; num = 0; time = 0 }
+no_commit = record { seq = 0; end = 0; num = 0; time = 0; user = 0 }
 
 -- the first commit of a number
 unfoldable pub find : List LoggedCommit → ℕ → LoggedCommit
@@ -125,6 +135,19 @@ find (c ∷ cs) n = cond (eqb c.num n) c (find cs n)
 unfoldable pub last_of : List LoggedCommit → ℕ
 last_of [] = 0
 last_of (c ∷ cs) = max c.time (last_of cs)
+
+-- commit i of the commits in their order
+abbrev pub commit_at : List LoggedCommit → ℕ → LoggedCommit
+commit_at cs i = get_or cs i no_commit
+
+-- the time of the last of n user lines, 0 if there is none: line i is that of commit i
+abbrev pub line_time : List LoggedCommit → ℕ → ℕ
+line_time cs zero = 0
+line_time cs (suc n) = (commit_at cs n).time
+
+-- the user line of a commit
+abbrev pub line_of : LoggedCommit → UserLine
+line_of c = record { time = record { 0 = c.time }; user = c.user }
 
 -- the times rise, from above `low` on
 abbrev pub Rising : ℕ → List LoggedCommit → Type 0
@@ -182,7 +205,7 @@ full n p = min 15 (n - 15 * p)
 
 abbrev pub row_of : Record → Row
 row_of (version h v) = version_row (record { number = h.number.0; key = h.key; kind = h.kind; value = v })
-row_of (commit p) = commit_row p.number.0 p.time.0
+row_of (commit p) = commit_row p.number.0 p.time.0 p.user
 
 unfoldable pub rows_in : List Placed → List Row
 rows_in [] = []
@@ -197,6 +220,7 @@ pub record Disk : Type 0 where
   pub stored : List (List Record)  -- the blocks, by sequence, that the medium holds or held: closed ones, and of the tail what is stored
   pub cells : List Cell  -- all slots, stamped where they are on the medium
   pub on : ℕ → ℕ  -- how many slots of page p are on the medium
+  pub area : Area  -- its user lines: how many blocks, how many lines, and the last line's time
 
 -- ---- the log as an opening takes it up: the last block of the medium is the tail, or the tail is empty if none matches
 

@@ -26,11 +26,11 @@ unfolding flat size_of
 size_flat [] z = refl
 size_flat (r ∷ rs) z = rw (length-append, length_record_bytes r (value_fits r z.0), size_flat rs z.1)
 
-pub sound_sized : (d : ℕ) (rs : List Record) → Each (Sound d) rs → Each RecordSized rs
-sound_sized d rs z = each_map (Sound d) RecordSized rs (λ r s. s.sized) z
+pub sound_sized : (d a : ℕ) (rs : List Record) → Each (Sound d a) rs → Each RecordSized rs
+sound_sized d a rs z = each_map (Sound d a) RecordSized rs (λ r s. s.sized) z
 
-pub block_size : (d : ℕ) (rs : List Record) → BlockSound d rs → length (flat record_bytes rs) ≡ size_of rs
-block_size d rs z = size_flat rs (sound_sized d rs z.each)
+pub block_size : (d a : ℕ) (rs : List Record) → BlockSound d a rs → length (flat record_bytes rs) ≡ size_of rs
+block_size d a rs z = size_flat rs (sound_sized d a rs z.each)
 
 pub size_append : (xs ys : List Record) → size_of (xs ++ ys) ≡ size_of xs + size_of ys
 unfolding size_of
@@ -91,16 +91,16 @@ near_block q off (r ∷ rs) lo hi z h a b =
       near_block q (off + n) rs lo hi (omega arith) (omega arith) a b,
     )
 
-pub near_all : (d q : ℕ) (bs : List (List Record)) (lo hi : ℕ) → Each (BlockSound d) bs → lo ≤ q → q + length bs ≤ hi → Each (Near lo hi) (place_all q bs)
+pub near_all : (d a q : ℕ) (bs : List (List Record)) (lo hi : ℕ) → Each (BlockSound d a) bs → lo ≤ q → q + length bs ≤ hi → Each (Near lo hi) (place_all q bs)
 unfolding place_all
-near_all d q [] lo hi f h k = tt
-near_all d q (b ∷ bs) lo hi f h k =
+near_all d a q [] lo hi f h k = tt
+near_all d a q (b ∷ bs) lo hi f h k =
     each_append (Near lo hi) (place_from q 10 b) (place_all (suc q) bs)
     (near_block q 10 b lo hi (omega arith) (omega (arith, f.0.fits)) h (omega arith))
-    (near_all d (suc q) bs lo hi f.1 (omega arith) (omega arith))
+    (near_all d a (suc q) bs lo hi f.1 (omega arith) (omega arith))
 
-pub near_records : (d : ℕ) (bs : List (List Record)) → Each (BlockSound d) bs → Each (Near 0 (length bs)) (records bs)
-near_records d bs f = near_all d 0 bs 0 (length bs) f (omega arith) (omega arith)
+pub near_records : (d a : ℕ) (bs : List (List Record)) → Each (BlockSound d a) bs → Each (Near 0 (length bs)) (records bs)
+near_records d a bs f = near_all d a 0 bs 0 (length bs) f (omega arith) (omega arith)
 
 -- ---- order of the end places
 
@@ -125,13 +125,13 @@ between_block q off (r ∷ rs) =
       rw (← (add_assoc off n (size_of rs))) (between_block q (off + n) rs),
     )
 
-pub between_all : (d q : ℕ) (bs : List (List Record)) → Each (BlockSound d) bs → Between (512 * q + 10) (place_all q bs) (512 * (q + length bs) + 10)
+pub between_all : (d a q : ℕ) (bs : List (List Record)) → Each (BlockSound d a) bs → Between (512 * q + 10) (place_all q bs) (512 * (q + length bs) + 10)
 unfolding place_all
-between_all d q [] h = omega arith
-between_all d q (b ∷ bs) h =
+between_all d a q [] h = omega arith
+between_all d a q (b ∷ bs) h =
     between_append _ (512 * suc q + 10) _ (place_from q 10 b) (place_all (suc q) bs)
     (between_weak (512 * q + 10) (512 * q + 10) (place_from q 10 b) (512 * q + (10 + size_of b)) (512 * suc q + 10) (omega arith) (omega (arith, h.0.fits)) (between_block q 10 b))
-    (between_weak (512 * suc q + 10) (512 * suc q + 10) (place_all (suc q) bs) (512 * (suc q + length bs) + 10) _ (omega arith) (omega arith) (between_all d (suc q) bs h.1))
+    (between_weak (512 * suc q + 10) (512 * suc q + 10) (place_all (suc q) bs) (512 * (suc q + length bs) + 10) _ (omega arith) (omega arith) (between_all d a (suc q) bs h.1))
 
 pub each_between : (lo hi : ℕ) (ps : List Placed) → Between lo ps hi → Each (λ (x : Placed). lo < x.end) ps
 each_between lo hi [] b = tt

@@ -13,7 +13,7 @@ use borrow.Author.Tests.{eq-eqb, ne_eqb}
 use Rattle.layout.specs.Journal.{Record, version, commit}
 use Rattle.fields.proofs.CellLaws.{Each}
 use Rattle.store.specs.OpenLog.{Placed, number_in}
-use Rattle.runs.specs.Book.{Row, committed, Version, versions, time_of, last_time, has_row}
+use Rattle.runs.specs.Book.{Row, committed, Version, versions, time_of, user_of, last_time, has_row}
 use Rattle.runs.specs.Machine.{time_in}
 use Rattle.agreement.proofs.history.ListLaws.{same?}
 use Rattle.agreement.proofs.history.CommitLaws.{find_head, find_next}
@@ -67,25 +67,40 @@ time_row (x ∷ xs) low r n = go x.rec (λ a h. time_row xs a h n) r
     go (commit p) ih r = by (eqb p.number.0 n)
       where
         by : (t : Bool) → cond t (some p.time.0) (time_of (rows_in xs) n)
-            ≡ time_in (timing (cond t (record { seq = x.seq; end = x.end; num = p.number.0; time = p.time.0 }) (find (commits_in xs) n)).time)
+            ≡ time_in (timing (cond t (record { seq = x.seq; end = x.end; num = p.number.0; time = p.time.0; user = p.user }) (find (commits_in xs) n)).time)
         by true = sym (some_timing p.time.0 (omega (arith, r.0)))
         by false = ih p.time.0 r.1
 
--- the last commit row's time is the highest, as times rise
-last_from : (xs : List Placed) (m u : ℕ) → Rising u (commits_in xs) → last_time (committed m u ∷ rows_in xs) ≡ max u (last_of (commits_in xs))
-unfolding rows_in last_time commits_in last_of
-last_from [] m u r = omega arith
-last_from (x ∷ xs) m u r = go x.rec (λ n a h. last_from xs n a h) r
+-- the user of a number's commit row
+pub user_row : (xs : List Placed) (n : ℕ) → user_of (rows_in xs) n ≡ (find (commits_in xs) n).user
+unfolding rows_in user_of commits_in find
+user_row [] n = refl
+user_row (x ∷ xs) n = go x.rec (user_row xs n)
   where
-    go : (q : Record) → ((n a : ℕ) → Rising a (commits_in xs) → last_time (committed n a ∷ rows_in xs) ≡ max a (last_of (commits_in xs)))
+    go : (q : Record) → user_of (rows_in xs) n ≡ (find (commits_in xs) n).user → user_of (row_of q ∷ rows_in xs) n ≡ (find (as_commit q x.seq x.end ++ commits_in xs) n).user
+    go (version h v) ih = ih
+    go (commit p) ih = by (eqb p.number.0 n)
+      where
+        by : (t : Bool) → cond t p.user (user_of (rows_in xs) n)
+            ≡ (cond t (record { seq = x.seq; end = x.end; num = p.number.0; time = p.time.0; user = p.user }) (find (commits_in xs) n)).user
+        by true = refl
+        by false = ih
+
+-- the last commit row's time is the highest, as times rise
+last_from : (xs : List Placed) (m u w : ℕ) → Rising u (commits_in xs) → last_time (committed m u w ∷ rows_in xs) ≡ max u (last_of (commits_in xs))
+unfolding rows_in last_time commits_in last_of
+last_from [] m u w r = omega arith
+last_from (x ∷ xs) m u w r = go x.rec (λ n a z h. last_from xs n a z h) r
+  where
+    go : (q : Record) → ((n a z : ℕ) → Rising a (commits_in xs) → last_time (committed n a z ∷ rows_in xs) ≡ max a (last_of (commits_in xs)))
         → Rising u (as_commit q x.seq x.end ++ commits_in xs)
-        → last_time (committed m u ∷ row_of q ∷ rows_in xs) ≡ max u (last_of (as_commit q x.seq x.end ++ commits_in xs))
-    go (version h v) ih r = ih m u r
-    go (commit p) ih r = ih p.number.0 p.time.0 r.1 ∙ omega (arith, r.0)
+        → last_time (committed m u w ∷ row_of q ∷ rows_in xs) ≡ max u (last_of (as_commit q x.seq x.end ++ commits_in xs))
+    go (version h v) ih r = ih m u w r
+    go (commit p) ih r = ih p.number.0 p.time.0 p.user r.1 ∙ omega (arith, r.0)
 
 pub last_row : (xs : List Placed) → Rising 0 (commits_in xs) → last_time (rows_in xs) ≡ last_of (commits_in xs)
 unfolding last_time
-last_row xs r = last_from xs 0 0 r ∙ omega arith
+last_row xs r = last_from xs 0 0 0 r ∙ omega arith
 
 pub below_row : (xs : List Placed) (n : ℕ) → Each (λ (x : Placed). number_in x.rec < n) xs → has_row (rows_in xs) n ≡ false
 unfolding rows_in has_row
@@ -121,7 +136,7 @@ rowless (x ∷ xs) low n r v c = go x.rec (λ a. rowless xs a n) r v c
     go (commit p) ih r f c = by (same? p.number.0 n)
       where
         me : LoggedCommit
-        me = record { seq = x.seq; end = x.end; num = p.number.0; time = p.time.0 }
+        me = record { seq = x.seq; end = x.end; num = p.number.0; time = p.time.0; user = p.user }
 
         by : (p.number.0 ≡ n) ⊎ (p.number.0 ≢ n) → (eqb p.number.0 n || has_row (rows_in xs) n) ≡ false
         by (inl e) = absurd (omega (arith, r.0, rw (← e) at c, ap (λ (a : LoggedCommit). a.time) (find_head me (commits_in xs))))

@@ -76,15 +76,15 @@ module _ (P : ℕ → Type 0) where
       go (commit c) q e p = (p, tt)
 
 -- the records of sound blocks are sound
-pub sound_from : (d q off : ℕ) (rs : List Record) → Each (Sound d) rs → Each (λ (x : Placed). Sound d x.rec) (place_from q off rs)
+pub sound_from : (d a q off : ℕ) (rs : List Record) → Each (Sound d a) rs → Each (λ (x : Placed). Sound d a x.rec) (place_from q off rs)
 unfolding place_from
-sound_from d q off [] h = tt
-sound_from d q off (r ∷ rs) h = (h.0, sound_from d q (off + record_size r) rs h.1)
+sound_from d a q off [] h = tt
+sound_from d a q off (r ∷ rs) h = (h.0, sound_from d a q (off + record_size r) rs h.1)
 
-pub sound_all : (d q : ℕ) (bs : List (List Record)) → Each (BlockSound d) bs → Each (λ (x : Placed). Sound d x.rec) (place_all q bs)
+pub sound_all : (d a q : ℕ) (bs : List (List Record)) → Each (BlockSound d a) bs → Each (λ (x : Placed). Sound d a x.rec) (place_all q bs)
 unfolding place_all
-sound_all d q [] h = tt
-sound_all d q (b ∷ bs) h = each_append (λ (x : Placed). Sound d x.rec) (place_from q 10 b) (place_all (suc q) bs) (sound_from d q 10 b h.0.each) (sound_all d (suc q) bs h.1)
+sound_all d a q [] h = tt
+sound_all d a q (b ∷ bs) h = each_append (λ (x : Placed). Sound d a x.rec) (place_from q 10 b) (place_all (suc q) bs) (sound_from d a q 10 b h.0.each) (sound_all d a (suc q) bs h.1)
 
 -- ---- the versions' end places rise
 
@@ -118,16 +118,16 @@ climbing_lt lo (x ∷ xs) (suc i) zero b h k = absurd (not-suc-le-zero h)
 climbing_lt lo (x ∷ xs) (suc i) (suc j) b h k = climbing_lt x.end xs i j b.1 (le_of_suc-le-suc h) (le_of_suc-le-suc k)
 
 -- the laws of the versions of sound blocks
-module _ (d : ℕ) (bs : List (List Record)) (f : Each (BlockSound d) bs) where
+module _ (d a : ℕ) (bs : List (List Record)) (f : Each (BlockSound d a) bs) where
   pub rise : (i j : ℕ) → i < j → j < length (versions_of bs) → (at (versions_of bs) i).end < (at (versions_of bs) j).end
-  rise i j h k = climbing_lt _ (versions_of bs) i j (climbing_versions _ _ (records bs) (between_all d 0 bs f)) h k
+  rise i j h k = climbing_lt _ (versions_of bs) i j (climbing_versions _ _ (records bs) (between_all d a 0 bs f)) h k
 
   pub near : (n : ℕ) → n < length (versions_of bs)
       → (512 * (at (versions_of bs) n).seq + 10 < (at (versions_of bs) n).end) × ((at (versions_of bs) n).end ≤ 512 * (at (versions_of bs) n).seq + 512) × ((at (versions_of bs) n).seq < length bs)
   near n h =
       each_at (λ (v : LoggedVersion). (512 * v.seq + 10 < v.end) × (v.end ≤ 512 * v.seq + 512) × (v.seq < length bs)) (versions_of bs) n no_version
       (place_versions (λ e q. (512 * q + 10 < e) × (e ≤ 512 * q + 512) × (q < length bs)) (records bs)
-      (each_map (Near 0 (length bs)) (λ (x : Placed). (512 * x.seq + 10 < x.end) × (x.end ≤ 512 * x.seq + 512) × (x.seq < length bs)) (records bs) (λ x p. (p.after, p.within, p.high)) (near_records d bs f))) h
+      (each_map (Near 0 (length bs)) (λ (x : Placed). (512 * x.seq + 10 < x.end) × (x.end ≤ 512 * x.seq + 512) × (x.seq < length bs)) (records bs) (λ x p. (p.after, p.within, p.high)) (near_records d a bs f))) h
 
   pub seqs : (i j : ℕ) → i < j → j < length (versions_of bs) → (at (versions_of bs) i).seq ≤ (at (versions_of bs) j).seq
   seqs i j h k = omega (arith, rise i j h k, near i (omega arith), near j k)
@@ -135,7 +135,7 @@ module _ (d : ℕ) (bs : List (List Record)) (f : Each (BlockSound d) bs) where
   pub near_commits : Each (λ (c : LoggedCommit). (512 * c.seq + 10 < c.end) × (c.end ≤ 512 * c.seq + 512) × (c.seq < length bs)) (commits_of bs)
   near_commits =
       place_commits (λ e q. (512 * q + 10 < e) × (e ≤ 512 * q + 512) × (q < length bs)) (records bs)
-      (each_map (Near 0 (length bs)) (λ (x : Placed). (512 * x.seq + 10 < x.end) × (x.end ≤ 512 * x.seq + 512) × (x.seq < length bs)) (records bs) (λ x p. (p.after, p.within, p.high)) (near_records d bs f))
+      (each_map (Near 0 (length bs)) (λ (x : Placed). (512 * x.seq + 10 < x.end) × (x.end ≤ 512 * x.seq + 512) × (x.seq < length bs)) (records bs) (λ x p. (p.after, p.within, p.high)) (near_records d a bs f))
 
 -- ---- the newest version of a record
 

@@ -15,6 +15,7 @@ use Rattle.fields.specs.Block.{blk, page_of}
 use Rattle.layout.specs.Page.{page_slot}
 use Rattle.fields.specs.Field.{dec}
 use Rattle.fields.specs.Part.{part}
+use Rattle.layout.specs.Item.{user_bytes_of}
 use Rattle.layout.specs.Journal.{Record, version, commit, record_form}
 use Rattle.layout.specs.Master.{master_bytes, oldest_on}
 use Rattle.layout.specs.Slot.{key_form, kind_form, code_of, shared_field, cell_of, slot_state, state_of, Cell}
@@ -25,6 +26,8 @@ use Rattle.layout.proofs.MasterLaws.{FieldsSized, MasterParts, master_parts, mas
 use Rattle.layout.proofs.PageLaws.{no_cell, free_page_bytes}
 use Rattle.layout.proofs.CacheLaws.{cache_slot_law}
 use Rattle.layout.specs.declared.slot.Slot.TheVariants.{Empty}
+use Rattle.layout.specs.declared.item.Form.{Form}
+use Rattle.layout.specs.declared.item.Form.TheVariants.{Plain, Signed}
 use Rattle.layout.proofs.SlotLaws.{SlotSized, SlotHolds, cell_slot_bytes}
 use Rattle.store.specs.Chain.{cell_at, newest, version_of, is_version}
 use Rattle.store.specs.OpenLog.{Placed, next_on, time_on}
@@ -54,17 +57,18 @@ pub record CommitSound (c : LoggedCommit) : Type 0 where
   pub high : c.num < 2 ^ 64 - 1
   pub time_low : 1 ≤ c.time
   pub time_high : c.time < 2 ^ 64
+  pub user_high : c.user < 2 ^ 32
 
 -- question 18
 pub key_below : (key : ℕ) → key_form key ≡ true → key < 1024
 unfolding key_form
 key_below key e = ltb-true key 1024 e
 
-pub versions_sound : (d : ℕ) (bs : List (List Record)) → Each (BlockSound d) bs → Each (VersionSound d) (versions_of bs)
+pub versions_sound : (d a : ℕ) (bs : List (List Record)) → Each (BlockSound d a) bs → Each (VersionSound d) (versions_of bs)
 unfolding record_form
-versions_sound d bs f = each_versions (λ (x : Placed). Sound d x.rec) (VersionSound d) (λ x h. go x.rec x.seq x.end h) (records bs) (sound_all d 0 bs f)
+versions_sound d a bs f = each_versions (λ (x : Placed). Sound d a x.rec) (VersionSound d) (λ x h. go x.rec x.seq x.end h) (records bs) (sound_all d a 0 bs f)
   where
-    go : (r : Record) (q e : ℕ) → Sound d r → Each (VersionSound d) (as_version r q e)
+    go : (r : Record) (q e : ℕ) → Sound d a r → Each (VersionSound d) (as_version r q e)
     go (version h v) q e s = (
       record {
         slot = s.placeable;
@@ -81,12 +85,27 @@ versions_sound d bs f = each_versions (λ (x : Placed). Sound d x.rec) (VersionS
     )
     go (commit p) q e s = tt
 
-pub commits_sound : (d : ℕ) (bs : List (List Record)) → Each (BlockSound d) bs → Each CommitSound (commits_of bs)
-commits_sound d bs f = each_commits (λ (x : Placed). Sound d x.rec) CommitSound (λ x h. go x.rec x.seq x.end h) (records bs) (sound_all d 0 bs f)
+-- a user fits four bytes
+pub user_below : (f : Form) (u : ℕ) → u < 256 ^ user_bytes_of f → u < 2 ^ 32
+unfolding user_bytes_of
+user_below Plain u h = omega arith
+user_below Signed u h = omega arith
+
+pub commits_sound : (d a : ℕ) (bs : List (List Record)) → Each (BlockSound d a) bs → Each CommitSound (commits_of bs)
+commits_sound d a bs f = each_commits (λ (x : Placed). Sound d a x.rec) CommitSound (λ x h. go x.rec x.seq x.end h) (records bs) (sound_all d a 0 bs f)
   where
-    go : (r : Record) (q e : ℕ) → Sound d r → Each CommitSound (as_commit r q e)
+    go : (r : Record) (q e : ℕ) → Sound d a r → Each CommitSound (as_commit r q e)
     go (version h v) q e s = tt
-    go (commit p) q e s = (record { low = s.low; high = s.high; time_low = s.placeable; time_high = s.sized.time }, tt)
+    go (commit p) q e s = (
+      record {
+        low = s.low;
+        high = s.high;
+        time_low = s.placeable;
+        time_high = s.sized.time;
+        user_high = user_below p.form p.user s.sized.user;
+      },
+      tt,
+    )
 
 pub last_below : (cs : List LoggedCommit) → Each CommitSound cs → last_of cs < 2 ^ 64
 unfolding last_of
@@ -95,18 +114,19 @@ last_below (c ∷ cs) h = omega (arith, h.0.time_high, last_below cs h.1)
 
 -- ---- of the medium
 
-module _ {l d : ℕ} {m : List ℕ} {disk : Disk} {history : List (List Record)} (medium : OnMedium l d m disk history) where
-  pub fields_sized : FieldsSized (master_fields l d disk.oldest disk.next disk.time)
+module _ {l d a : ℕ} {m : List ℕ} {disk : Disk} {history : List (List Record)} (medium : OnMedium l d a m disk history) where
+  pub fields_sized : FieldsSized (master_fields l d a disk.oldest disk.next disk.time)
   fields_sized = record {
     blocks = omega (arith, medium.sizes.range.blocks_high);
     pages = omega (arith, medium.sizes.range.pages_high);
+    area = omega (arith, medium.sizes.range.area_high);
     oldest = omega (arith, medium.master.fits.oldest_high);
     next = medium.master.fits.next_high;
     last = medium.master.fits.time_high;
   }
 
-  parts : MasterParts (master_bytes (master_fields l d disk.oldest disk.next disk.time)) (master_fields l d disk.oldest disk.next disk.time)
-  parts = master_parts (master_bytes (master_fields l d disk.oldest disk.next disk.time)) (master_fields l d disk.oldest disk.next disk.time) (master_back (master_fields l d disk.oldest disk.next disk.time) fields_sized)
+  parts : MasterParts (master_bytes (master_fields l d a disk.oldest disk.next disk.time)) (master_fields l d a disk.oldest disk.next disk.time)
+  parts = master_parts (master_bytes (master_fields l d a disk.oldest disk.next disk.time)) (master_fields l d a disk.oldest disk.next disk.time) (master_back (master_fields l d a disk.oldest disk.next disk.time) fields_sized)
 
   part_is : (at : ℕ) → at + 8 ≤ 512 → dec (part (blk m 0) at 8) ≡ dec (part m at 8)
   part_is at h = ap dec (rw zero-add at (part_blk m 0 at 8 h))
@@ -124,7 +144,7 @@ module _ {l d : ℕ} {m : List ℕ} {disk : Disk} {history : List (List Record)}
   time_is = sym (part_is 35 (omega arith)) ∙ ap (λ (x : List ℕ). dec (part x 35 8)) medium.master.block ∙ sym parts.last
 
   pub sound_at : (n : ℕ) → n < length (versions_of history) → VersionSound d (at (versions_of history) n)
-  sound_at n h = each_at (VersionSound d) (versions_of history) n no_version (versions_sound d history medium.log.shape.sound) h
+  sound_at n h = each_at (VersionSound d) (versions_of history) n no_version (versions_sound d a history medium.log.shape.sound) h
 
   pub versions_split : versions_of history ≡ versions_of disk.stored ++ versions_in medium.log.shape.rest
   versions_split = ap versions_in medium.log.shape.split ∙ versions_append (records disk.stored) medium.log.shape.rest
@@ -142,7 +162,7 @@ module _ {l d : ℕ} {m : List ℕ} {disk : Disk} {history : List (List Record)}
       go : (v : LoggedVersion) (x : Cell) → VersionSound d v → Match (commits_of disk.stored) v x → SlotSized x
       go v x f still = record { shared = omega (arith, f.high); key = omega (arith, f.key); kind = f.kind; earlier = f.earlier; size = f.size; bytes = f.bytes }
       go v x f (marked t z e) = record {
-        shared = omega (arith, e, (find_each v.num CommitSound (commits_of disk.stored) (commits_sound d disk.stored medium.log.shape.stored_sound) (omega arith)).time_high);
+        shared = omega (arith, e, (find_each v.num CommitSound (commits_of disk.stored) (commits_sound d a disk.stored medium.log.shape.stored_sound) (omega arith)).time_high);
         key = omega (arith, f.key);
         kind = f.kind;
         earlier = f.earlier;
@@ -174,11 +194,11 @@ module _ {l d : ℕ} {m : List ℕ} {disk : Disk} {history : List (List Record)}
 
   -- every commit is at least 1 and below 2^64, every number below 2^64 - 1
   pub last_high : last_of (commits_of history) < 2 ^ 64
-  last_high = last_below (commits_of history) (commits_sound d history medium.log.shape.sound)
+  last_high = last_below (commits_of history) (commits_sound d a history medium.log.shape.sound)
 
   -- every stored commit has a time
   pub times_low : Each (λ (c : LoggedCommit). 0 < c.time) (commits_of disk.stored)
-  times_low = each_map CommitSound (λ (c : LoggedCommit). 0 < c.time) (commits_of disk.stored) (λ c f. f.time_low) (commits_sound d disk.stored medium.log.shape.stored_sound)
+  times_low = each_map CommitSound (λ (c : LoggedCommit). 0 < c.time) (commits_of disk.stored) (λ c f. f.time_low) (commits_sound d a disk.stored medium.log.shape.stored_sound)
 
   -- a slot waits under a number just if its version is that number's and is not stamped
   pub waiting_slot : (n : ℕ) → 0 < count n disk.cells → (j : ℕ) × (j < length (versions_of history)) × ((at (versions_of history) j).num ≡ n) × (cell disk.cells j ≡ waiting_cell (at (versions_of history) j))

@@ -9,6 +9,7 @@ use borrow.Author.Tests.{eqb-true, eq-eqb}
 use Rattle.layout.specs.Slot.{Cell}
 use Rattle.store.proofs.SearchLaws.{first_found, first_only}
 use Rattle.store.specs.Places.{is_free, place_at, find_active, find_committed, time_under, active_as, committed_as, time_of, at_found}
+use Rattle.store.specs.declared.Area.{Area}
 use Rattle.store.specs.declared.Place.{Place}
 use Rattle.store.specs.declared.Found.{Found}
 use Rattle.store.specs.declared.Found.TheVariants.{At, Nothing}
@@ -59,7 +60,7 @@ life_time_law Free h = absurd (omega arith)
 life_time_law (Active a k) h = absurd (omega arith)
 life_time_law (Committed a t k) h = timed t.0 h
 
-module _ {m : List ℕ} {cs : List LoggedCommit} {cells : List Cell} {o next : ℕ} {ps : List Place} (v : Living m cs cells o next ps) where
+module _ {m : List ℕ} {area : Area} {cs : List LoggedCommit} {cells : List Cell} {o next : ℕ} {ps : List Place} (v : Living m area cs cells o next ps) where
   -- the active place that was found
   pub active_found : (n i : ℕ) → find_active ps n ≡ At i → (i < 64) × (0 < n) × (num_at ps i ≡ n) × (time_at ps i ≡ 0)
   unfolding find_active
@@ -98,7 +99,7 @@ module _ {m : List ℕ} {cs : List LoggedCommit} {cells : List Cell} {o next : �
       go : ((find cs n).time ≡ 0) ⊎ ((find cs n).time ≢ 0) → (f : Found) → find_committed ps n ≡ f → at_found f (λ i. time_of (place_at ps i).life) ≡ timing (find cs n).time
       go c (At i) e = let r = committed_found n i e in time_of_law i r.0 r.1 r.2
       go (inl c) Nothing e = rw c
-      go (inr c) Nothing e = let (i, g, q) = v.all n h (omega arith) in by i g q (same? (time_at ps i) 0)
+      go (inr c) Nothing e = let (i, g, q) = v.all n (inl h) (omega arith) in by i g q (same? (time_at ps i) 0)
         where
           by : (i : ℕ) → i < 64 → num_at ps i ≡ n → (time_at ps i ≡ 0) ⊎ (time_at ps i ≢ 0) → Untimed ≡ timing (find cs n).time
           by i g q (inl t) = absurd (c (rw q at ((v.each i g).unended (omega arith) t)))

@@ -12,12 +12,13 @@ use Rattle.layout.specs.Slot.{Cell}
 use Rattle.layout.specs.Table.{table_pair}
 use Rattle.layout.specs.declared.item.Pair.{Pair}
 use Rattle.store.specs.declared.Phase.{Phase}
-use Rattle.store.specs.declared.Phase.TheVariants.{Idle, FirstStored, SecondStored}
+use Rattle.store.specs.declared.Phase.TheVariants.{Idle, LinesStored, FirstStored, SecondStored}
+use Rattle.store.specs.declared.Area.{Area}
 use Rattle.store.specs.declared.Place.{Place}
 use Rattle.store.specs.Places.{place_at, free_place}
 use Rattle.agreement.proofs.history.Ghost.{LoggedCommit, find, count, Disk}
 use Rattle.agreement.proofs.history.ListLaws.{same?}
-use Rattle.agreement.proofs.invariant.Invariant.{life_num, life_time, num_at, time_at, table_num, table_time, TableOn, Covered, Lively, Living, Pending, PhaseIs}
+use Rattle.agreement.proofs.invariant.Invariant.{life_num, life_time, num_at, time_at, table_num, table_time, TableOn, Covered, Wanted, Lively, Living, Pending, PhaseIs}
 
 pub place_at_same : (ps : List Place) (i : ℕ) (p : Place) → length ps ≡ 64 → i < 64 → place_at (set ps i p) i ≡ p
 unfolding place_at
@@ -39,16 +40,16 @@ covered_set m' cs' ps i p o n l h own other j a = go (same? j i)
     go (inl e) = rw (e, place_at_same ps i p l h) own
     go (inr e) = rw (place_at_other ps i j p e) (other j a e)
 
-module _ {m : List ℕ} {cs : List LoggedCommit} {cells : List Cell} {o next : ℕ} {ps : List Place} (v : Living m cs cells o next ps)
-    (m' : List ℕ) (cs' : List LoggedCommit) (cells' : List Cell) (o' next' : ℕ) (i : ℕ) (h : i < 64) (p : Place) where
-  pub living_set : Lively cs' cells' o' next' p
-      → ((j : ℕ) → j < 64 → j ≢ i → Lively cs' cells' o' next' (place_at ps j))
+module _ {m : List ℕ} {area : Area} {cs : List LoggedCommit} {cells : List Cell} {o next : ℕ} {ps : List Place} (v : Living m area cs cells o next ps)
+    (m' : List ℕ) (area' : Area) (cs' : List LoggedCommit) (cells' : List Cell) (o' next' : ℕ) (i : ℕ) (h : i < 64) (p : Place) where
+  pub living_set : Lively area' cs' cells' o' next' p
+      → ((j : ℕ) → j < 64 → j ≢ i → Lively area' cs' cells' o' next' (place_at ps j))
       → ((j : ℕ) → j < 64 → j ≢ i → 0 < life_num p.life → num_at ps j ≢ life_num p.life)
-      → ((n : ℕ) → 0 < count n cells' → 0 < (find cs' n).time → (life_num p.life ≡ n) ⊎ ((j : ℕ) × (j < 64) × (j ≢ i) × (num_at ps j ≡ n)))
+      → ((n : ℕ) → Wanted area' cs' cells' n → 0 < (find cs' n).time → (life_num p.life ≡ n) ⊎ ((j : ℕ) × (j < 64) × (j ≢ i) × (num_at ps j ≡ n)))
       → Covered m' cs' (set ps i p) o' 64
       → (0 < table_num m' i → 0 < count (table_num m' i) cells' → life_num p.life ≡ table_num m' i)
       → ((j : ℕ) → j < 64 → j ≢ i → 0 < table_num m' j → 0 < count (table_num m' j) cells' → num_at ps j ≡ table_num m' j)
-      → Living m' cs' cells' o' next' (set ps i p)
+      → Living m' area' cs' cells' o' next' (set ps i p)
   living_set own each apart all covered here home = record {
     size = length-set ps i p ∙ v.size;
     each = λ j a. each' j a (same? j i);
@@ -64,7 +65,7 @@ module _ {m : List ℕ} {cs : List LoggedCommit} {cells : List Cell} {o next : �
       there : (j : ℕ) → j ≢ i → place_at (set ps i p) j ≡ place_at ps j
       there j e = place_at_other ps i j p e
 
-      each' : (j : ℕ) → j < 64 → (j ≡ i) ⊎ (j ≢ i) → Lively cs' cells' o' next' (place_at (set ps i p) j)
+      each' : (j : ℕ) → j < 64 → (j ≡ i) ⊎ (j ≢ i) → Lively area' cs' cells' o' next' (place_at (set ps i p) j)
       each' j a (inl e) = rw (e, here_is) own
       each' j a (inr e) = rw (there j e) (each j a e)
 
@@ -90,6 +91,7 @@ pub phase_map : (ph : Phase) (d : ℕ) (m m' : List ℕ) (disk disk' : Disk) (cs
     → ((o t n : ℕ) → n ≤ 64 → Pending d m disk cs ps first q o t n → Pending d m' disk' cs' ps' first' q' o t n)
     → PhaseIs ph d m disk cs ps first q → PhaseIs ph d m' disk' cs' ps' first' q'
 phase_map Idle d m m' disk disk' cs cs' ps ps' first first' q q' f p = tt
+phase_map (LinesStored o t) d m m' disk disk' cs cs' ps ps' first first' q q' f p = f o t.0 0 (omega arith) p
 phase_map (FirstStored o t) d m m' disk disk' cs cs' ps ps' first first' q q' f p = f o t.0 32 (omega arith) p
 phase_map (SecondStored o t) d m m' disk disk' cs cs' ps ps' first first' q q' f p = f o t.0 64 (omega arith) p
 
@@ -102,18 +104,19 @@ module _ (m m' : List ℕ) (same : (i : ℕ) → i < 64 → table_pair m' i ≡ 
   pub time_same : (i : ℕ) → i < 64 → table_time m' i ≡ table_time m i
   time_same i h = ap (λ (p : Pair). p.time.0) (same i h)
 
-  pub table_same : {stored : List (List Record)} → TableOn m stored → TableOn m' stored
+  pub table_same : {area : Area} {stored : List (List Record)} → TableOn m area stored → TableOn m' area stored
   table_same t = record {
     pair = λ i h. rw (num_same i h, time_same i h) (t.pair i h);
     vacant = λ i h. rw (num_same i h, time_same i h) (t.vacant i h);
     apart = λ i j h g. rw (num_same i h, num_same j g) (t.apart i j h g);
+    lined = λ i h. rw (num_same i h, time_same i h) (t.lined i h);
   }
 
   pub covered_same : (cs : List LoggedCommit) (ps : List Place) (o n : ℕ) → n ≤ 64 → Covered m cs ps o n → Covered m' cs ps o n
   covered_same cs ps o n le f i h = rw (num_same i (omega arith), time_same i (omega arith)) (f i h)
 
-  pub living_same : {cs : List LoggedCommit} {cells : List Cell} {o next : ℕ} {ps : List Place} → Living m cs cells o next ps → Living m' cs cells o next ps
-  living_same {cs} {cells} {o} {next} {ps} v = record {
+  pub living_same : {area : Area} {cs : List LoggedCommit} {cells : List Cell} {o next : ℕ} {ps : List Place} → Living m area cs cells o next ps → Living m' area cs cells o next ps
+  living_same {area} {cs} {cells} {o} {next} {ps} v = record {
     size = v.size;
     each = v.each;
     distinct = v.distinct;

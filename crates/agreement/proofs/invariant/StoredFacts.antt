@@ -47,13 +47,13 @@ rest_after d closed tail f stored e (up_to j h) rest q =
     (each_between (512 * length closed + n) _ (place_from (length closed) n (drop j tail)) (between_block (length closed) n (drop j tail)))
     (near_block (length closed) n (drop j tail) (length closed) (suc (length closed)) (omega arith) (omega arith) (omega arith) (omega arith))))
 
-module _ {l d : ℕ} {m : List ℕ} {disk : Disk} {closed : List (List Record)} {tail : List Record} {e : ℕ}
-    (medium : OnMedium l d m disk (closed ++ (tail ∷ []))) (mark : Stored closed tail disk.stored e) where
+module _ {l d a : ℕ} {m : List ℕ} {disk : Disk} {closed : List (List Record)} {tail : List Record} {e : ℕ}
+    (medium : OnMedium l d a m disk (closed ++ (tail ∷ []))) (mark : Stored closed tail disk.stored e) where
   pub rest_above : Each (λ (x : Placed). (e < x.end) × (length closed ≤ x.seq)) medium.log.shape.rest
   rest_above = rest_after d closed tail tail_fits disk.stored e mark medium.log.shape.rest medium.log.shape.split
     where
       tail_fits : size_of tail ≤ 502
-      tail_fits = (each_right (BlockSound d) closed (tail ∷ []) medium.log.shape.sound).0.fits
+      tail_fits = (each_right (BlockSound d a) closed (tail ∷ []) medium.log.shape.sound).0.fits
 
   commits_above : Each (λ (c : LoggedCommit). (e < c.end) × (length closed ≤ c.seq)) (commits_in medium.log.shape.rest)
   commits_above = place_commits (λ a q. (e < a) × (length closed ≤ q)) medium.log.shape.rest rest_above

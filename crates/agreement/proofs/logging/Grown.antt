@@ -10,7 +10,7 @@ use lib.Seq.{get_or-append_seam}
 use Rattle.layout.specs.Journal.{Record, version, commit}
 use Rattle.layout.specs.Slot.{Cell}
 use Rattle.layout.specs.declared.item.VersionHead.{VersionHead}
-use Rattle.layout.specs.declared.item.Pair.{Pair}
+use Rattle.layout.specs.declared.item.CommitHead.{CommitHead}
 use Rattle.fields.proofs.CellLaws.{Each, each_append}
 use Rattle.layout.proofs.PageLaws.{no_cell}
 use Rattle.store.specs.Write.{or_none}
@@ -22,23 +22,23 @@ use Rattle.agreement.proofs.history.VersionLaws.{newest_append}
 use Rattle.agreement.proofs.history.SlotLaws.{page_with_grow}
 use Rattle.agreement.proofs.invariant.MediumFacts.{fewer_stored}
 use Rattle.agreement.proofs.logging.GrowthLaws.{new_ver, old_commits, old_versions, new_com, find_new, find_old, snoc_each}
-use Rattle.agreement.proofs.invariant.Invariant.{OnMedium, LogOn}
+use Rattle.agreement.proofs.invariant.Invariant.{OnMedium, LogOn, Lined}
 
 -- the disk with one more slot
 abbrev pub with_cell : Disk → Cell → Disk
-with_cell k x = record { oldest = k.oldest; next = k.next; time = k.time; stored = k.stored; cells = k.cells ++ (x ∷ []); on = k.on }
+with_cell k x = record { oldest = k.oldest; next = k.next; time = k.time; stored = k.stored; cells = k.cells ++ (x ∷ []); on = k.on; area = k.area }
 
-module _ {l d : ℕ} {m : List ℕ} {disk : Disk} {history : List (List Record)} (bl : List (List Record)) (medium : OnMedium l d m disk history) (x : Placed) (grown : records bl ≡ records history ++ (x ∷ [])) where
+module _ {l d a : ℕ} {m : List ℕ} {disk : Disk} {history : List (List Record)} (bl : List (List Record)) (medium : OnMedium l d a m disk history) (x : Placed) (grown : records bl ≡ records history ++ (x ∷ [])) where
   longer : records bl ≡ records disk.stored ++ (medium.log.shape.rest ++ (x ∷ []))
   longer = grown ∙ ap (λ (ps : List Placed). ps ++ (x ∷ [])) medium.log.shape.split ∙ append_assoc (records disk.stored) medium.log.shape.rest (x ∷ [])
 
   known : disk.oldest ≤ x.seq → Each (λ (y : Placed). y.seq < disk.oldest → number_in y.rec < disk.next) (records bl)
   known recent = rw grown (each_append (λ (y : Placed). y.seq < disk.oldest → number_in y.rec < disk.next) (records history) (x ∷ []) medium.numbers.below ((λ a. absurd (omega arith)), tt))
 
-module _ {l d : ℕ} {m : List ℕ} {disk : Disk} {history bl : List (List Record)} (medium : OnMedium l d m disk history) (x : Placed)
-    (grown : records bl ≡ records history ++ (x ∷ [])) (sound : Each (BlockSound d) bl) (top : length bl ≤ 2 ^ 48) (front : length disk.stored ≤ length bl)
+module _ {l d a : ℕ} {m : List ℕ} {disk : Disk} {history bl : List (List Record)} (medium : OnMedium l d a m disk history) (x : Placed)
+    (grown : records bl ≡ records history ++ (x ∷ [])) (sound : Each (BlockSound d a) bl) (top : length bl ≤ 2 ^ 48) (front : length disk.stored ≤ length bl)
     (recent : disk.oldest ≤ x.seq) where
-  log_grown : LogOn l d m disk.oldest disk.stored bl
+  log_grown : LogOn l d a m disk.oldest disk.stored bl
   log_grown = record {
     shape = record {
       low = medium.log.shape.low;
@@ -58,8 +58,8 @@ module _ {l d : ℕ} {m : List ℕ} {disk : Disk} {history bl : List (List Recor
       → h.slot ≡ length (versions_of history) → length (versions_of history) < 15 * d
       → h.earlier ≡ or_none (newest_of (versions_of history) h.key (length (versions_of history)))
       → (find (commits_of history) h.number.0).time ≡ 0
-      → OnMedium l d m (with_cell disk (waiting_cell (at (versions_of bl) (length (versions_of history))))) bl
-  grow_version h v e slot room earlier free = subst (λ (y : Cell). OnMedium l d m (with_cell disk y) bl) (sym (ap waiting_cell last)) (record {
+      → OnMedium l d a m (with_cell disk (waiting_cell (at (versions_of bl) (length (versions_of history))))) bl
+  grow_version h v e slot room earlier free = subst (λ (y : Cell). OnMedium l d a m (with_cell disk y) bl) (sym (ap waiting_cell last)) (record {
     sizes = medium.sizes;
     master = medium.master;
     log = log_grown;
@@ -82,10 +82,12 @@ module _ {l d : ℕ} {m : List ℕ} {disk : Disk} {history bl : List (List Recor
       plain = rw new (snoc_each no_version (λ i a. disk.on (i / 15) ≤ i % 15 → cell (disk.cells ++ (y ∷ [])) i ≡ waiting_cell a) (versions_of history) w
           (λ i a. rw (left i a) (medium.pages.plain i a)) (λ _. here));
     };
+    area = medium.area;
     table = medium.table;
     numbers = record {
       below = known bl medium x grown recent;
       early = rw old medium.numbers.early;
+      lined = rw old medium.numbers.lined;
       late = medium.numbers.late;
       rising = rw old medium.numbers.rising;
       once = rw old medium.numbers.once;
@@ -125,19 +127,21 @@ module _ {l d : ℕ} {m : List ℕ} {disk : Disk} {history bl : List (List Recor
           (medium.numbers.steady i j a (omega arith))
 
   -- the last: no other number with a commit has a later version of a record that the number wrote (by Opens.held)
-  pub grow_commit : (p : Pair) → x.rec ≡ commit p → last_of (commits_of history) < p.time.0 → (find (commits_of history) p.number.0).time ≡ 0
+  pub grow_commit : (p : CommitHead) → x.rec ≡ commit p → last_of (commits_of history) < p.time.0 → (find (commits_of history) p.number.0).time ≡ 0
       → ((i j : ℕ) → i < j → j < length (versions_of history) → (at (versions_of history) i).num ≡ p.number.0
       → (at (versions_of history) i).key ≡ (at (versions_of history) j).key → (at (versions_of history) j).num ≡ p.number.0)
-      → OnMedium l d m disk bl
+      → OnMedium l d a m disk bl
   grow_commit p e late free held = record {
     sizes = medium.sizes;
     master = medium.master;
     log = log_grown;
     pages = rw old medium.pages;
+    area = medium.area;
     table = medium.table;
     numbers = record {
       below = known bl medium x grown recent;
       early = rw new (each_append (λ (y : LoggedCommit). y.seq < disk.oldest → y.time ≤ disk.time) (commits_of history) (c ∷ []) medium.numbers.early ((λ a. absurd (omega arith)), tt));
+      lined = rw new (each_append (λ (y : LoggedCommit). y.seq < disk.oldest → Lined disk.area y.time) (commits_of history) (c ∷ []) medium.numbers.lined ((λ a. absurd (omega arith)), tt));
       late = medium.numbers.late;
       rising = rw new (rising_snoc 0 (commits_of history) c medium.numbers.rising (omega arith) late);
       once = rw new (once_snoc (commits_of history) c medium.numbers.once free times);
@@ -146,7 +150,7 @@ module _ {l d : ℕ} {m : List ℕ} {disk : Disk} {history bl : List (List Recor
   }
     where
       c : LoggedCommit
-      c = record { seq = x.seq; end = x.end; num = p.number.0; time = p.time.0 }
+      c = record { seq = x.seq; end = x.end; num = p.number.0; time = p.time.0; user = p.user }
 
       old : versions_of bl ≡ versions_of history
       old = old_versions bl (records history) x grown p e

@@ -11,7 +11,7 @@ use lib.Dec.{ltb}
 use lib.ListN.{length, take, get_or, length-append, get_or-append}
 use lib.Seq.{get_or-append_seam}
 use borrow.Author.Tests.{leb-true, ltb-true}
-use Rattle.fields.specs.Block.{blk, put, log_block_at, page_block_at, end_place}
+use Rattle.fields.specs.Block.{blk, put, log_block_at, page_block_at, area_block_at, end_place}
 use Rattle.fields.specs.Part.{part}
 use Rattle.fields.specs.Equal.{eq_list}
 use Rattle.layout.specs.Journal.{Record, record_size, log_bytes, sequence_of, used_of, add_record, empty_block}
@@ -38,11 +38,12 @@ use Rattle.agreement.proofs.history.Ghost.{commits_of, size_of, Sound, BlockSoun
 use Rattle.agreement.proofs.history.ListLaws.{same?, each_left, each_right}
 use Rattle.agreement.proofs.history.CommitLaws.{find_left, last_append}
 use Rattle.agreement.proofs.invariant.MediumFacts.{oldest_is, commits_split, fewer_stored}
+use Rattle.agreement.proofs.invariant.AreaFacts.{area_grown, area_front}
 use Rattle.agreement.proofs.invariant.Invariant.{OnMedium, table_num, table_time, Stored, nothing, up_to, Up}
 
 -- the disk with other stored blocks
 abbrev pub with_log : Disk → List (List Record) → Disk
-with_log k stored = record { oldest = k.oldest; next = k.next; time = k.time; stored = stored; cells = k.cells; on = k.on }
+with_log k stored = record { oldest = k.oldest; next = k.next; time = k.time; stored = stored; cells = k.cells; on = k.on; area = k.area }
 
 -- a log block as a part of the log
 log_part : (m : List ℕ) (l j : ℕ) → j < l → blk m (3 + j) ≡ part (part m (512 * 3) (512 * l)) (512 * j) 512
@@ -54,15 +55,15 @@ log_part m l j h =
 -- ---- the tail is stored
 
 -- the tail's block by blk_same, the others by blk_other; stamps and pairs by find_left over the longer stored history
-module _ {l d : ℕ} {m : List ℕ} {disk : Disk} {closed : List (List Record)} {tail : List Record} {e : ℕ}
-    (medium : OnMedium l d m disk (closed ++ (tail ∷ []))) (low : disk.oldest ≤ length closed) (high : length closed < disk.oldest + l) (mark : Stored closed tail disk.stored e) where
+module _ {l d a : ℕ} {m : List ℕ} {disk : Disk} {closed : List (List Record)} {tail : List Record} {e : ℕ}
+    (medium : OnMedium l d a m disk (closed ++ (tail ∷ []))) (low : disk.oldest ≤ length closed) (high : length closed < disk.oldest + l) (mark : Stored closed tail disk.stored e) where
   pub pairs_stay : (i : ℕ) → i < 64 → table_pair (put m (log_block_at l (length closed)) (log_bytes (length closed) tail)) i ≡ table_pair m i
   pairs_stay i h =
       table_pair_other m i (log_block_at l (length closed)) (log_bytes (length closed) tail) (tail_length closed tail medium)
       (λ e. log_not_first l (length closed) (1 + i / 32) (omega arith) (sym e))
 
-  pub storing : OnMedium l d (put m (log_block_at l (length closed)) (log_bytes (length closed) tail)) (with_log disk (closed ++ (tail ∷ []))) (closed ++ (tail ∷ []))
-  unfolding log_block_at
+  pub storing : OnMedium l d a (put m (log_block_at l (length closed)) (log_bytes (length closed) tail)) (with_log disk (closed ++ (tail ∷ []))) (closed ++ (tail ∷ []))
+  unfolding log_block_at area_block_at
   storing = record {
     sizes = record { range = medium.sizes.range; size = length_put m place new ∙ medium.sizes.size };
     master = record {
@@ -96,14 +97,17 @@ module _ {l d : ℕ} {m : List ℕ} {disk : Disk} {closed : List (List Record)} 
       kept = medium.pages.kept;
       plain = medium.pages.plain;
     };
+    area = area_front place new size (omega (arith, mod-lt (length closed) some)) (rw (commits_split medium) (area_grown (commits_in medium.log.shape.rest) medium.area));
     table = record {
       pair = λ i h. rw (num i h, time i h) (pair' i h);
       vacant = λ i h. rw (num i h, time i h) (medium.table.vacant i h);
       apart = λ i j h g. rw (num i h, num j g) (medium.table.apart i j h g);
+      lined = λ i h. rw (num i h, time i h) (medium.table.lined i h);
     };
     numbers = record {
       below = medium.numbers.below;
       early = medium.numbers.early;
+      lined = medium.numbers.lined;
       late = rw (commits_split medium, last_append) (omega (arith, medium.numbers.late));
       rising = medium.numbers.rising;
       once = medium.numbers.once;
@@ -111,6 +115,9 @@ module _ {l d : ℕ} {m : List ℕ} {disk : Disk} {closed : List (List Record)} 
     };
   }
     where
+      some : 0 < l
+      some = omega (arith, medium.sizes.range.blocks_low)
+
       place : ℕ
       place = log_block_at l (length closed)
 
@@ -155,15 +162,15 @@ module _ {l d : ℕ} {m : List ℕ} {disk : Disk} {closed : List (List Record)} 
   moved = go (eq_list (part m (512 * 3) (512 * l)) (part (put m (log_block_at l (length closed)) (log_bytes (length closed) tail)) (512 * 3) (512 * l))) refl
     where
       -- a tail that is in its block is all stored
-      there : blk m (log_block_at l (length closed)) ≡ log_bytes (length closed) tail → (stored : List (List Record)) (a : ℕ) → disk.stored ≡ stored → Stored closed tail stored a → stored ≡ closed ++ (tail ∷ [])
-      there q stored a w (nothing y h) =
+      there : blk m (log_block_at l (length closed)) ≡ log_bytes (length closed) tail → (stored : List (List Record)) (y : ℕ) → disk.stored ≡ stored → Stored closed tail stored y → stored ≡ closed ++ (tail ∷ [])
+      there q stored x w (nothing y h) =
           absurd (omega (arith, medium.log.fresh (length closed % l) (mod-lt (length closed) (omega (arith, medium.sizes.range.blocks_low))), ap sequence_of q, tail_seq closed tail medium, ap length w))
-      there q stored a w (up_to n h) =
+      there q stored x w (up_to n h) =
           let b = medium.log.blocks (length closed) low (rw (w, length-append) (omega arith)) in
           let c : get_or disk.stored (length closed) [] ≡ take n tail = ap (λ (x : List (List Record)). get_or x (length closed) []) w ∙ get_or-append_seam closed (take n tail) [] [] in
-          let f : BlockSound d (take n tail) = (each_right (BlockSound d) closed (take n tail ∷ []) (subst (λ (x : List (List Record)). Each (BlockSound d) x) w medium.log.shape.stored_sound)).0 in
+          let f : BlockSound d a (take n tail) = (each_right (BlockSound d a) closed (take n tail ∷ []) (subst (λ (x : List (List Record)). Each (BlockSound d a) x) w medium.log.shape.stored_sound)).0 in
           let g : used_of (log_bytes (length closed) (take n tail)) ≡ used_of (log_bytes (length closed) tail) = ap used_of (sym (b ∙ ap (log_bytes (length closed)) c) ∙ q) in
-          ap (λ (rs : List Record). closed ++ (rs ∷ [])) (take_size n tail (omega (arith, g, block_used d (length closed) (take n tail) f, tail_used closed tail medium)))
+          ap (λ (rs : List Record). closed ++ (rs ∷ [])) (take_size n tail (omega (arith, g, block_used d a (length closed) (take n tail) f, tail_used closed tail medium)))
 
       go : (t : Bool) → eq_list (part m (512 * 3) (512 * l)) (part (put m (log_block_at l (length closed)) (log_bytes (length closed) tail)) (512 * 3) (512 * l)) ≡ t
           → cond (not t) (length (records (closed ++ (tail ∷ [])))) (length (records disk.stored)) ≡ length (records (closed ++ (tail ∷ [])))
@@ -181,13 +188,13 @@ unchanged l m = ap not (eq_refl (part m (512 * 3) (512 * l)))
 
 -- ---- the record is taken
 
-pub record Grows (l d : ℕ) (m : List ℕ) (disk : Disk) (closed : List (List Record)) (tail : List Record) (r : Record) (g : Logged) : Type 0 where
+pub record Grows (l d a : ℕ) (m : List ℕ) (disk : Disk) (closed : List (List Record)) (tail : List Record) (r : Record) (g : Logged) : Type 0 where
   pub closed' : List (List Record)
   pub tail' : List Record
   pub stored' : List (List Record)
-  pub medium : OnMedium l d g.medium (with_log disk stored') (closed ++ (tail ∷ []))  -- the medium's facts, still for the history before
+  pub medium : OnMedium l d a g.medium (with_log disk stored') (closed ++ (tail ∷ []))  -- the medium's facts, still for the history before
   pub grown : records (closed' ++ (tail' ∷ [])) ≡ records (closed ++ (tail ∷ [])) ++ (record { seq = length closed'; end = (tail_end g.tail).0; rec = r } ∷ [])
-  pub sound : Each (BlockSound d) (closed' ++ (tail' ∷ []))
+  pub sound : Each (BlockSound d a) (closed' ++ (tail' ∷ []))
   pub top : length (closed' ++ (tail' ∷ [])) ≤ 2 ^ 48
   pub front : length stored' ≤ length (closed' ++ (tail' ∷ []))
   pub tail_block : g.tail ≡ log_bytes (length closed') tail'
@@ -201,23 +208,23 @@ pub record Grows (l d : ℕ) (m : List ℕ) (disk : Disk) (closed : List (List R
   pub pairs : (i : ℕ) → i < 64 → table_pair g.medium i ≡ table_pair m i
 
 -- the table's pairs stay, and the new tail is no older than the oldest block
-module _ {l d : ℕ} {m : List ℕ} {disk : Disk} {closed : List (List Record)} {tail : List Record} {r : Record} {lg : Logged} where
-  pub num_stays : Grows l d m disk closed tail r lg → (j : ℕ) → j < 64 → table_num lg.medium j ≡ table_num m j
+module _ {l d a : ℕ} {m : List ℕ} {disk : Disk} {closed : List (List Record)} {tail : List Record} {r : Record} {lg : Logged} where
+  pub num_stays : Grows l d a m disk closed tail r lg → (j : ℕ) → j < 64 → table_num lg.medium j ≡ table_num m j
   num_stays g j h = ap (λ (p : Pair). p.number.0) (g.pairs j h)
 
-  pub time_stays : Grows l d m disk closed tail r lg → (j : ℕ) → j < 64 → table_time lg.medium j ≡ table_time m j
+  pub time_stays : Grows l d a m disk closed tail r lg → (j : ℕ) → j < 64 → table_time lg.medium j ≡ table_time m j
   time_stays g j h = ap (λ (p : Pair). p.time.0) (g.pairs j h)
 
-  pub recent : {c : List ℕ} {s : State} {b : Book} → Up l d m c s b disk closed tail → (g : Grows l d m disk closed tail r lg) → disk.oldest ≤ length g.closed'
+  pub recent : {c : List ℕ} {s : State} {b : Book} → Up l d a m c s b disk closed tail → (g : Grows l d a m disk closed tail r lg) → disk.oldest ≤ length g.closed'
   recent u g = omega (arith, u.state.ring_low, g.below)
 
-module _ {l d : ℕ} {m c : List ℕ} {s : State} {b : Book} {disk : Disk} {closed : List (List Record)} {tail : List Record} (u : Up l d m c s b disk closed tail) (r : Record) (z : Sound d r) where
+module _ {l d a : ℕ} {m c : List ℕ} {s : State} {b : Book} {disk : Disk} {closed : List (List Record)} {tail : List Record} (u : Up l d a m c s b disk closed tail) (r : Record) (z : Sound d a r) where
   fits_size : tail_fits s.tail (record_size r) ≡ true → 10 + size_of tail + record_size r ≤ 512
   unfolding tail_fits
   fits_size e = omega (arith, leb-true (used_of s.tail + record_size r) 512 e, ap used_of u.state.tail_block, tail_used closed tail u.medium)
 
   -- it fits the tail
-  in_tail : tail_fits s.tail (record_size r) ≡ true → Grows l d m disk closed tail r (logged_if true s m r)
+  in_tail : tail_fits s.tail (record_size r) ≡ true → Grows l d a m disk closed tail r (logged_if true s m r)
   unfolding logged_if
   in_tail e = record {
     closed' = closed;
@@ -225,7 +232,7 @@ module _ {l d : ℕ} {m c : List ℕ} {s : State} {b : Book} {disk : Disk} {clos
     stored' = disk.stored;
     medium = u.medium;
     grown = records_more closed tail r ∙ ap (λ (a : ℕ). records (closed ++ (tail ∷ [])) ++ (record { seq = length closed; end = a; rec = r } ∷ [])) end_is;
-    sound = each_append (BlockSound d) closed ((tail ++ (r ∷ [])) ∷ []) (each_left (BlockSound d) closed (tail ∷ []) u.medium.log.shape.sound) (new, tt);
+    sound = each_append (BlockSound d a) closed ((tail ++ (r ∷ [])) ∷ []) (each_left (BlockSound d a) closed (tail ∷ []) u.medium.log.shape.sound) (new, tt);
     top = rw length-append (omega (arith, tail_low closed tail u.medium));
     front = rw length-append (omega (arith, stored_length u.state.mark));
     tail_block = tail';
@@ -242,26 +249,26 @@ module _ {l d : ℕ} {m c : List ℕ} {s : State} {b : Book} {disk : Disk} {clos
       small : 10 + size_of tail + record_size r ≤ 512
       small = fits_size e
 
-      new : BlockSound d (tail ++ (r ∷ []))
-      new = sound_snoc d tail r (tail_sound closed tail u.medium) z small
+      new : BlockSound d a (tail ++ (r ∷ []))
+      new = sound_snoc d a tail r (tail_sound closed tail u.medium) z small
 
       tail' : add_record s.tail r ≡ log_bytes (length closed) (tail ++ (r ∷ []))
       tail' = ap (λ (t : List ℕ). add_record t r) u.state.tail_block
-          ∙ add_record_is (length closed) tail r (value_fits r z.sized) (omega (arith, small, block_size d tail (tail_sound closed tail u.medium)))
+          ∙ add_record_is (length closed) tail r (value_fits r z.sized) (omega (arith, small, block_size d a tail (tail_sound closed tail u.medium)))
 
       end_is : end_place (length closed) (10 + size_of (tail ++ (r ∷ []))) ≡ (tail_end (add_record s.tail r)).0
-      end_is = sym (ap (λ (t : List ℕ). (tail_end t).0) tail' ∙ block_end d (length closed) (tail ++ (r ∷ [])) new (omega (arith, tail_low closed tail u.medium)))
+      end_is = sym (ap (λ (t : List ℕ). (tail_end t).0) tail' ∙ block_end d a (length closed) (tail ++ (r ∷ [])) new (omega (arith, tail_low closed tail u.medium)))
 
   -- it begins the next block
-  in_next : length closed + 1 < disk.oldest + l → length closed + 1 < 2 ^ 48 → Grows l d m disk closed tail r (logged_if false s m r)
+  in_next : length closed + 1 < disk.oldest + l → length closed + 1 < 2 ^ 48 → Grows l d a m disk closed tail r (logged_if false s m r)
   unfolding logged_if empty_block stored_tail
   in_next low high = record {
     closed' = closed ++ (tail ∷ []);
     tail' = r ∷ [];
     stored' = closed ++ (tail ∷ []);
-    medium = subst (λ (x : List ℕ). OnMedium l d x (with_log disk (closed ++ (tail ∷ []))) (closed ++ (tail ∷ []))) (sym medium') (storing u.medium u.state.ring_low u.state.ring_high u.state.mark);
+    medium = subst (λ (x : List ℕ). OnMedium l d a x (with_log disk (closed ++ (tail ∷ []))) (closed ++ (tail ∷ []))) (sym medium') (storing u.medium u.state.ring_low u.state.ring_high u.state.mark);
     grown = records_next (closed ++ (tail ∷ [])) r ∙ ap (λ (a : ℕ). records (closed ++ (tail ∷ [])) ++ (record { seq = length (closed ++ (tail ∷ [])); end = a; rec = r } ∷ [])) end_is;
-    sound = each_append (BlockSound d) (closed ++ (tail ∷ [])) ((r ∷ []) ∷ []) u.medium.log.shape.sound (new, tt);
+    sound = each_append (BlockSound d a) (closed ++ (tail ∷ [])) ((r ∷ []) ∷ []) u.medium.log.shape.sound (new, tt);
     top = rw (length-append (closed ++ (tail ∷ [])) ((r ∷ []) ∷ []), length-append closed (tail ∷ [])) (omega arith);
     front = rw (length-append (closed ++ (tail ∷ [])) ((r ∷ []) ∷ [])) (omega arith);
     tail_block = tail';
@@ -275,8 +282,8 @@ module _ {l d : ℕ} {m c : List ℕ} {s : State} {b : Book} {disk : Disk} {clos
     pairs = λ i h. ap (λ (x : List ℕ). table_pair x i) medium' ∙ pairs_stay u.medium u.state.ring_low u.state.ring_high u.state.mark i h;
   }
     where
-      new : BlockSound d (r ∷ [])
-      new = sound_snoc d [] r (record { each = tt; fits = zero_size }) z (record_high r)
+      new : BlockSound d a (r ∷ [])
+      new = sound_snoc d a [] r (record { each = tt; fits = zero_size }) z (record_high r)
 
       seq_is : sequence_of s.tail ≡ length closed
       seq_is = tail_sequence u
@@ -294,19 +301,19 @@ module _ {l d : ℕ} {m c : List ℕ} {s : State} {b : Book} {disk : Disk} {clos
           ∙ add_record_is (length (closed ++ (tail ∷ []))) [] r (value_fits r z.sized) (empty_room r)
 
       end_is : end_place (length (closed ++ (tail ∷ []))) (10 + record_size r) ≡ (tail_end (add_record (log_bytes (sequence_of s.tail + 1) []) r)).0
-      end_is = sym (ap (λ (t : List ℕ). (tail_end t).0) tail' ∙ block_end d (length (closed ++ (tail ∷ []))) (r ∷ []) new (omega (arith, long)) ∙ ap (λ (a : ℕ). end_place (length (closed ++ (tail ∷ []))) (10 + a)) (one_size r))
+      end_is = sym (ap (λ (t : List ℕ). (tail_end t).0) tail' ∙ block_end d a (length (closed ++ (tail ∷ []))) (r ∷ []) new (omega (arith, long)) ∙ ap (λ (a : ℕ). end_place (length (closed ++ (tail ∷ []))) (10 + a)) (one_size r))
 
       place' : (tail_end s.tail).0 ≤ end_place (length (closed ++ (tail ∷ []))) 10
-      place' = rw (ap (λ (t : List ℕ). (tail_end t).0) u.state.tail_block ∙ block_end d (length closed) tail (tail_sound closed tail u.medium) (omega (arith, tail_low closed tail u.medium)))
+      place' = rw (ap (λ (t : List ℕ). (tail_end t).0) u.state.tail_block ∙ block_end d a (length closed) tail (tail_sound closed tail u.medium) (omega (arith, tail_low closed tail u.medium)))
           (next_end (length closed) (length (closed ++ (tail ∷ []))) (size_of tail) long (tail_sound closed tail u.medium).fits)
 
-pub grows : {l d : ℕ} {m c : List ℕ} {s : State} {b : Book} {disk : Disk} {closed : List (List Record)} {tail : List Record} → Up l d m c s b disk closed tail
-    → (r : Record) → Sound d r → may_log s m (record_size r) ≡ true → Grows l d m disk closed tail r (logged s m r)
+pub grows : {l d a : ℕ} {m c : List ℕ} {s : State} {b : Book} {disk : Disk} {closed : List (List Record)} {tail : List Record} → Up l d a m c s b disk closed tail
+    → (r : Record) → Sound d a r → may_log s m (record_size r) ≡ true → Grows l d a m disk closed tail r (logged s m r)
 unfolding logged may_log
-grows {l} {d} {m} {c} {s} {b} {disk} {closed} {tail} u r z may = go (tail_fits s.tail (record_size r)) refl may
+grows {l} {d} {a} {m} {c} {s} {b} {disk} {closed} {tail} u r z may = go (tail_fits s.tail (record_size r)) refl may
   where
     go : (t : Bool) → tail_fits s.tail (record_size r) ≡ t
-        → (t || (ltb (sequence_of s.tail + 1) (oldest_on m + s.blocks) && ltb (sequence_of s.tail + 1) (2 ^ 48))) ≡ true → Grows l d m disk closed tail r (logged_if t s m r)
+        → (t || (ltb (sequence_of s.tail + 1) (oldest_on m + s.blocks) && ltb (sequence_of s.tail + 1) (2 ^ 48))) ≡ true → Grows l d a m disk closed tail r (logged_if t s m r)
     go true e may = in_tail u r z e
     go false e may =
         let q : sequence_of s.tail ≡ length closed = tail_sequence u in

@@ -14,11 +14,12 @@ use Rattle.fields.specs.Cells.{flat}
 use Rattle.layout.specs.Journal.{Record, version, commit, record_size, record_bytes, log_bytes, sequence_of, used_of}
 use Rattle.layout.specs.Slot.{Cell}
 use Rattle.layout.specs.declared.item.VersionHead.{VersionHead}
-use Rattle.layout.specs.declared.item.Pair.{Pair}
+use Rattle.layout.specs.declared.item.CommitHead.{CommitHead}
 use Rattle.fields.proofs.CellLaws.{Each, each_append}
 use Rattle.layout.proofs.JournalLaws.{length_log_bytes, sequence_log_bytes, used_log_bytes}
 use Rattle.layout.proofs.PlaceLaws.{log_in_medium}
-use Rattle.layout.proofs.RecordLaws.{bytes_few}
+use Rattle.layout.proofs.RecordLaws.{bytes_few, user_few}
+use Rattle.store.specs.declared.Area.{Area}
 use Rattle.store.specs.declared.State.{State}
 use Rattle.store.specs.OpenLog.{Placed}
 use Rattle.store.specs.State.{fits}
@@ -67,15 +68,15 @@ match_more cs ds v x (marked t h e) = marked t h (ap (λ (c : LoggedCommit). c.t
 
 -- ---- the tail's bytes
 
-pub block_length : (d q : ℕ) (rs : List Record) → BlockSound d rs → length (log_bytes q rs) ≡ 512
-block_length d q rs z = length_log_bytes q rs (omega (arith, block_size d rs z, z.fits))
+pub block_length : (d a q : ℕ) (rs : List Record) → BlockSound d a rs → length (log_bytes q rs) ≡ 512
+block_length d a q rs z = length_log_bytes q rs (omega (arith, block_size d a rs z, z.fits))
 
-pub block_used : (d q : ℕ) (rs : List Record) → BlockSound d rs → used_of (log_bytes q rs) ≡ 10 + size_of rs
-block_used d q rs z = used_log_bytes q rs (omega (arith, block_size d rs z, z.fits)) ∙ ap (λ (n : ℕ). 10 + n) (block_size d rs z)
+pub block_used : (d a q : ℕ) (rs : List Record) → BlockSound d a rs → used_of (log_bytes q rs) ≡ 10 + size_of rs
+block_used d a q rs z = used_log_bytes q rs (omega (arith, block_size d a rs z, z.fits)) ∙ ap (λ (n : ℕ). 10 + n) (block_size d a rs z)
 
-pub block_end : (d q : ℕ) (rs : List Record) → BlockSound d rs → q < 2 ^ 64 → (tail_end (log_bytes q rs)).0 ≡ end_place q (10 + size_of rs)
+pub block_end : (d a q : ℕ) (rs : List Record) → BlockSound d a rs → q < 2 ^ 64 → (tail_end (log_bytes q rs)).0 ≡ end_place q (10 + size_of rs)
 unfolding tail_end
-block_end d q rs z h = rw (sequence_log_bytes q rs h, block_used d q rs z)
+block_end d a q rs z h = rw (sequence_log_bytes q rs h, block_used d a q rs z)
 
 -- a record more, or one
 pub one_size : (r : Record) → size_of (r ∷ []) ≡ record_size r
@@ -89,29 +90,29 @@ zero_size = omega arith
 pub record_high : (r : Record) → 10 + size_of [] + record_size r ≤ 512
 unfolding size_of record_size
 record_high (version h v) = omega (arith, bytes_few h.width)
-record_high (commit p) = omega arith
+record_high (commit p) = omega (arith, user_few p.form)
 
 pub empty_room : (r : Record) → 10 + length (flat record_bytes []) + record_size r ≤ 512
 unfolding flat record_size
 empty_room (version h v) = omega (arith, bytes_few h.width)
-empty_room (commit p) = omega arith
+empty_room (commit p) = omega (arith, user_few p.form)
 
 pub next_end : (q q' n : ℕ) → q' ≡ q + 1 → n ≤ 502 → end_place q (10 + n) ≤ end_place q' 10
 unfolding end_place
 next_end q q' n e h = omega arith
 
-pub sound_snoc : (d : ℕ) (rs : List Record) (r : Record) → BlockSound d rs → Sound d r → 10 + size_of rs + record_size r ≤ 512 → BlockSound d (rs ++ (r ∷ []))
-sound_snoc d rs r z s h = record {
-  each = each_append (Sound d) rs (r ∷ []) z.each (s, tt);
+pub sound_snoc : (d a : ℕ) (rs : List Record) (r : Record) → BlockSound d a rs → Sound d a r → 10 + size_of rs + record_size r ≤ 512 → BlockSound d a (rs ++ (r ∷ []))
+sound_snoc d a rs r z s h = record {
+  each = each_append (Sound d a) rs (r ∷ []) z.each (s, tt);
   fits = rw (size_append rs (r ∷ []), one_size r) (omega arith);
 }
 
-module _ {l d : ℕ} {m : List ℕ} {disk : Disk} (closed : List (List Record)) (tail : List Record) (medium : OnMedium l d m disk (closed ++ (tail ∷ []))) where
-  pub tail_sound : BlockSound d tail
-  tail_sound = (each_right (BlockSound d) closed (tail ∷ []) medium.log.shape.sound).0
+module _ {l d a : ℕ} {m : List ℕ} {disk : Disk} (closed : List (List Record)) (tail : List Record) (medium : OnMedium l d a m disk (closed ++ (tail ∷ []))) where
+  pub tail_sound : BlockSound d a tail
+  tail_sound = (each_right (BlockSound d a) closed (tail ∷ []) medium.log.shape.sound).0
 
   pub tail_length : length (log_bytes (length closed) tail) ≡ 512
-  tail_length = block_length d (length closed) tail tail_sound
+  tail_length = block_length d a (length closed) tail tail_sound
 
   pub tail_low : length closed < 2 ^ 48
   tail_low = omega (arith, rw length-append at medium.log.shape.top)
@@ -120,10 +121,10 @@ module _ {l d : ℕ} {m : List ℕ} {disk : Disk} (closed : List (List Record)) 
   tail_seq = sequence_log_bytes (length closed) tail (omega (arith, tail_low))
 
   pub tail_used : used_of (log_bytes (length closed) tail) ≡ 10 + size_of tail
-  tail_used = block_used d (length closed) tail tail_sound
+  tail_used = block_used d a (length closed) tail tail_sound
 
   pub tail_inside : 512 * log_block_at l (length closed) + 512 ≤ length m
-  tail_inside = rw medium.sizes.size (log_in_medium l d (length closed) (omega (arith, medium.sizes.range.blocks_low)))
+  tail_inside = rw medium.sizes.size (log_in_medium l d a (length closed) (omega (arith, medium.sizes.range.blocks_low)))
 
 -- ---- a history with one record more
 
@@ -138,12 +139,12 @@ module _ (bs : List (List Record)) (ps : List Placed) (x : Placed) (grown : reco
     unfolding commits_in
     old_commits = ap commits_in grown ∙ commits_append ps (x ∷ []) ∙ rw e (append-nil (commits_in ps))
 
-  module _ (p : Pair) (e : x.rec ≡ commit p) where
+  module _ (p : CommitHead) (e : x.rec ≡ commit p) where
     pub old_versions : versions_of bs ≡ versions_in ps
     unfolding versions_in
     old_versions = ap versions_in grown ∙ versions_append ps (x ∷ []) ∙ rw e (append-nil (versions_in ps))
 
-    pub new_com : commits_of bs ≡ commits_in ps ++ (record { seq = x.seq; end = x.end; num = p.number.0; time = p.time.0 } ∷ [])
+    pub new_com : commits_of bs ≡ commits_in ps ++ (record { seq = x.seq; end = x.end; num = p.number.0; time = p.time.0; user = p.user } ∷ [])
     unfolding commits_in
     new_com = ap commits_in grown ∙ commits_append ps (x ∷ []) ∙ rw e
 
@@ -167,17 +168,22 @@ snoc_each d Q xs y f q n h = go (same? n (length xs))
         let lt : n < length xs = omega (arith, rw length-append at h) in
         rw (get_or-append xs (y ∷ []) d n lt) (f n lt)
 
+-- the number of area blocks
+pub area_blocks : {l d a : ℕ} {m c : List ℕ} {s : State} {b : Book} {disk : Disk} {closed : List (List Record)} {tail : List Record} → Up l d a m c s b disk closed tail
+    → s.area.blocks ≡ a
+area_blocks u = ap (λ (x : Area). x.blocks) u.state.area ∙ u.medium.area.blocks
+
 -- the tail block's sequence
-pub tail_sequence : {l d : ℕ} {m c : List ℕ} {s : State} {b : Book} {disk : Disk} {closed : List (List Record)} {tail : List Record} → Up l d m c s b disk closed tail
+pub tail_sequence : {l d a : ℕ} {m c : List ℕ} {s : State} {b : Book} {disk : Disk} {closed : List (List Record)} {tail : List Record} → Up l d a m c s b disk closed tail
     → sequence_of s.tail ≡ length closed
 tail_sequence {closed = closed} {tail} u = ap sequence_of u.state.tail_block ∙ tail_seq closed tail u.medium
 
-module _ {l d : ℕ} {m c : List ℕ} {s : State} {b : Book} {disk : Disk} {closed : List (List Record)} {tail : List Record} (u : Up l d m c s b disk closed tail) where
+module _ {l d a : ℕ} {m c : List ℕ} {s : State} {b : Book} {disk : Disk} {closed : List (List Record)} {tail : List Record} (u : Up l d a m c s b disk closed tail) where
   -- question 16: a running store fits its buffers
   pub fits_up : fits s (length m) (length c) ≡ true
   fits_up = fit_is s (length m) (length c) (record {
-    range = rw (u.state.blocks, u.state.pages) u.medium.sizes.range;
-    medium = rw (u.state.blocks, u.state.pages) u.medium.sizes.size;
+    range = rw (u.state.blocks, u.state.pages, area_blocks u) u.medium.sizes.range;
+    medium = rw (u.state.blocks, u.state.pages, area_blocks u) u.medium.sizes.size;
     cache = rw u.state.pages u.cache.size;
     slots = omega (arith, u.state.slots, u.state.pages, u.medium.pages.slots.room);
     tail = record {

@@ -37,10 +37,10 @@ use Rattle.agreement.proofs.opening.CheckLaws.{both, first_holds, append_holds, 
 
 -- ---- the records of a block
 
-forms_sound : (d : ℕ) (rs : List Record) → Each (Sound d) rs → forms_of rs ≡ true
+forms_sound : (d a : ℕ) (rs : List Record) → Each (Sound d a) rs → forms_of rs ≡ true
 unfolding forms_of
-forms_sound d [] h = refl
-forms_sound d (r ∷ rs) h = both (record_form r) (forms_of rs) h.0.form (forms_sound d rs h.1)
+forms_sound d a [] h = refl
+forms_sound d a (r ∷ rs) h = both (record_form r) (forms_of rs) h.0.form (forms_sound d a rs h.1)
 
 -- where the times rise from t on and `low` asks for no more, the records fit, and `low` behind them asks for no more than
 -- the times of the rest keep
@@ -50,29 +50,29 @@ record FitsOn (d low : ℕ) (rs : List Record) (rest : List Placed) : Type 0 whe
   pub after : low_after_all low rs ≤ time + 1
   pub rising : Rising time (commits_in rest)
 
-records_fit_law : (d q off low t : ℕ) (rs : List Record) (rest : List Placed) → Each (Sound d) rs → low ≤ t + 1 → Rising t (commits_in (place_from q off rs ++ rest)) → FitsOn d low rs rest
+records_fit_law : (d b q off low t : ℕ) (rs : List Record) (rest : List Placed) → Each (Sound d b) rs → low ≤ t + 1 → Rising t (commits_in (place_from q off rs ++ rest)) → FitsOn d low rs rest
 unfolding records_fit low_after_all commits_in place_from
-records_fit_law d q off low t [] rest h a r = record { fit = refl; time = t; after = a; rising = r }
-records_fit_law d q off low t (version v x ∷ rs) rest h a r =
-    let o = records_fit_law d q (off + record_size (version v x)) low t rs rest h.1 a r in
+records_fit_law d b q off low t [] rest h a r = record { fit = refl; time = t; after = a; rising = r }
+records_fit_law d b q off low t (version v x ∷ rs) rest h a r =
+    let o = records_fit_law d b q (off + record_size (version v x)) low t rs rest h.1 a r in
     record { fit = both (ltb v.slot (15 * d)) (records_fit d low rs) (lt-ltb v.slot (15 * d) h.0.placeable) o.fit; time = o.time; after = o.after; rising = o.rising }
-records_fit_law d q off low t (commit p ∷ rs) rest h a r =
-    let o = records_fit_law d q (off + record_size (commit p)) (p.time.0 + 1) p.time.0 rs rest h.1 (omega arith) r.1 in
+records_fit_law d b q off low t (commit p ∷ rs) rest h a r =
+    let o = records_fit_law d b q (off + record_size (commit p)) (p.time.0 + 1) p.time.0 rs rest h.1 (omega arith) r.1 in
     record { fit = both (leb low p.time.0) (records_fit d (p.time.0 + 1) rs) (le-leb low p.time.0 (omega (arith, r.0))) o.fit; time = o.time; after = o.after; rising = o.rising }
 
-module _ {l d : ℕ} {m : List ℕ} {disk : Disk} (medium : OnMedium l d m disk disk.stored) where
+module _ {l d a : ℕ} {m : List ℕ} {disk : Disk} (medium : OnMedium l d a m disk disk.stored) where
   -- ---- the blocks that are read
 
   read_high : (q : ℕ) → q < oldest_on m + read_count m l → q < length disk.stored
   read_high q h = omega (arith, oldest_is medium, count_is medium, medium.log.shape.low)
 
   parsed_is : (q : ℕ) → disk.oldest ≤ q → q < length disk.stored → parsed (block_of m l q) ≡ record { records = get_or disk.stored q []; whole = true }
-  parsed_is q a h = ap parsed (block_is medium q a h) ∙ parsed_log_bytes q (get_or disk.stored q []) (sound_sized d (get_or disk.stored q []) (sound_block medium q h).each) (small_block medium q h)
+  parsed_is q f h = ap parsed (block_is medium q f h) ∙ parsed_log_bytes q (get_or disk.stored q []) (sound_sized d a (get_or disk.stored q []) (sound_block medium q h).each) (small_block medium q h)
 
   -- ---- condition 1
 
-  sizes_are_law : sizes_are (master_of (blk m 0)) l d ≡ true
-  sizes_are_law = ap (λ (f : MasterFound). sizes_are f l d) (ap master_of medium.master.block ∙ master_back (master_fields l d disk.oldest disk.next disk.time) (fields_sized medium)) ∙ both (eqb l l) (eqb d d) (eq-eqb l l refl) (eq-eqb d d refl)
+  sizes_are_law : sizes_are (master_of (blk m 0)) l d a ≡ true
+  sizes_are_law = ap (λ (f : MasterFound). sizes_are f l d a) (ap master_of medium.master.block ∙ master_back (master_fields l d a disk.oldest disk.next disk.time) (fields_sized medium)) ∙ both (eqb l l) (eqb d d && eqb a a) (eq-eqb l l refl) (both (eqb d d) (eqb a a) (eq-eqb d d refl) (eq-eqb a a refl))
 
   pair_form_law : (i : ℕ) → i < 64 → pair_form (table_pair m i) ≡ true
   unfolding pair_form
@@ -83,12 +83,12 @@ module _ {l d : ℕ} {m : List ℕ} {disk : Disk} (medium : OnMedium l d m disk 
       go (inr e) = rw (ne_eqb (table_pair m i).number.0 0 e)
 
   block_form : (q : ℕ) → oldest_on m ≤ q → q < oldest_on m + read_count m l → used_form (block_of m l q) && forms_of (parsed (block_of m l q)).records ≡ true
-  block_form q a b =
+  block_form q f g =
       let low : disk.oldest ≤ q = omega (arith, oldest_is medium) in
-      let high = read_high q b in
+      let high = read_high q g in
       both (used_form (block_of m l q)) (forms_of (parsed (block_of m l q)).records)
       (ap used_form (block_is medium q low high) ∙ used_form_log_bytes q (get_or disk.stored q []) (small_block medium q high))
-      (ap (λ (x : Parsed). forms_of x.records) (parsed_is q low high) ∙ forms_sound d (get_or disk.stored q []) (sound_block medium q high).each)
+      (ap (λ (x : Parsed). forms_of x.records) (parsed_is q low high) ∙ forms_sound d a (get_or disk.stored q []) (sound_block medium q high).each)
 
   page_form_law : (p : ℕ) → p < d → page_form (blk m (page_block_at l p)) ≡ true
   unfolding page_with
@@ -99,7 +99,7 @@ module _ {l d : ℕ} {m : List ℕ} {disk : Disk} (medium : OnMedium l d m disk 
       (each_take SlotHolds (disk.on p) (drop (15 * p) disk.cells) (each_drop SlotHolds (15 * p) disk.cells (cells_hold medium)))
       (simp length-take (omega (arith, (medium.pages.few p).0)))
 
-  pub fields_in_form_law : holds (fields_in_form m l d) ≡ true
+  pub fields_in_form_law : holds (fields_in_form m l d a) ≡ true
   unfolding fields_in_form
   fields_in_form_law =
       first_holds _ 0 _ sizes_are_law
@@ -121,10 +121,10 @@ module _ {l d : ℕ} {m : List ℕ} {disk : Disk} (medium : OnMedium l d m disk 
   records_from_law : (j low t q : ℕ) → q + j ≡ length disk.stored → disk.oldest ≤ q → low ≤ t + 1 → Rising t (commits_in (place_all q (drop q disk.stored))) → holds (records_from m l d low q j) ≡ true
   unfolding records_from holds place_all
   records_from_law zero low t q e o a r = refl
-  records_from_law (suc j) low t q e o a r =
+  records_from_law (suc j) low t q e o f r =
       let rs = get_or disk.stored q [] in
       let h : q < length disk.stored = omega arith in
-      let g = records_fit_law d q 10 low t rs (place_all (suc q) (drop (suc q) disk.stored)) (sound_block medium q h).each a (rw (drop-cons disk.stored q [] h) at r) in
+      let g = records_fit_law d a q 10 low t rs (place_all (suc q) (drop (suc q) disk.stored)) (sound_block medium q h).each f (rw (drop-cons disk.stored q [] h) at r) in
       rw (parsed_is q o h, g.fit, add-one)
       (records_from_law j (low_after_all low rs) g.time (suc q) (omega arith) (omega arith) g.after g.rising)
 
@@ -142,7 +142,7 @@ module _ {l d : ℕ} {m : List ℕ} {disk : Disk} (medium : OnMedium l d m disk 
   page_end_law p (suc c) h =
       let lt : 15 * p + c < length (versions_of disk.stored) = omega arith in (
         each_at (λ (v : LoggedVersion). v.end ≤ log_end m l) (versions_of disk.stored) (15 * p + c) no_version (place_versions (λ e q. e ≤ log_end m l) (records disk.stored) (ends_below medium)) lt,
-        omega (arith, near d disk.stored medium.log.shape.stored_sound (15 * p + c) lt, medium.log.shape.top),
+        omega (arith, near d a disk.stored medium.log.shape.stored_sound (15 * p + c) lt, medium.log.shape.top),
       )
 
   pub ends_logged_law : holds (ends_logged m l d) ≡ true

@@ -34,7 +34,7 @@ use Rattle.agreement.proofs.opening.Reading.{numbers_below, last_is}
 use Rattle.agreement.proofs.opening.Redo.{redone_cache}
 use Rattle.agreement.proofs.opening.CheckLaws.{both, or_right, zero_or, append_holds, table_holds, pages_hold}
 
-module _ {l d : ℕ} {m : List ℕ} {disk : Disk} (medium : OnMedium l d m disk disk.stored) where
+module _ {l d a : ℕ} {m : List ℕ} {disk : Disk} (medium : OnMedium l d a m disk disk.stored) where
   abbrev cache : List ℕ
   cache = (redone m l d).cache
 
@@ -105,7 +105,7 @@ module _ {vs : List LoggedVersion} {cs : List LoggedCommit} {key n : ℕ} where
   time_step true (suc t) rest q f w = timed n (omega arith) (eqb-true (at vs n).key key q) (suc t) (omega arith) f
   time_step false t rest q f w = time_later rest w
 
-module _ {l d : ℕ} {m : List ℕ} {b : Book} {disk : Disk} (x : Down l d m b disk) where
+module _ {l d a : ℕ} {m : List ℕ} {b : Book} {disk : Disk} (x : Down l d a m b disk) where
   -- a version's time: its stamp is its number's commit's, or its number is waited for
   version_time_law : (n : ℕ) → n < length (versions_of disk.stored)
       → version_time (pair_time m (read_log m l)) (cell_at (redone m l d).cache n).state ≡ timing (find (commits_of disk.stored) (at (versions_of disk.stored) n).num).time

@@ -1,5 +1,6 @@
 -- The pairs that an opening finds: a table place by its number, and where a commit is: in the log, as it is in the history,
--- or below the log. A number that is waited for and has no table place has its commit, if any, in the log.
+-- or below the log. A number that is waited for and has no table place has its commit, if any, in the log; so has a number whose
+-- line is missing, and no table place.
 use Prim.Native.Nat.{ℕ, zero, suc, ◌≤◌, ◌<◌}
 use native.Mathlib.Omega.{arith}
 use mathlib.Core.Bool.{Bool, true, false, cond, not, false≢true}
@@ -20,12 +21,13 @@ use Rattle.store.specs.OpenLog.{read_log, commit_under, next_number}
 use Rattle.store.specs.OpenPairs.{table_find, table_or, time_of_commitment, pair_time, is_paired, in_log_alone}
 use Rattle.store.proofs.SearchLaws.{first_found, first_nothing}
 use Rattle.runs.specs.Book.{Book}
-use Rattle.agreement.proofs.invariant.MediumFacts.{times_low, sound_at, waiting_slot}
+use Rattle.agreement.proofs.invariant.MediumFacts.{CommitSound, commits_sound, times_low, sound_at, waiting_slot}
+use Rattle.agreement.proofs.invariant.AreaFacts.{not_both, at_find}
 use Rattle.agreement.proofs.history.CommitLaws.{timed, find_num, find_each, find_left, find_right, once_split}
 use Rattle.agreement.proofs.history.Ghost.{commits_of, place_all, records, LoggedCommit, commits_in, no_commit, find, Once, timing, count, Disk}
-use Rattle.agreement.proofs.history.ListLaws.{same?, each_left, each_right}
+use Rattle.agreement.proofs.history.ListLaws.{same?, each_left, each_right, each_from}
 use Rattle.agreement.proofs.history.VersionLaws.{commits_append, place_commits, num_commits}
-use Rattle.agreement.proofs.invariant.Invariant.{table_num, table_time, Down}
+use Rattle.agreement.proofs.invariant.Invariant.{table_num, table_time, Unlined, Lined, Wanted, Down}
 use Rattle.agreement.proofs.opening.Reading.{commit_time_law, log_split, log_before, log_recent, numbers_below}
 
 -- ---- a table place by its number
@@ -68,7 +70,7 @@ find_lacks n (c ∷ cs) p e = go (find_lacks n cs p.1) (eqb c.num n) e
     go ih true e = absurd (omega (arith, p.0))
     go ih false e = ih e
 
-module _ {l d : ℕ} {m : List ℕ} {b : Book} {disk : Disk} (x : Down l d m b disk) where
+module _ {l d a : ℕ} {m : List ℕ} {b : Book} {disk : Disk} (x : Down l d a m b disk) where
   -- ---- the commits: those before the log, and those in it
 
   lost : List LoggedCommit
@@ -123,6 +125,11 @@ module _ {l d : ℕ} {m : List ℕ} {b : Book} {disk : Disk} (x : Down l d m b d
   pub waited_low : (n : ℕ) → 0 < count n disk.cells → 0 < n
   waited_low n h = let (j, g, e, w) = waiting_slot x.medium n h in omega (arith, (sound_at x.medium j g).low)
 
+  pub committed_low : (n : ℕ) → 0 < (find (commits_of disk.stored) n).time → 0 < n
+  committed_low n h =
+      let e : (find (commits_of disk.stored) n).num ≡ n = find_num n (commits_of disk.stored) h in
+      omega (arith, (find_each n CommitSound (commits_of disk.stored) (commits_sound d a disk.stored x.medium.log.shape.stored_sound) h).low)
+
   pub committed_below : (n : ℕ) → 0 < (find (commits_of disk.stored) n).time → n < next_number m l
   committed_below n h =
       let e : (find (commits_of disk.stored) n).num ≡ n = find_num n (commits_of disk.stored) h in
@@ -146,6 +153,42 @@ module _ {l d : ℕ} {m : List ℕ} {b : Book} {disk : Disk} (x : Down l d m b d
       go (inl e) (inl z) = z ∙ sym e
       go (inl e) (inr z) = sym (ap (λ (c : LoggedCommit). c.time) (commit_logged n (omega arith)).0)
       go (inr e) z = by (omega arith) (commit_where n (omega arith))
+
+  -- a pair of the table is of a commit whose line is on the medium
+  pub listed_lined : (n i : ℕ) → table_find m n ≡ At i → Unlined disk.area (find (commits_of disk.stored) n).time → ⊥
+  listed_lined n i f u =
+      let r = table_found m n i f in
+      let z : 0 < table_num m i = omega (arith, r.1, r.2) in
+      let t : (find (commits_of disk.stored) n).time ≡ table_time m i = ap (λ (j : ℕ). (find (commits_of disk.stored) j).time) (sym r.2) ∙ (x.medium.table.pair i r.0 z).1 in
+      not_both disk.area (table_time m i) (rw t at u) (x.medium.table.lined i r.0 z)
+
+  -- a commit whose line is missing is in the log
+  pub unlined_logged : (n : ℕ) → Unlined disk.area (find (commits_of disk.stored) n).time → find (commits_in (read_log m l)) n ≡ find (commits_of disk.stored) n
+  unlined_logged n u = go (commit_where n z)
+    where
+      z : 0 < (find (commits_of disk.stored) n).time
+      z = omega (arith, u.1)
+
+      go : (find (commits_in (read_log m l)) n ≡ find (commits_of disk.stored) n) ⊎ ((find (commits_in (read_log m l)) n ≡ no_commit) × ((find (commits_of disk.stored) n).seq < disk.oldest))
+          → find (commits_in (read_log m l)) n ≡ find (commits_of disk.stored) n
+      go (inl e) = e
+      go (inr e) =
+          absurd (not_both disk.area (find (commits_of disk.stored) n).time u
+          (find_each n (λ (c : LoggedCommit). c.seq < disk.oldest → Lined disk.area c.time) (commits_of disk.stored) x.medium.numbers.lined z e.1))
+
+  -- a commit that is waited for or whose line is missing, without a table place: it is the log's
+  pub wanted_logged : (n : ℕ) → Wanted disk.area (commits_of disk.stored) disk.cells n → table_find m n ≡ Nothing
+      → (find (commits_in (read_log m l)) n).time ≡ (find (commits_of disk.stored) n).time
+  wanted_logged n (inl h) f = unlisted n h f
+  wanted_logged n (inr u) f = ap (λ (c : LoggedCommit). c.time) (unlined_logged n u)
+
+  -- each commit of the log is found by its number
+  pub logged_found : Each (λ (c : LoggedCommit). find (commits_of disk.stored) c.num ≡ c) (commits_in (read_log m l))
+  logged_found =
+      each_right (λ (c : LoggedCommit). find (commits_of disk.stored) c.num ≡ c) lost (commits_in (read_log m l))
+      (subst (Each (λ (c : LoggedCommit). find (commits_of disk.stored) c.num ≡ c)) commits_split
+      (each_from (λ (c : LoggedCommit). find (commits_of disk.stored) c.num ≡ c) (commits_of disk.stored) no_commit
+      (λ i h. at_find 0 (commits_of disk.stored) x.medium.numbers.rising x.medium.numbers.once i h)))
 
   pub pair_timing : (n : ℕ) → 0 < count n disk.cells → pair_time m (read_log m l) n ≡ timing (find (commits_of disk.stored) n).time
   unfolding pair_time

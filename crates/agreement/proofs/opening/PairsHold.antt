@@ -20,24 +20,24 @@ use Rattle.store.specs.declared.Timing.TheVariants.{Timed, Untimed}
 use Rattle.store.specs.Places.{first, is_at}
 use Rattle.store.specs.Chain.{cell_at}
 use Rattle.store.specs.OpenLog.{Placed, number_in, next_on, read_log, commit_under, Commitment}
-use Rattle.store.specs.OpenPairs.{table_find, time_of_commitment, waiting_numbers, is_paired}
-use Rattle.store.specs.OpenConditions.{holds, at_least_one, slot_at_least_one, same_time, once_in, once_checks, new_in_table, redone, from_one, numbers_left, pairs_once, few_waiting}
+use Rattle.store.specs.OpenPairs.{table_find, time_of_commitment, area_on, live_numbers, is_paired}
+use Rattle.store.specs.OpenConditions.{holds, at_least_one, slot_at_least_one, same_time, once_in, once_checks, new_in_table, redone, from_one, numbers_left, pairs_once, few_live}
 use Rattle.store.proofs.SearchLaws.{first_found}
 use Rattle.runs.specs.Book.{Book}
 use Rattle.agreement.proofs.invariant.MediumFacts.{times_low, next_is, sound_at, cell_cached, cell_free}
 use Rattle.agreement.proofs.history.Ghost.{versions_of, commits_of, Sound, place_all, records, LoggedVersion, at, LoggedCommit, commits_in, as_commit, find, timing, cell, Match, still, marked, Once, Disk}
 use Rattle.agreement.proofs.history.ListLaws.{split, same?, each_left, each_right}
-use Rattle.agreement.proofs.history.VersionLaws.{sound_all, commits_append}
+use Rattle.agreement.proofs.history.VersionLaws.{commits_append}
 use Rattle.agreement.proofs.history.CommitLaws.{find_left, find_right, find_head, once_split}
 use Rattle.agreement.proofs.invariant.Invariant.{OnMedium, Down}
-use Rattle.agreement.proofs.opening.Reading.{log_split, commit_time_law}
+use Rattle.agreement.proofs.opening.Reading.{log_split, log_sound, commit_time_law}
 use Rattle.agreement.proofs.opening.Redo.{redone_cache}
-use Rattle.agreement.proofs.opening.Places.{few_waiting_law}
+use Rattle.agreement.proofs.opening.Places.{few_live_law}
 use Rattle.agreement.proofs.opening.CheckLaws.{both, zero_or, first_holds, append_holds, table_holds, log_holds, pages_hold}
 
-at_least_one_law : (d : ℕ) (r : Record) → Sound d r → at_least_one r ≡ true
-at_least_one_law d (version h v) s = le-leb 1 h.number.0 s.low
-at_least_one_law d (commit p) s = both (leb 1 p.number.0) (leb 1 p.time.0) (le-leb 1 p.number.0 s.low) (le-leb 1 p.time.0 s.placeable)
+at_least_one_law : (d a : ℕ) (r : Record) → Sound d a r → at_least_one r ≡ true
+at_least_one_law d a (version h v) s = le-leb 1 h.number.0 s.low
+at_least_one_law d a (commit p) s = both (leb 1 p.number.0) (leb 1 p.time.0) (le-leb 1 p.number.0 s.low) (le-leb 1 p.time.0 s.placeable)
 
 -- no time, no commit record
 no_commit : (c : Option Commitment) (t : ℕ) → t ≡ 0 → time_of_commitment c ≡ timing t → c ≡ none
@@ -64,10 +64,7 @@ none_last xs ys n h e = go (same? (find xs n).time 0)
     go (inl z) = sym (ap (λ (x : LoggedCommit). x.time) (find_right n xs ys h z)) ∙ e
     go (inr z) = absurd (omega (arith, ap (λ (x : LoggedCommit). x.time) (find_left n xs ys (omega arith))))
 
-module _ {l d : ℕ} {m : List ℕ} {disk : Disk} (medium : OnMedium l d m disk disk.stored) where
-  log_sound : Each (λ (x : Placed). Sound d x.rec) (read_log m l)
-  log_sound = each_right (λ (x : Placed). Sound d x.rec) (place_all 0 (take disk.oldest disk.stored)) (read_log m l) (rw (log_split medium) at (sound_all d 0 disk.stored medium.log.shape.stored_sound))
-
+module _ {l d a : ℕ} {m : List ℕ} {disk : Disk} (medium : OnMedium l d a m disk disk.stored) where
   -- ---- condition 7
 
   slot_from_one : (n : ℕ) → n < 15 * d → slot_at_least_one (cell_at (redone m l d).cache n).state ≡ true
@@ -89,7 +86,7 @@ module _ {l d : ℕ} {m : List ℕ} {disk : Disk} (medium : OnMedium l d m disk 
       first_holds _ 0 _ (le-leb 1 (next_on m) (omega (arith, next_is medium, medium.master.fits.next_low)))
       (append_holds _ _ (table_holds (λ i. eqb (table_pair m i).number.0 0 || leb 1 (table_pair m i).time.0) (λ i h. zero_or (table_pair m i).number.0 (leb 1 (table_pair m i).time.0)
       (λ e. le-leb 1 (table_pair m i).time.0 (medium.table.pair i h (omega arith)).0)))
-      (append_holds _ _ (log_holds l at_least_one (read_log m l) (each_map (λ (x : Placed). Sound d x.rec) (λ (x : Placed). at_least_one x.rec ≡ true) (read_log m l) (λ x s. at_least_one_law d x.rec s) log_sound))
+      (append_holds _ _ (log_holds l at_least_one (read_log m l) (each_map (λ (x : Placed). Sound d a x.rec) (λ (x : Placed). at_least_one x.rec ≡ true) (read_log m l) (λ x s. at_least_one_law d a x.rec s) (log_sound medium)))
       (pages_hold m l d (redone m l d).cache (λ p. true) (λ n. slot_at_least_one (cell_at (redone m l d).cache n).state) (λ p h. refl) slot_from_one)))
 
   -- ---- condition 8
@@ -98,7 +95,7 @@ module _ {l d : ℕ} {m : List ℕ} {disk : Disk} (medium : OnMedium l d m disk 
   unfolding numbers_left
   numbers_left_law =
       log_holds l (λ r. ltb (number_in r) (2 ^ 64 - 1)) (read_log m l)
-      (each_map (λ (x : Placed). Sound d x.rec) (λ (x : Placed). ltb (number_in x.rec) (2 ^ 64 - 1) ≡ true) (read_log m l) (λ x s. lt-ltb (number_in x.rec) (2 ^ 64 - 1) s.high) log_sound)
+      (each_map (λ (x : Placed). Sound d a x.rec) (λ (x : Placed). ltb (number_in x.rec) (2 ^ 64 - 1) ≡ true) (read_log m l) (λ x s. lt-ltb (number_in x.rec) (2 ^ 64 - 1) s.high) (log_sound medium))
 
   -- ---- condition 9
 
@@ -137,7 +134,7 @@ module _ {l d : ℕ} {m : List ℕ} {disk : Disk} (medium : OnMedium l d m disk 
       go : (r : Record) → x.rec ≡ r → once_in r m (commit_under seen (number_in r)) ≡ true
       go (version h v) q = refl
       go (commit p) q =
-          let c : LoggedCommit = record { seq = x.seq; end = x.end; num = p.number.0; time = p.time.0 } in
+          let c : LoggedCommit = record { seq = x.seq; end = x.end; num = p.number.0; time = p.time.0; user = p.user } in
           let g : commits_of disk.stored ≡ commits_in (pre ++ seen) ++ (c ∷ commits_in xs) =
           ap commits_in (e ∙ sym (append_assoc pre seen (x ∷ xs))) ∙ commits_append (pre ++ seen) (x ∷ xs) ∙ ap (λ (r : Record). commits_in (pre ++ seen) ++ (as_commit r x.seq x.end ++ commits_in xs)) q in
           let low : Each (λ (y : LoggedCommit). 0 < y.time) (commits_in (pre ++ seen) ++ (c ∷ commits_in xs)) = rw g at (times_low medium) in
@@ -167,7 +164,7 @@ module _ {l d : ℕ} {m : List ℕ} {disk : Disk} (medium : OnMedium l d m disk 
 
 -- ---- condition 10
 
-module _ {l d : ℕ} {m : List ℕ} {b : Book} {disk : Disk} (x : Down l d m b disk) where
-  pub waiting_few : holds (few_waiting m l d (redone m l d).cache) ≡ true
-  unfolding few_waiting holds
-  waiting_few = rw (le-leb (length (waiting_numbers (redone m l d).cache (is_paired m (read_log m l)) (15 * d))) 64 (few_waiting_law x))
+module _ {l d a : ℕ} {m : List ℕ} {b : Book} {disk : Disk} (x : Down l d a m b disk) where
+  pub live_few : holds (few_live m l d (redone m l d).cache a) ≡ true
+  unfolding few_live holds
+  live_few = rw (le-leb (length (live_numbers (area_on m l d a) (read_log m l) (redone m l d).cache (is_paired m (read_log m l)) (15 * d))) 64 (few_live_law x))

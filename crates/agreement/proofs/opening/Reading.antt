@@ -18,7 +18,7 @@ use Rattle.layout.specs.Journal.{Record, Parsed, log_bytes, record_bytes, sequen
 use Rattle.fields.proofs.CellLaws.{Each, each_at, each_map, each_append}
 use Rattle.layout.proofs.JournalLaws.{sequence_log_bytes, used_log_bytes, parsed_log_bytes}
 use Rattle.store.specs.OpenLog.{Placed, place_from, number_in, block_of, matching, logged_from, read_count, read_log, tail_after, read_tail, log_end, above_all, next_number, last_time, commit_under}
-use Rattle.store.specs.OpenPairs.{time_of_commitment, end_of_commitment, time_or_zero}
+use Rattle.store.specs.OpenPairs.{time_of_commitment, end_of_commitment, user_of_commitment, time_or_zero}
 use Rattle.agreement.proofs.history.PlacingLaws.{block_size, sound_sized, place_all_append, records_tail, records_empty, Near, near_all, near_records, between_block}
 use Rattle.agreement.proofs.history.Ghost.{commits_of, size_of, Sound, BlockSound, place_all, records, LoggedCommit, commits_in, find, last_of, timing, Disk, closed_of, tail_of}
 use Rattle.agreement.proofs.history.ListLaws.{split, each_left, each_right, each_both, each_drop, each_take}
@@ -43,14 +43,17 @@ module _ (xs : List Placed) (n : ℕ) (times : Each (λ (c : LoggedCommit). 0 < 
   pub commit_end : end_of_commitment (commit_under xs n) ≡ (find (commits_in xs) n).end
   commit_end = (commit_finds xs n times).2
 
-module _ {l d : ℕ} {m : List ℕ} {disk : Disk} (medium : OnMedium l d m disk disk.stored) where
+  pub commit_user : user_of_commitment (commit_under xs n) ≡ (find (commits_in xs) n).user
+  commit_user = (commit_finds xs n times).3
+
+module _ {l d a : ℕ} {m : List ℕ} {disk : Disk} (medium : OnMedium l d a m disk disk.stored) where
   -- ---- a block of the log
 
-  pub sound_block : (q : ℕ) → q < length disk.stored → BlockSound d (get_or disk.stored q [])
-  sound_block q h = each_at (BlockSound d) disk.stored q [] medium.log.shape.stored_sound h
+  pub sound_block : (q : ℕ) → q < length disk.stored → BlockSound d a (get_or disk.stored q [])
+  sound_block q h = each_at (BlockSound d a) disk.stored q [] medium.log.shape.stored_sound h
 
   pub small_block : (q : ℕ) → q < length disk.stored → length (flat record_bytes (get_or disk.stored q [])) ≤ 502
-  small_block q h = omega (arith, block_size d (get_or disk.stored q []) (sound_block q h), (sound_block q h).fits)
+  small_block q h = omega (arith, block_size d a (get_or disk.stored q []) (sound_block q h), (sound_block q h).fits)
 
   pub block_is : (q : ℕ) → disk.oldest ≤ q → q < length disk.stored → block_of m l q ≡ log_bytes q (get_or disk.stored q [])
   unfolding block_of
@@ -60,9 +63,9 @@ module _ {l d : ℕ} {m : List ℕ} {disk : Disk} (medium : OnMedium l d m disk 
   block_sequence q a h = ap sequence_of (block_is q a h) ∙ sequence_log_bytes q _ (omega (arith, medium.log.shape.top))
 
   pub block_records : (q : ℕ) → disk.oldest ≤ q → q < length disk.stored → (parsed (block_of m l q)).records ≡ get_or disk.stored q []
-  block_records q a h =
-      ap (λ (b : List ℕ). (parsed b).records) (block_is q a h)
-      ∙ ap (λ (p : Parsed). p.records) (parsed_log_bytes q (get_or disk.stored q []) (sound_sized d (get_or disk.stored q []) (sound_block q h).each) (small_block q h))
+  block_records q f h =
+      ap (λ (b : List ℕ). (parsed b).records) (block_is q f h)
+      ∙ ap (λ (p : Parsed). p.records) (parsed_log_bytes q (get_or disk.stored q []) (sound_sized d a (get_or disk.stored q []) (sound_block q h).each) (small_block q h))
 
   past_sequence : (q : ℕ) → length disk.stored ≤ q → sequence_of (block_of m l q) ≢ q
   unfolding block_of log_block_at
@@ -107,14 +110,17 @@ module _ {l d : ℕ} {m : List ℕ} {disk : Disk} (medium : OnMedium l d m disk 
   pub log_before : Each (λ (x : Placed). x.seq < disk.oldest) (place_all 0 (take disk.oldest disk.stored))
   log_before =
       each_map (Near 0 disk.oldest) (λ (x : Placed). x.seq < disk.oldest) (place_all 0 (take disk.oldest disk.stored)) (λ x n. n.high)
-      (near_all d 0 (take disk.oldest disk.stored) 0 disk.oldest (each_take (BlockSound d) disk.oldest disk.stored medium.log.shape.stored_sound) (omega arith) (omega (arith, early_length)))
+      (near_all d a 0 (take disk.oldest disk.stored) 0 disk.oldest (each_take (BlockSound d a) disk.oldest disk.stored medium.log.shape.stored_sound) (omega arith) (omega (arith, early_length)))
 
   pub log_recent : Each (λ (x : Placed). disk.oldest ≤ x.seq) (read_log m l)
   log_recent =
       rw log_is
       (each_map (Near disk.oldest (length disk.stored)) (λ (x : Placed). disk.oldest ≤ x.seq) (place_all disk.oldest (drop disk.oldest disk.stored)) (λ x n. n.low)
-      (near_all d disk.oldest (drop disk.oldest disk.stored) disk.oldest (length disk.stored) (each_drop (BlockSound d) disk.oldest disk.stored medium.log.shape.stored_sound) (omega arith)
+      (near_all d a disk.oldest (drop disk.oldest disk.stored) disk.oldest (length disk.stored) (each_drop (BlockSound d a) disk.oldest disk.stored medium.log.shape.stored_sound) (omega arith)
       (omega (arith, length-drop disk.oldest disk.stored, medium.log.shape.low))))
+
+  pub log_sound : Each (λ (x : Placed). Sound d a x.rec) (read_log m l)
+  log_sound = each_right (λ (x : Placed). Sound d a x.rec) (place_all 0 (take disk.oldest disk.stored)) (read_log m l) (rw log_split at (sound_all d a 0 disk.stored medium.log.shape.stored_sound))
 
   -- ---- the tail
 
@@ -135,24 +141,24 @@ module _ {l d : ℕ} {m : List ℕ} {disk : Disk} (medium : OnMedium l d m disk 
       go closed tail (none_read e) =
           let z : length disk.stored - disk.oldest ≡ 0 = omega arith in
           rw (z, oldest_is medium) (ap (λ (q : ℕ). log_bytes q []) (sym e))
-      go closed tail (last_read _ _ a e) =
+      go closed tail (last_read _ _ f e) =
           let n : length disk.stored ≡ suc (length closed) = ap length e ∙ length-append closed (tail ∷ []) ∙ add-one _ in
           let z : length disk.stored - disk.oldest ≡ suc (length closed - disk.oldest) = omega arith in
           let q : disk.oldest + (length closed - disk.oldest) ≡ length closed = omega arith in
           rw (z, oldest_is medium, q)
-          (block_is (length closed) a (omega arith) ∙ ap (log_bytes (length closed)) (ap (λ (bs : List (List Record)). get_or bs (length closed) []) e ∙ get_or-append_seam closed tail [] []))
+          (block_is (length closed) f (omega arith) ∙ ap (log_bytes (length closed)) (ap (λ (bs : List (List Record)). get_or bs (length closed) []) e ∙ get_or-append_seam closed tail [] []))
 
   pub records_taken : records (taken disk) ≡ records disk.stored
   records_taken = go closed tail how
     where
       go : (closed : List (List Record)) (tail : List Record) → Taking disk.oldest disk.stored closed tail → records (closed ++ (tail ∷ [])) ≡ records disk.stored
       go closed tail (none_read e) = records_empty disk.stored
-      go closed tail (last_read _ _ a e) = ap (place_all 0) (sym e)
+      go closed tail (last_read _ _ f e) = ap (place_all 0) (sym e)
 
-  pub medium_taken : OnMedium l d m disk (taken disk)
+  pub medium_taken : OnMedium l d a m disk (taken disk)
   medium_taken = go closed tail how
     where
-      go : (closed : List (List Record)) (tail : List Record) → Taking disk.oldest disk.stored closed tail → OnMedium l d m disk (closed ++ (tail ∷ []))
+      go : (closed : List (List Record)) (tail : List Record) → Taking disk.oldest disk.stored closed tail → OnMedium l d a m disk (closed ++ (tail ∷ []))
       go closed tail (none_read e) =
           let s : records (disk.stored ++ ([] ∷ [])) ≡ records disk.stored = records_empty disk.stored in
           let n : length (disk.stored ++ ([] ∷ [])) ≡ length disk.stored + 1 = length-append disk.stored ([] ∷ []) in
@@ -165,7 +171,7 @@ module _ {l d : ℕ} {m : List ℕ} {disk : Disk} (medium : OnMedium l d m disk 
                 high = medium.log.shape.high;
                 front = omega arith;
                 top = omega (arith, medium.master.fits.oldest_high);
-                sound = each_append (BlockSound d) disk.stored ([] ∷ []) medium.log.shape.stored_sound (empty_sound d, tt);
+                sound = each_append (BlockSound d a) disk.stored ([] ∷ []) medium.log.shape.stored_sound (empty_sound d a, tt);
                 stored_sound = medium.log.shape.stored_sound;
                 rest = [];
                 split = s ∙ sym (append-nil _);
@@ -174,17 +180,18 @@ module _ {l d : ℕ} {m : List ℕ} {disk : Disk} (medium : OnMedium l d m disk 
               fresh = medium.log.fresh;
             };
             pages = rw s medium.pages;
+            area = medium.area;
             table = medium.table;
             numbers = rw s medium.numbers;
           }
-      go closed tail (last_read _ _ a e) = subst (OnMedium l d m disk) e medium
+      go closed tail (last_read _ _ f e) = subst (OnMedium l d a m disk) e medium
 
-  tail_sound : BlockSound d tail
+  tail_sound : BlockSound d a tail
   tail_sound = go closed tail how
     where
-      go : (closed : List (List Record)) (tail : List Record) → Taking disk.oldest disk.stored closed tail → BlockSound d tail
-      go closed tail (none_read e) = empty_sound d
-      go closed tail (last_read _ _ a e) = (each_right (BlockSound d) closed (tail ∷ []) (rw e at medium.log.shape.stored_sound)).0
+      go : (closed : List (List Record)) (tail : List Record) → Taking disk.oldest disk.stored closed tail → BlockSound d a tail
+      go closed tail (none_read e) = empty_sound d a
+      go closed tail (last_read _ _ f e) = (each_right (BlockSound d a) closed (tail ∷ []) (rw e at medium.log.shape.stored_sound)).0
 
   -- ---- where the log ends
 
@@ -193,12 +200,12 @@ module _ {l d : ℕ} {m : List ℕ} {disk : Disk} (medium : OnMedium l d m disk 
     where
       go : (closed : List (List Record)) (tail : List Record) → Taking disk.oldest disk.stored closed tail → length closed < 2 ^ 48
       go closed tail (none_read e) = omega (arith, medium.master.fits.oldest_high)
-      go closed tail (last_read _ _ a e) = omega (arith, medium.log.shape.top, ap length e, length-append closed (tail ∷ []))
+      go closed tail (last_read _ _ f e) = omega (arith, medium.log.shape.top, ap length e, length-append closed (tail ∷ []))
 
   end_is : log_end m l ≡ end_place (length closed) (10 + size_of tail)
   unfolding log_end
   end_is =
-      let z : length (flat record_bytes tail) ≡ size_of tail = block_size d tail tail_sound in
+      let z : length (flat record_bytes tail) ≡ size_of tail = block_size d a tail tail_sound in
       rw (tail_is, sequence_log_bytes (length closed) tail (omega (arith, closed_length)), used_log_bytes (length closed) tail (omega (arith, tail_sound.fits)), z)
 
   pub mark_is : Stored (closed_of disk.oldest disk.stored) (tail_of disk.oldest disk.stored) disk.stored (log_end m l)
@@ -207,7 +214,7 @@ module _ {l d : ℕ} {m : List ℕ} {disk : Disk} (medium : OnMedium l d m disk 
     where
       go : (closed : List (List Record)) (tail : List Record) → Taking disk.oldest disk.stored closed tail → Stored closed tail disk.stored (end_place (length closed) (10 + size_of tail))
       go closed tail (none_read e) = nothing (end_place (length disk.stored) 10) (omega arith)
-      go closed tail (last_read _ _ a e) =
+      go closed tail (last_read _ _ f e) =
           subst (λ (bs : List (List Record)). Stored closed tail bs (end_place (length closed) (10 + size_of tail))) (sym e)
           (subst (λ (rs : List Record). Stored closed tail (closed ++ (rs ∷ [])) (end_place (length closed) (10 + size_of rs))) (take_all (length tail) tail (omega arith))
           (up_to (length tail) (omega arith)))
@@ -217,24 +224,24 @@ module _ {l d : ℕ} {m : List ℕ} {disk : Disk} (medium : OnMedium l d m disk 
     where
       go : (closed : List (List Record)) (tail : List Record) → Taking disk.oldest disk.stored closed tail → disk.oldest ≤ length closed
       go closed tail (none_read e) = omega arith
-      go closed tail (last_read _ _ a e) = a
+      go closed tail (last_read _ _ f e) = f
 
   pub taken_high : length (closed_of disk.oldest disk.stored) < disk.oldest + l
   taken_high = go closed tail how
     where
       go : (closed : List (List Record)) (tail : List Record) → Taking disk.oldest disk.stored closed tail → length closed < disk.oldest + l
       go closed tail (none_read e) = omega (arith, medium.sizes.range.blocks_low)
-      go closed tail (last_read _ _ a e) = omega (arith, medium.log.shape.high, ap length e, length-append closed (tail ∷ []))
+      go closed tail (last_read _ _ f e) = omega (arith, medium.log.shape.high, ap length e, length-append closed (tail ∷ []))
 
-  closed_sound : Each (BlockSound d) closed
-  closed_sound = each_left (BlockSound d) closed (tail ∷ []) medium_taken.log.shape.sound
+  closed_sound : Each (BlockSound d a) closed
+  closed_sound = each_left (BlockSound d a) closed (tail ∷ []) medium_taken.log.shape.sound
 
   pub ends_below : Each (λ (x : Placed). x.end ≤ log_end m l) (records disk.stored)
   unfolding end_place
   ends_below =
       rw (← records_taken, records_tail closed tail, end_is)
       (each_append (λ (x : Placed). x.end ≤ 512 * length closed + (10 + size_of tail)) (records closed) (place_from (length closed) 10 tail)
-      (each_map (Near 0 (length closed)) (λ (x : Placed). x.end ≤ 512 * length closed + (10 + size_of tail)) (records closed) (λ x n. omega (arith, n.within, n.high)) (near_records d closed closed_sound))
+      (each_map (Near 0 (length closed)) (λ (x : Placed). x.end ≤ 512 * length closed + (10 + size_of tail)) (records closed) (λ x n. omega (arith, n.within, n.high)) (near_records d a closed closed_sound))
       (between_high _ _ (place_from (length closed) 10 tail) (between_block (length closed) 10 tail)).1)
 
   -- ---- numbers and times
@@ -265,8 +272,8 @@ module _ {l d : ℕ} {m : List ℕ} {disk : Disk} (medium : OnMedium l d m disk 
       logged_high =
           rw log_is
           (above_below (place_all disk.oldest (drop disk.oldest disk.stored)) (2 ^ 64 - 1)
-          (each_map (λ (x : Placed). Sound d x.rec) (λ (x : Placed). number_in x.rec < 2 ^ 64 - 1) (place_all disk.oldest (drop disk.oldest disk.stored)) (λ x s. s.high)
-          (sound_all d disk.oldest (drop disk.oldest disk.stored) (each_drop (BlockSound d) disk.oldest disk.stored medium.log.shape.stored_sound))))
+          (each_map (λ (x : Placed). Sound d a x.rec) (λ (x : Placed). number_in x.rec < 2 ^ 64 - 1) (place_all disk.oldest (drop disk.oldest disk.stored)) (λ x s. s.high)
+          (sound_all d a disk.oldest (drop disk.oldest disk.stored) (each_drop (BlockSound d a) disk.oldest disk.stored medium.log.shape.stored_sound))))
 
   pub last_is : last_time m l ≡ last_of (commits_of disk.stored)
   unfolding last_time

@@ -14,20 +14,20 @@ use borrow.Author.Tests.{eqb-true, eqb-false}
 use Rattle.layout.specs.Journal.{Record, version, commit}
 use Rattle.fields.proofs.CellLaws.{Each, each_map}
 use Rattle.store.specs.OpenLog.{Placed, number_in, commit_under, commit_in, or_else, Commitment, above_all, latest, time_in}
-use Rattle.store.specs.OpenPairs.{time_of_commitment, end_of_commitment, time_or_zero}
+use Rattle.store.specs.OpenPairs.{time_of_commitment, end_of_commitment, user_of_commitment, time_or_zero}
 use Rattle.agreement.proofs.history.CommitLaws.{timed}
 use Rattle.agreement.proofs.history.PlacingLaws.{Between}
 use Rattle.agreement.proofs.history.Ghost.{size_of, BlockSound, LoggedCommit, as_commit, commits_in, find, last_of, timing, closed_of, tail_of}
 
 -- ---- the commit under a number
 
--- what is found is the time and the end place of c
+-- what is found is the time, the end place and the user of c
 abbrev pub Finds : Option Commitment → LoggedCommit → Type 0
-Finds o c = (time_of_commitment o ≡ timing c.time) × (time_or_zero o ≡ c.time) × (end_of_commitment o ≡ c.end)
+Finds o c = (time_of_commitment o ≡ timing c.time) × (time_or_zero o ≡ c.time) × (end_of_commitment o ≡ c.end) × (user_of_commitment o ≡ c.user)
 
 pub commit_finds : (xs : List Placed) (n : ℕ) → Each (λ (c : LoggedCommit). 0 < c.time) (commits_in xs) → Finds (commit_under xs n) (find (commits_in xs) n)
 unfolding commit_under commits_in find
-commit_finds [] n z = (refl, refl, refl)
+commit_finds [] n z = (refl, refl, refl, refl)
 commit_finds (x ∷ xs) n z = go x.rec x.seq x.end z (commit_finds xs n)
   where
     go : (r : Record) (q e : ℕ) → Each (λ (c : LoggedCommit). 0 < c.time) (as_commit r q e ++ commits_in xs)
@@ -36,9 +36,9 @@ commit_finds (x ∷ xs) n z = go x.rec x.seq x.end z (commit_finds xs n)
     go (version h v) q e z f = f z
     go (commit p) q e z f = by (eqb p.number.0 n)
       where
-        by : (t : Bool) → Finds (or_else (cond t (some (record { time = p.time.0; end = e })) none) (commit_under xs n))
-            (cond t (record { seq = q; end = e; num = p.number.0; time = p.time.0 }) (find (commits_in xs) n))
-        by true = (timed p.time.0 z.0, refl, refl)
+        by : (t : Bool) → Finds (or_else (cond t (some (record { time = p.time.0; end = e; user = p.user })) none) (commit_under xs n))
+            (cond t (record { seq = q; end = e; num = p.number.0; time = p.time.0; user = p.user }) (find (commits_in xs) n))
+        by true = (timed p.time.0 z.0, refl, refl, refl)
         by false = f z.1
 
 -- ---- numbers and times
@@ -73,9 +73,9 @@ last_under (c ∷ cs) t h = omega (arith, h.0, last_under cs t h.1)
 
 -- ---- a block
 
-pub empty_sound : (d : ℕ) → BlockSound d []
+pub empty_sound : (d a : ℕ) → BlockSound d a []
 unfolding size_of
-empty_sound d = record { each = tt; fits = omega arith }
+empty_sound d a = record { each = tt; fits = omega arith }
 
 -- ---- end places
 

@@ -12,7 +12,7 @@ use lib.Dec.{eqb, ltb}
 use lib.ListN.{length, take, drop, get_or, length-append, length-drop, get_or-append, length-replicate, get_or-replicate, get_or-eq_default, replicate}
 use lib.Seq.{drop-cons, drop-append_seam, get_or-append-add}
 use borrow.Author.Tests.{lt-ltb, le-ltb, eq-eqb}
-use Rattle.fields.specs.Block.{blk, page_of, page_block_at, cache_length, medium_length}
+use Rattle.fields.specs.Block.{blk, page_of, cache_length, medium_length}
 use Rattle.layout.specs.Page.{page_end, page_used, put_version}
 use Rattle.layout.specs.Slot.{Cell}
 use Rattle.layout.specs.Journal.{Record, version, commit}
@@ -63,7 +63,7 @@ full_suc a = omega arith
 full_other : (a p : ℕ) → p ≢ a / 15 → full (suc a) p ≡ full a p
 full_other a p h = omega arith
 
-module _ {l d : ℕ} {m : List ℕ} {disk : Disk} (medium : OnMedium l d m disk disk.stored) where
+module _ {l d b : ℕ} {m : List ℕ} {disk : Disk} (medium : OnMedium l d b m disk disk.stored) where
   abbrev vs : List LoggedVersion
   vs = versions_of disk.stored
 
@@ -74,8 +74,8 @@ module _ {l d : ℕ} {m : List ℕ} {disk : Disk} (medium : OnMedium l d m disk 
 
   module _ (a : ℕ) (h : a < length vs) where
     pend_lt : (c : ℕ) → c ≡ a % 15 → end_of_page vs (a / 15) c < (at vs a).end
-    pend_lt zero e = omega (arith, near d disk.stored medium.log.shape.stored_sound a h)
-    pend_lt (suc c) e = rise d disk.stored medium.log.shape.stored_sound (15 * (a / 15) + c) a (omega arith) h
+    pend_lt zero e = omega (arith, near d b disk.stored medium.log.shape.stored_sound a h)
+    pend_lt (suc c) e = rise d b disk.stored medium.log.shape.stored_sound (15 * (a / 15) + c) a (omega arith) h
 
     pend_ge : (c : ℕ) → a % 15 < c → c ≤ length vs - 15 * (a / 15) → (at vs a).end ≤ end_of_page vs (a / 15) c
     pend_ge zero e z = absurd (not-suc-le-zero e)
@@ -83,11 +83,11 @@ module _ {l d : ℕ} {m : List ℕ} {disk : Disk} (medium : OnMedium l d m disk 
       where
         go : (15 * (a / 15) + c ≡ a) ⊎ (15 * (a / 15) + c ≢ a) → (at vs a).end ≤ (at vs (15 * (a / 15) + c)).end
         go (inl i) = rw i (omega arith)
-        go (inr i) = omega (arith, rise d disk.stored medium.log.shape.stored_sound a (15 * (a / 15) + c) (omega arith) (omega arith))
+        go (inr i) = omega (arith, rise d b disk.stored medium.log.shape.stored_sound a (15 * (a / 15) + c) (omega arith) (omega arith))
 
     pend_small : (c : ℕ) → c ≤ length vs - 15 * (a / 15) → end_of_page vs (a / 15) c < 2 ^ 64
     pend_small zero z = omega arith
-    pend_small (suc c) z = omega (arith, near d disk.stored medium.log.shape.stored_sound (15 * (a / 15) + c) (omega arith), medium.log.shape.top)
+    pend_small (suc c) z = omega (arith, near d b disk.stored medium.log.shape.stored_sound (15 * (a / 15) + c) (omega arith), medium.log.shape.top)
 
     step : (q : ℕ) (r : Redone) → q ≤ (at vs a).seq → disk.oldest ≤ (at vs a).seq → Replayed a q r
         → Replayed (suc a) (at vs a).seq (redo_ver (is_applied r (at vs a)) r (at vs a)) × (is_next r (at vs a) ≡ true)
@@ -198,7 +198,7 @@ module _ {l d : ℕ} {m : List ℕ} {disk : Disk} (medium : OnMedium l d m disk 
           after : Replayed (length vs) Q (redo (redo_if (applies r.cache y x.end) r y v x) xs) × (holds (redo_checks l (redo_if (applies r.cache y x.end) r y v x) xs) ≡ true)
           after =
               ih (suc a) (at vs a).seq (redo_if (applies r.cache y x.end) r y v x) Q tail lt
-              (λ n i j. (seqs d disk.stored medium.log.shape.stored_sound a n i j, (f n (omega arith) j).1, (f n (omega arith) j).2))
+              (λ n i j. (seqs d b disk.stored medium.log.shape.stored_sound a n i j, (f n (omega arith) j).1, (f n (omega arith) j).2))
               (f a (omega arith) lt).2
               (subst (Replayed (suc a) (at vs a).seq) (same (is_applied r w)) turned.0)
 
@@ -235,7 +235,7 @@ module _ {l d : ℕ} {m : List ℕ} {disk : Disk} (medium : OnMedium l d m disk 
 
   last_block : (n : ℕ) → n < length vs → (at vs n).seq ≤ length (closed_of disk.oldest disk.stored)
   last_block n h =
-      let r = rw (records_taken medium) at (near d (taken disk) (medium_taken medium).log.shape.sound n) in
+      let r = rw (records_taken medium) at (near d b (taken disk) (medium_taken medium).log.shape.sound n) in
       omega (arith, r h, length-append (closed_of disk.oldest disk.stored) (tail_of disk.oldest disk.stored ∷ []))
 
   untouched_at : (p : ℕ) → get_or untouched p 0 ≡ 0

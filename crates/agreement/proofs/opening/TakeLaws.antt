@@ -1,10 +1,10 @@
 -- The places that an opening makes: those of the table's live pairs, then one for each live pair of the log alone. While
--- numbers are still to come, each waiting committed number has a place or is among them; a free place there is for each, as
--- the numbers in places and the next one have 64 owners.
+-- numbers are still to come, each committed number with waiting versions or a missing line has a place or is among them; a free
+-- place there is for each, as the numbers in places and the next one have 64 owners.
 use Prim.Native.Nat.{ℕ, zero, suc, ◌+◌, ◌≤◌, ◌<◌}
 use native.Mathlib.Nat.{not-suc-le-zero, le_of_suc-le-suc, add-zero}
 use native.Mathlib.Omega.{arith}
-use mathlib.Core.Bool.{Bool, true, false, cond, not, ◌&&◌, false≢true}
+use mathlib.Core.Bool.{Bool, true, false, cond, not, ◌&&◌, ◌||◌, false≢true}
 use mathlib.Core.List.{List, [], ◌∷◌}
 use mathlib.Core.Logic.{◌⊎◌, inl, inr, ◌≢◌}
 use mathlib.Core.Path.{◌≡◌, refl, sym, ap, ◌∙◌, subst}
@@ -13,33 +13,35 @@ use lib.ListN.{length, get_or, set, length-set}
 use borrow.Author.Tests.{lt-ltb, le-ltb, ltb-true, ltb-false, eqb-true, eqb-false}
 use Rattle.layout.specs.Slot.{Cell}
 use Rattle.fields.proofs.CellLaws.{Each, each_map}
+use Rattle.store.specs.declared.Area.{Area}
 use Rattle.store.specs.declared.Found.{Found}
 use Rattle.store.specs.declared.Found.TheVariants.{At, Nothing}
 use Rattle.store.specs.declared.Life.{Life}
 use Rattle.store.specs.declared.Life.TheVariants.{Free, Active, Committed}
 use Rattle.store.specs.declared.Place.{Place}
-use Rattle.store.specs.Places.{first, place_at, free_place, is_free}
+use Rattle.store.specs.Places.{first, place_at, free_place, is_free, misses_line}
 use Rattle.store.specs.OpenLog.{read_log, commit_under, next_number}
-use Rattle.store.specs.OpenPairs.{table_find, time_or_zero, end_of_commitment, count_waiting, live_place, table_places, take_at, take_free, waiting_numbers, in_log_alone}
+use Rattle.store.specs.OpenPairs.{table_find, time_or_zero, end_of_commitment, user_of_commitment, count_waiting, pair_life, live_place, table_places, take_at, take_free, live_numbers, in_log_alone}
 use Rattle.store.proofs.SearchLaws.{first_found, first_nothing}
 use Rattle.runs.specs.Book.{Book}
 use Rattle.agreement.proofs.invariant.PlaceFacts.{free_num, life_low}
+use Rattle.agreement.proofs.invariant.AreaFacts.{not_both, misses_unlined}
 use Rattle.agreement.proofs.history.Ghost.{commits_of, LoggedCommit, commits_in, no_commit, find, count, Disk}
 use Rattle.agreement.proofs.history.ListLaws.{split, same?}
-use Rattle.agreement.proofs.invariant.Invariant.{table_num, table_time, life_num, life_time, Formed, num_at, time_at, Lively, Covered, Down}
+use Rattle.agreement.proofs.invariant.Invariant.{table_num, table_time, life_num, life_time, Formed, num_at, time_at, Unlined, Wanted, Lively, Covered, Down}
 use Rattle.agreement.proofs.invariant.PlaceSet.{place_at_same, place_at_other, covered_set}
-use Rattle.agreement.proofs.opening.Reading.{commit_zero, commit_end, next_low}
+use Rattle.agreement.proofs.opening.Reading.{commit_zero, commit_end, commit_user, next_low}
 use Rattle.agreement.proofs.opening.Pigeons.{pigeon}
-use Rattle.agreement.proofs.opening.WaitingLaws.{Ascending, Among, waiting_ascends, waiting_each, waiting_all}
-use Rattle.agreement.proofs.opening.PairLaws.{table_found, table_lacks, logged_times, commit_where, commit_logged, waited_low, committed_below, unlisted, alone_commit, commit_alone}
+use Rattle.agreement.proofs.opening.WaitingLaws.{Ascending, Among, live_ascends, live_each, live_all}
+use Rattle.agreement.proofs.opening.PairLaws.{table_found, table_lacks, logged_times, commit_where, commit_logged, committed_low, committed_below, listed_lined, wanted_logged, logged_found, alone_commit, commit_alone}
 
 -- the places while the numbers ns are still to come
-pub record Taken (m : List ℕ) (cs : List LoggedCommit) (cells : List Cell) (o next : ℕ) (ps : List Place) (ns : List ℕ) : Type 0 where
+pub record Taken (m : List ℕ) (area : Area) (cs : List LoggedCommit) (cells : List Cell) (o next : ℕ) (ps : List Place) (ns : List ℕ) : Type 0 where
   pub size : length ps ≡ 64
-  pub each : (i : ℕ) → i < 64 → Lively cs cells o next (place_at ps i)
+  pub each : (i : ℕ) → i < 64 → Lively area cs cells o next (place_at ps i)
   pub over : (i : ℕ) → i < 64 → 0 < num_at ps i → 0 < time_at ps i  -- none is active
   pub distinct : (i j : ℕ) → i < 64 → j < 64 → 0 < num_at ps i → num_at ps i ≡ num_at ps j → i ≡ j
-  pub all : (n : ℕ) → 0 < count n cells → 0 < (find cs n).time → ((i : ℕ) × (i < 64) × (num_at ps i ≡ n)) ⊎ Among n ns
+  pub all : (n : ℕ) → Wanted area cs cells n → 0 < (find cs n).time → ((i : ℕ) × (i < 64) × (num_at ps i ≡ n)) ⊎ Among n ns
   pub covered : Covered m cs ps o 64
   pub home : (i : ℕ) → i < 64 → 0 < table_num m i → 0 < count (table_num m i) cells → num_at ps i ≡ table_num m i
   pub apart : Each (λ (n : ℕ). (j : ℕ) → j < 64 → num_at ps j ≢ n) ns
@@ -49,14 +51,14 @@ used_num Free h e = absurd (false≢true (sym e))
 used_num (Active n k) h e = h
 used_num (Committed n t k) h e = h.0
 
-module _ {l d : ℕ} {m : List ℕ} {b : Book} {disk : Disk} (x : Down l d m b disk) (c : List ℕ) (slots : ℕ)
+module _ {l d a : ℕ} {m : List ℕ} {b : Book} {disk : Disk} (x : Down l d a m b disk) (c : List ℕ) (slots : ℕ)
     (counts : (n : ℕ) → count_waiting c n slots ≡ count n disk.cells) where
   abbrev Took : List Place → List ℕ → Type 0
-  Took ps ns = Taken m (commits_of disk.stored) disk.cells disk.oldest (next_number m l) ps ns
+  Took ps ns = Taken m disk.area (commits_of disk.stored) disk.cells disk.oldest (next_number m l) ps ns
 
   -- ---- one place
 
-  free_lively : Lively (commits_of disk.stored) disk.cells disk.oldest (next_number m l) free_place
+  free_lively : Lively disk.area (commits_of disk.stored) disk.cells disk.oldest (next_number m l) free_place
   free_lively = record {
     formed = tt;
     small = next_low x.medium;
@@ -65,21 +67,27 @@ module _ {l d : ℕ} {m : List ℕ} {b : Book} {disk : Disk} (x : Down l d m b d
     unended = λ h. absurd (not-suc-le-zero h);
     waits = λ h. absurd (not-suc-le-zero h);
     busy = λ h. absurd (not-suc-le-zero h);
+    who = λ h. absurd (not-suc-le-zero h);
   }
 
-  live_lively : (n t : ℕ) → 0 < count n disk.cells → 0 < t → (find (commits_of disk.stored) n).time ≡ t
-      → Lively (commits_of disk.stored) disk.cells disk.oldest (next_number m l) (live_place m (read_log m l) c slots n t)
-  unfolding live_place
+  live_lively : (n t : ℕ) → Wanted disk.area (commits_of disk.stored) disk.cells n → 0 < t → (find (commits_of disk.stored) n).time ≡ t
+      → Lively disk.area (commits_of disk.stored) disk.cells disk.oldest (next_number m l) (live_place m (read_log m l) c slots n t)
+  unfolding live_place pair_life
   live_lively n t h z e = record {
-    formed = (waited_low x n h, z);
+    formed = (committed_low x n (omega arith), z);
     small = committed_below x n (omega arith);
     over = λ _. e;
     place = λ _. go (commit_where x n (omega arith));
     unended = λ _ a. absurd (omega arith);
     waits = λ _. counts n;
-    busy = λ _. omega (arith, counts n);
+    busy = λ _. busy' h;
+    who = λ _ k. who' k (commit_where x n (omega arith));
   }
     where
+      busy' : Wanted disk.area (commits_of disk.stored) disk.cells n → (0 < count_waiting c n slots) ⊎ Unlined disk.area t
+      busy' (inl q) = inl (omega (arith, counts n))
+      busy' (inr u) = inr (rw e at u)
+
       end_is : end_of_commitment (commit_under (read_log m l) n) ≡ (find (commits_in (read_log m l)) n).end
       end_is = commit_end (read_log m l) n (logged_times x)
 
@@ -89,9 +97,15 @@ module _ {l d : ℕ} {m : List ℕ} {b : Book} {disk : Disk} (x : Down l d m b d
       go (inl q) = inl (end_is ∙ ap (λ (y : LoggedCommit). y.end) q)
       go (inr q) = inr (end_is ∙ ap (λ (y : LoggedCommit). y.end) q.0, q.1)
 
+      who' : 0 < end_of_commitment (commit_under (read_log m l) n)
+          → (find (commits_in (read_log m l)) n ≡ find (commits_of disk.stored) n) ⊎ ((find (commits_in (read_log m l)) n ≡ no_commit) × ((find (commits_of disk.stored) n).seq < disk.oldest))
+          → user_of_commitment (commit_under (read_log m l) n) ≡ (find (commits_of disk.stored) n).user
+      who' k (inl q) = commit_user (read_log m l) n (logged_times x) ∙ ap (λ (y : LoggedCommit). y.user) q
+      who' k (inr q) = absurd (omega (arith, end_is, ap (λ (y : LoggedCommit). y.end) q.0))
+
   -- ---- a free place for one that has none
 
-  module _ (ps : List Place) (ns : List ℕ) (p : Took ps ns) (n : ℕ) (h : 0 < count n disk.cells) (f : 0 < (find (commits_of disk.stored) n).time)
+  module _ (ps : List Place) (ns : List ℕ) (p : Took ps ns) (n : ℕ) (h : Wanted disk.area (commits_of disk.stored) disk.cells n) (f : 0 < (find (commits_of disk.stored) n).time)
       (away : (j : ℕ) → j < 64 → num_at ps j ≢ n) where
     name : ℕ → ℕ
     name i = cond (ltb i 64) (num_at ps i) n
@@ -114,11 +128,16 @@ module _ {l d : ℕ} {m : List ℕ} {b : Book} {disk : Disk} (x : Down l d m b d
             used_num (place_at ps i).life (p.each i a).formed
             (first_nothing (λ j. is_free (place_at ps j).life) 64 0 e i (omega arith) (omega arith))
 
+        wanted : (i : ℕ) → i < 64 → 0 < num_at ps i → 0 < time_at ps i → (0 < (place_at ps i).waiting) ⊎ Unlined disk.area (time_at ps i)
+            → Wanted disk.area (commits_of disk.stored) disk.cells (num_at ps i)
+        wanted i q u t (inl w) = inl (omega (arith, (p.each i q).waits u))
+        wanted i q u t (inr w) = inr (rw ((p.each i q).over t) w)
+
         owner : (i : ℕ) → i < 65 → (i < 64) ⊎ (64 ≤ i) → (j : ℕ) × (j < 64) × (get_or x.owners j 0 ≡ name i)
         owner i a (inl q) =
             let u = used i q in
             let t = p.over i q u in
-            rw (name_in i q) (x.owned (num_at ps i) (omega (arith, (p.each i q).waits u, (p.each i q).busy t)) (omega (arith, (p.each i q).over t)))
+            rw (name_in i q) (x.owned (num_at ps i) (wanted i q u t ((p.each i q).busy t)) (omega (arith, (p.each i q).over t)))
         owner i a (inr q) = rw (name_out i q) (x.owned n h f)
 
         same : (i j : ℕ) → i < 65 → j < 65 → (i < 64) ⊎ (64 ≤ i) → (j < 64) ⊎ (64 ≤ j) → name i ≡ name j → i ≡ j
@@ -129,7 +148,7 @@ module _ {l d : ℕ} {m : List ℕ} {b : Book} {disk : Disk} (x : Down l d m b d
 
   -- ---- a number of the log takes place i, which is free
 
-  module _ (ps : List Place) (n : ℕ) (ns : List ℕ) (p : Took ps (n ∷ ns)) (h : 0 < count n disk.cells) (f : 0 < (find (commits_in (read_log m l)) n).time)
+  module _ (ps : List Place) (n : ℕ) (ns : List ℕ) (p : Took ps (n ∷ ns)) (h : Wanted disk.area (commits_of disk.stored) disk.cells n) (f : 0 < (find (commits_in (read_log m l)) n).time)
       (above : Each (λ (y : ℕ). n < y) ns) (i : ℕ) (lt : i < 64) (free : num_at ps i ≡ 0) where
     whole : find (commits_of disk.stored) n ≡ find (commits_in (read_log m l)) n
     whole = (commit_logged x n f).0
@@ -153,22 +172,22 @@ module _ {l d : ℕ} {m : List ℕ} {b : Book} {disk : Disk} (x : Down l d m b d
     there j e = place_at_other ps i j new e
 
     num_here : num_at (set ps i new) i ≡ n
-    unfolding new live_place
+    unfolding new live_place pair_life
     num_here = ap (λ (y : Place). life_num y.life) here
 
     time_here : time_at (set ps i new) i ≡ time_or_zero (commit_under (read_log m l) n)
-    unfolding new live_place
+    unfolding new live_place pair_life
     time_here = ap (λ (y : Place). life_time y.life) here
 
     num_there : (j : ℕ) → j ≢ i → num_at (set ps i new) j ≡ num_at ps j
     num_there j e = ap (λ (y : Place). life_num y.life) (there j e)
 
-    new_lively : Lively (commits_of disk.stored) disk.cells disk.oldest (next_number m l) new
+    new_lively : Lively disk.area (commits_of disk.stored) disk.cells disk.oldest (next_number m l) new
     unfolding new
     new_lively = live_lively n _ h low (sym time_is)
 
     new_covered : Covered m (commits_of disk.stored) (set ps i new) disk.oldest 64
-    unfolding new live_place
+    unfolding new live_place pair_life
     new_covered =
         covered_set m (commits_of disk.stored) ps i new disk.oldest 64 p.size lt
         (λ z s. absurd (omega (arith, late))) (λ j a e. p.covered j a)
@@ -179,13 +198,13 @@ module _ {l d : ℕ} {m : List ℕ} {b : Book} {disk : Disk} (x : Down l d m b d
       each = λ j a. each' j a (same? j i);
       over = λ j a. over' j a (same? j i);
       distinct = λ u v a b. distinct' u v a b (same? u i) (same? v i);
-      all = λ a q s. all' a (waited_low x a q) (p.all a q s);
+      all = λ j q s. all' j (committed_low x j s) (p.all j q s);
       covered = new_covered;
       home = λ j a. home' j a (same? j i);
       apart = apart' ns above p.apart.1;
     }
       where
-        each' : (j : ℕ) → j < 64 → (j ≡ i) ⊎ (j ≢ i) → Lively (commits_of disk.stored) disk.cells disk.oldest (next_number m l) (place_at (set ps i new) j)
+        each' : (j : ℕ) → j < 64 → (j ≡ i) ⊎ (j ≢ i) → Lively disk.area (commits_of disk.stored) disk.cells disk.oldest (next_number m l) (place_at (set ps i new) j)
         each' j a (inl e) = rw (e, here) new_lively
         each' j a (inr e) = rw (there j e) (p.each j a)
 
@@ -224,7 +243,7 @@ module _ {l d : ℕ} {m : List ℕ} {b : Book} {disk : Disk} (x : Down l d m b d
 
   -- ---- all numbers of the log
 
-  took : (ns : List ℕ) (ps : List Place) → Ascending ns → Each (λ (n : ℕ). (0 < count n disk.cells) × (0 < (find (commits_in (read_log m l)) n).time)) ns
+  took : (ns : List ℕ) (ps : List Place) → Ascending ns → Each (λ (n : ℕ). Wanted disk.area (commits_of disk.stored) disk.cells n × (0 < (find (commits_in (read_log m l)) n).time)) ns
       → Took ps ns → Took (take_free m (read_log m l) c slots ps ns) []
   unfolding take_free new
   took [] ps r e p = p
@@ -245,57 +264,71 @@ module _ {l d : ℕ} {m : List ℕ} {b : Book} {disk : Disk} (x : Down l d m b d
     kept : 0 < table_num m i → 0 < count (table_num m i) disk.cells → Spot i (live_place m (read_log m l) c slots (table_num m i) (table_time m i))
     bare : (table_num m i ≡ 0) ⊎ (count (table_num m i) disk.cells ≡ 0) → Spot i free_place
 
-  spot : (i : ℕ)
-      → Spot i (cond (not (eqb (table_num m i) 0) && ltb 0 (count_waiting c (table_num m i) slots)) (live_place m (read_log m l) c slots (table_num m i) (table_time m i)) free_place)
-  spot i = go (eqb (table_num m i) 0) refl (ltb 0 (count_waiting c (table_num m i) slots)) refl
+  -- the lines of the table's pairs are on the medium
+  not_missed : (i : ℕ) → i < 64 → 0 < table_num m i → misses_line disk.area (pair_life (read_log m l) (table_num m i) (table_time m i)) ≡ false
+  unfolding pair_life
+  not_missed i h z = go (misses_line disk.area (pair_life (read_log m l) (table_num m i) (table_time m i))) refl
+    where
+      go : (t : Bool) → misses_line disk.area (pair_life (read_log m l) (table_num m i) (table_time m i)) ≡ t → t ≡ false
+      go false e = refl
+      go true e =
+          absurd (not_both disk.area (table_time m i) (misses_unlined disk.area (pair_life (read_log m l) (table_num m i) (table_time m i)) e).0 (x.medium.table.lined i h z))
+
+  spot : (i : ℕ) → i < 64
+      → Spot i (cond (not (eqb (table_num m i) 0) && (ltb 0 (count_waiting c (table_num m i) slots) || misses_line disk.area (pair_life (read_log m l) (table_num m i) (table_time m i))))
+      (live_place m (read_log m l) c slots (table_num m i) (table_time m i)) free_place)
+  spot i h = go (eqb (table_num m i) 0) refl (ltb 0 (count_waiting c (table_num m i) slots)) refl (misses_line disk.area (pair_life (read_log m l) (table_num m i) (table_time m i))) refl
     where
       go : (s : Bool) → eqb (table_num m i) 0 ≡ s → (t : Bool) → ltb 0 (count_waiting c (table_num m i) slots) ≡ t
-          → Spot i (cond (not s && t) (live_place m (read_log m l) c slots (table_num m i) (table_time m i)) free_place)
-      go true a t b = bare (inl (eqb-true _ _ a))
-      go false a true b =
-          let z : table_num m i ≢ 0 = eqb-false _ _ a in
-          kept (omega arith) (omega (arith, ltb-true 0 (count_waiting c (table_num m i) slots) b, counts (table_num m i)))
-      go false a false b = bare (inr (omega (arith, ltb-false 0 (count_waiting c (table_num m i) slots) b, counts (table_num m i))))
+          → (u : Bool) → misses_line disk.area (pair_life (read_log m l) (table_num m i) (table_time m i)) ≡ u
+          → Spot i (cond (not s && (t || u)) (live_place m (read_log m l) c slots (table_num m i) (table_time m i)) free_place)
+      go true p t q u r = bare (inl (eqb-true _ _ p))
+      go false p true q u r =
+          let z : table_num m i ≢ 0 = eqb-false _ _ p in
+          kept (omega arith) (omega (arith, ltb-true 0 (count_waiting c (table_num m i) slots) q, counts (table_num m i)))
+      go false p false q false r = bare (inr (omega (arith, ltb-false 0 (count_waiting c (table_num m i) slots) q, counts (table_num m i))))
+      go false p false q true r =
+          let z : table_num m i ≢ 0 = eqb-false _ _ p in absurd (false≢true (sym (not_missed i h (omega arith)) ∙ r))
 
-  table_at : (i n j : ℕ) → j < n → Spot (i + j) (place_at (table_places m (read_log m l) c slots i n) j)
+  table_at : (i n j : ℕ) → i + n ≤ 64 → j < n → Spot (i + j) (place_at (table_places disk.area m (read_log m l) c slots i n) j)
   unfolding table_places place_at
-  table_at i zero j h = absurd (not-suc-le-zero h)
-  table_at i (suc n) zero h = rw add-zero (spot i)
-  table_at i (suc n) (suc j) h =
+  table_at i zero j k h = absurd (not-suc-le-zero h)
+  table_at i (suc n) zero k h = rw add-zero (spot i (omega arith))
+  table_at i (suc n) (suc j) k h =
       let e : i + 1 + j ≡ i + suc j = omega arith in
-      subst (λ (q : ℕ). Spot q (place_at (table_places m (read_log m l) c slots (i + 1) n) j)) e (table_at (i + 1) n j (le_of_suc-le-suc h))
+      subst (λ (q : ℕ). Spot q (place_at (table_places disk.area m (read_log m l) c slots (i + 1) n) j)) e (table_at (i + 1) n j (omega arith) (le_of_suc-le-suc h))
 
-  table_length : (i n : ℕ) → length (table_places m (read_log m l) c slots i n) ≡ n
+  table_length : (i n : ℕ) → length (table_places disk.area m (read_log m l) c slots i n) ≡ n
   unfolding table_places
   table_length i zero = refl
   table_length i (suc n) = ap suc (table_length (i + 1) n)
 
   abbrev listed : List Place
-  listed = table_places m (read_log m l) c slots 0 64
+  listed = table_places disk.area m (read_log m l) c slots 0 64
 
   spot_at : (i : ℕ) → i < 64 → Spot i (place_at listed i)
-  spot_at i h = let e : 0 + i ≡ i = omega arith in subst (λ (q : ℕ). Spot q (place_at listed i)) e (table_at 0 64 i h)
+  spot_at i h = let e : 0 + i ≡ i = omega arith in subst (λ (q : ℕ). Spot q (place_at listed i)) e (table_at 0 64 i (omega arith) h)
 
-  spot_lively : (i : ℕ) → i < 64 → (e : Place) → Spot i e → Lively (commits_of disk.stored) disk.cells disk.oldest (next_number m l) e
+  spot_lively : (i : ℕ) → i < 64 → (e : Place) → Spot i e → Lively disk.area (commits_of disk.stored) disk.cells disk.oldest (next_number m l) e
   spot_lively i h e (bare w) = free_lively
-  spot_lively i h e (kept z q) = let t = x.medium.table.pair i h z in live_lively (table_num m i) (table_time m i) q t.0 t.1
+  spot_lively i h e (kept z q) = let t = x.medium.table.pair i h z in live_lively (table_num m i) (table_time m i) (inl q) t.0 t.1
 
   -- what a place that is not free says
   spot_fact : (i : ℕ) (e : Place) → Spot i e → 0 < life_num e.life
       → (life_num e.life ≡ table_num m i) × (life_time e.life ≡ table_time m i) × (0 < table_num m i)
-  unfolding live_place
+  unfolding live_place pair_life
   spot_fact i e (kept z q) h = (refl, refl, z)
   spot_fact i e (bare w) h = absurd (not-suc-le-zero h)
 
   spot_fill : (i : ℕ) (e : Place) → Spot i e → 0 < table_num m i → 0 < count (table_num m i) disk.cells → life_num e.life ≡ table_num m i
-  unfolding live_place
+  unfolding live_place pair_life
   spot_fill i e (kept z q) a b = refl
   spot_fill i e (bare (inl w)) a b = absurd (omega arith)
   spot_fill i e (bare (inr w)) a b = absurd (omega arith)
 
-  -- ns are the waited numbers whose pair is in the log alone
-  begun : (ns : List ℕ) → Each (λ (n : ℕ). (0 < count n disk.cells) × (table_find m n ≡ Nothing)) ns
-      → ((n : ℕ) → 0 < count n disk.cells → table_find m n ≡ Nothing → 0 < (find (commits_in (read_log m l)) n).time → Among n ns)
+  -- ns are the numbers that are waited for or miss their line, whose pair is in the log alone
+  begun : (ns : List ℕ) → Each (λ (n : ℕ). (0 < n) × (table_find m n ≡ Nothing)) ns
+      → ((n : ℕ) → Wanted disk.area (commits_of disk.stored) disk.cells n → table_find m n ≡ Nothing → 0 < (find (commits_in (read_log m l)) n).time → Among n ns)
       → Took listed ns
   begun ns alone rest = record {
     size = table_length 0 64;
@@ -312,40 +345,52 @@ module _ {l d : ℕ} {m : List ℕ} {b : Book} {disk : Disk} (x : Down l d m b d
       timed_num : (i : ℕ) → i < 64 → 0 < time_at listed i → 0 < num_at listed i
       timed_num i h z = life_low (place_at listed i).life (spot_lively i h (place_at listed i) (spot_at i h)).formed z
 
-      all' : (n : ℕ) → 0 < count n disk.cells → 0 < (find (commits_of disk.stored) n).time → (f : Found) → table_find m n ≡ f
+      all' : (n : ℕ) → Wanted disk.area (commits_of disk.stored) disk.cells n → 0 < (find (commits_of disk.stored) n).time → (f : Found) → table_find m n ≡ f
           → ((i : ℕ) × (i < 64) × (num_at listed i ≡ n)) ⊎ Among n ns
-      all' n h z (At i) e =
+      all' n (inl h) z (At i) e =
           let r = table_found m n i e in
           inl (i, r.0, spot_fill i (place_at listed i) (spot_at i r.0) (omega (arith, r.1, r.2)) (rw r.2 h) ∙ r.2)
-      all' n h z Nothing e = inr (rest n h e (omega (arith, unlisted x n h e)))
+      all' n (inr u) z (At i) e = absurd (listed_lined x n i e u)
+      all' n h z Nothing e = inr (rest n h e (omega (arith, wanted_logged x n h e)))
 
-      apart' : (ys : List ℕ) → Each (λ (n : ℕ). (0 < count n disk.cells) × (table_find m n ≡ Nothing)) ys
+      apart' : (ys : List ℕ) → Each (λ (n : ℕ). (0 < n) × (table_find m n ≡ Nothing)) ys
           → Each (λ (n : ℕ). (j : ℕ) → j < 64 → num_at listed j ≢ n) ys
       apart' [] q = tt
       apart' (n ∷ ys) q = (
         λ j a e.
-            let z = waited_low x n q.0.0 in
-            let f = spot_fact j (place_at listed j) (spot_at j a) (omega (arith, e)) in table_lacks m n z q.0.1 j a (sym f.0 ∙ e),
+            let f = spot_fact j (place_at listed j) (spot_at j a) (omega (arith, e, q.0.0)) in table_lacks m n q.0.0 q.0.1 j a (sym f.0 ∙ e),
         apart' ys q.1,
       )
 
-  pub places_taken : Taken m (commits_of disk.stored) disk.cells disk.oldest (next_number m l)
-      (take_free m (read_log m l) c slots (table_places m (read_log m l) c slots 0 64) (waiting_numbers c (in_log_alone m (read_log m l)) slots)) []
+  pub places_taken : Taken m disk.area (commits_of disk.stored) disk.cells disk.oldest (next_number m l)
+      (take_free m (read_log m l) c slots (table_places disk.area m (read_log m l) c slots 0 64) (live_numbers disk.area (read_log m l) c (in_log_alone m (read_log m l)) slots)) []
   places_taken =
-      took ns listed (waiting_ascends c p slots)
-      (each_map P (λ (n : ℕ). (0 < count n disk.cells) × (0 < (find (commits_in (read_log m l)) n).time)) ns (λ n f. (omega (arith, f.1, counts n), (alone_commit x n f.0).1)) each_waits)
-      (begun ns
-      (each_map P (λ (n : ℕ). (0 < count n disk.cells) × (table_find m n ≡ Nothing)) ns (λ n f. (omega (arith, f.1, counts n), (alone_commit x n f.0).0)) each_waits)
-      (λ n h e f. waiting_all c p slots n (commit_alone x n e f) (omega (arith, counts n))))
+      took ns listed (live_ascends disk.area (read_log m l) c p slots)
+      (each_map P (λ (n : ℕ). Wanted disk.area (commits_of disk.stored) disk.cells n × (0 < (find (commits_in (read_log m l)) n).time)) ns
+      (λ n f. (wanted n f.1, (alone_commit x n f.0).1)) each_live)
+      (begun ns (each_map P (λ (n : ℕ). (0 < n) × (table_find m n ≡ Nothing)) ns (λ n f. (alone_low n (alone_commit x n f.0).1, (alone_commit x n f.0).0)) each_live)
+      (λ n h e f. live_all disk.area (read_log m l) c p slots n (commit_alone x n e f) (live n f h)))
     where
       p : ℕ → Bool
       p = in_log_alone m (read_log m l)
 
       ns : List ℕ
-      ns = waiting_numbers c p slots
+      ns = live_numbers disk.area (read_log m l) c p slots
 
       P : ℕ → Type 0
-      P n = (p n ≡ true) × (0 < count_waiting c n slots)
+      P n = (p n ≡ true) × ((0 < count_waiting c n slots) ⊎ Unlined disk.area (find (commits_of disk.stored) n).time)
 
-      each_waits : Each P ns
-      each_waits = waiting_each c p slots
+      each_live : Each P ns
+      each_live = live_each disk.area (read_log m l) c p slots (commits_of disk.stored) (logged_found x)
+
+      wanted : (n : ℕ) → (0 < count_waiting c n slots) ⊎ Unlined disk.area (find (commits_of disk.stored) n).time → Wanted disk.area (commits_of disk.stored) disk.cells n
+      wanted n (inl h) = inl (omega (arith, counts n))
+      wanted n (inr u) = inr u
+
+      alone_low : (n : ℕ) → 0 < (find (commits_in (read_log m l)) n).time → 0 < n
+      alone_low n f = committed_low x n (rw (commit_logged x n f).0 f)
+
+      live : (n : ℕ) → 0 < (find (commits_in (read_log m l)) n).time → Wanted disk.area (commits_of disk.stored) disk.cells n
+          → (0 < count_waiting c n slots) ⊎ Unlined disk.area (find (commits_in (read_log m l)) n).time
+      live n f (inl h) = inl (omega (arith, counts n))
+      live n f (inr u) = inr (rw (commit_logged x n f).0 at u)

@@ -1,22 +1,28 @@
--- The numbers under which slots wait, gathered slot by slot: they rise, so no two are the same; each passes the test and is
--- waited under; and each that does is among them.
+-- The numbers under which slots wait, gathered slot by slot, and those whose lines are missing, commit by commit: they rise, so no
+-- two are the same; each passes the test and is waited under or misses its line; and each that does is among them.
 use Prim.Native.Nat.{ℕ, zero, suc, ◌+◌, ◌≤◌, ◌<◌}
 use native.Mathlib.Nat.{not-suc-le-zero, le_of_suc-le-suc}
 use native.Mathlib.Omega.{arith}
-use mathlib.Core.Bool.{Bool, true, false, cond}
-use mathlib.Core.List.{List, [], ◌∷◌}
+use mathlib.Core.Bool.{Bool, true, false, cond, ◌&&◌}
+use mathlib.Core.List.{List, [], ◌∷◌, ◌++◌}
 use mathlib.Core.Logic.{◌⊎◌, inl, inr}
 use mathlib.Core.Path.{◌≡◌, refl, sym, subst}
 use lib.Dec.{eqb, ltb}
 use lib.ListN.{length, get_or}
-use borrow.Author.Tests.{ltb-true, ltb-false, eqb-true, eqb-false, eq-eqb}
+use borrow.Author.Tests.{ltb-true, ltb-false, lt-ltb, eqb-true, eqb-false, eq-eqb}
+use Rattle.layout.specs.Journal.{Record, version, commit}
+use Rattle.layout.specs.declared.item.CommitHead.{CommitHead}
 use Rattle.layout.specs.declared.slot.Slot.{Slot}
 use Rattle.layout.specs.declared.slot.Slot.TheVariants.{Empty, Waiting, Stamped}
 use Rattle.fields.proofs.CellLaws.{Each, each_map, each_at}
-use Rattle.fields.proofs.Choose.{cond_elim}
+use Rattle.fields.proofs.Choose.{cond_elim, and_0, and_1}
+use Rattle.store.specs.declared.Area.{Area}
 use Rattle.store.specs.Chain.{cell_at}
-use Rattle.store.specs.OpenPairs.{waits_under, count_waiting, insert, insert_if, with_waiting, waiting_numbers}
+use Rattle.store.specs.OpenLog.{Placed, number_in}
+use Rattle.store.specs.OpenPairs.{waits_under, count_waiting, insert, insert_if, with_waiting, waiting_numbers, unlined, with_unlined, live_numbers}
+use Rattle.agreement.proofs.history.Ghost.{LoggedCommit, as_commit, commits_in, find}
 use Rattle.agreement.proofs.history.ListLaws.{split}
+use Rattle.agreement.proofs.invariant.Invariant.{Unlined}
 
 -- each number is above those before it
 abbrev pub Ascending : List ℕ → Type 0
@@ -116,6 +122,94 @@ module _ (c : List ℕ) (p : ℕ → Bool) where
       go Empty h f = f (omega arith)
       go (Waiting a) h f = by a.0 (eqb a.0 n) refl h f
       go (Stamped t) h f = f (omega arith)
+
+-- ---- with the numbers of the log whose lines are missing
+
+module _ (area : Area) (p : ℕ → Bool) where
+  unlined_ascends : (log : List Placed) (xs : List ℕ) → Ascending xs → Ascending (with_unlined area p log xs)
+  unfolding with_unlined
+  unlined_ascends [] xs r = r
+  unlined_ascends (x ∷ log) xs r = go (unlined area x.rec && p (number_in x.rec)) (unlined_ascends log xs r)
+    where
+      go : (t : Bool) → Ascending (with_unlined area p log xs) → Ascending (insert_if t (number_in x.rec) (with_unlined area p log xs))
+      go true h = ascending_insert (number_in x.rec) (with_unlined area p log xs) h
+      go false h = h
+
+  unlined_each : (P : ℕ → Type 0) (log : List Placed) (xs : List ℕ) → Each (λ (c : LoggedCommit). Unlined area c.time → p c.num ≡ true → P c.num) (commits_in log)
+      → Each P xs → Each P (with_unlined area p log xs)
+  unfolding with_unlined commits_in
+  unlined_each P [] xs f e = e
+  unlined_each P (x ∷ log) xs f e = go x.rec x.seq x.end f (λ g. unlined_each P log xs g e)
+    where
+      by : (r : CommitHead) (t : Bool) → unlined area (commit r) && p r.number.0 ≡ t → (Unlined area r.time.0 → p r.number.0 ≡ true → P r.number.0)
+          → Each P (with_unlined area p log xs) → Each P (insert_if t r.number.0 (with_unlined area p log xs))
+      by r true e f h =
+          let u = and_0 (unlined area (commit r)) (p r.number.0) e in
+          let b = ltb-true 0 area.blocks (and_0 (ltb 0 area.blocks) (ltb area.last.0 r.time.0) u) in
+          let t = ltb-true area.last.0 r.time.0 (and_1 (ltb 0 area.blocks) (ltb area.last.0 r.time.0) u) in
+          each_insert P r.number.0 (f (b, t) (and_1 (unlined area (commit r)) (p r.number.0) e)) (with_unlined area p log xs) h
+      by r false e f h = h
+
+      go : (r : Record) (q z : ℕ) → Each (λ (c : LoggedCommit). Unlined area c.time → p c.num ≡ true → P c.num) (as_commit r q z ++ commits_in log)
+          → (Each (λ (c : LoggedCommit). Unlined area c.time → p c.num ≡ true → P c.num) (commits_in log) → Each P (with_unlined area p log xs))
+          → Each P (insert_if (unlined area r && p (number_in r)) (number_in r) (with_unlined area p log xs))
+      go (version h v) q z f ih = ih f
+      go (commit r) q z f ih = by r (unlined area (commit r) && p r.number.0) refl f.0 (ih f.1)
+
+  unlined_old : (log : List Placed) (xs : List ℕ) (n : ℕ) → Among n xs → Among n (with_unlined area p log xs)
+  unfolding with_unlined
+  unlined_old [] xs n h = h
+  unlined_old (x ∷ log) xs n h = go (unlined area x.rec && p (number_in x.rec)) (unlined_old log xs n h)
+    where
+      go : (t : Bool) → Among n (with_unlined area p log xs) → Among n (insert_if t (number_in x.rec) (with_unlined area p log xs))
+      go true h = among_old n (number_in x.rec) (with_unlined area p log xs) h
+      go false h = h
+
+  unlined_new : (log : List Placed) (xs : List ℕ) (n : ℕ) → p n ≡ true → Unlined area (find (commits_in log) n).time → Among n (with_unlined area p log xs)
+  unfolding with_unlined commits_in find
+  unlined_new [] xs n e u = absurd (not-suc-le-zero u.1)
+  unlined_new (x ∷ log) xs n e u = go x.rec x.seq x.end u (unlined_new log xs n e)
+    where
+      older : (t : Bool) (j : ℕ) → Among n (with_unlined area p log xs) → Among n (insert_if t j (with_unlined area p log xs))
+      older true j h = among_old n j (with_unlined area p log xs) h
+      older false j h = h
+
+      by : (r : CommitHead) (q z : ℕ) (t : Bool) → eqb r.number.0 n ≡ t
+          → Unlined area (cond t (record { seq = q; end = z; num = r.number.0; time = r.time.0; user = r.user }) (find (commits_in log) n)).time
+          → (Unlined area (find (commits_in log) n).time → Among n (with_unlined area p log xs))
+          → Among n (insert_if (unlined area (commit r) && p r.number.0) r.number.0 (with_unlined area p log xs))
+      by r q z true g u ih =
+          let same : r.number.0 ≡ n = eqb-true r.number.0 n g in
+          rw (same, lt-ltb 0 area.blocks u.0, lt-ltb area.last.0 r.time.0 u.1, e) (among_new n (with_unlined area p log xs))
+      by r q z false g u ih = older (unlined area (commit r) && p r.number.0) r.number.0 (ih u)
+
+      go : (r : Record) (q z : ℕ) → Unlined area (find (as_commit r q z ++ commits_in log) n).time → (Unlined area (find (commits_in log) n).time → Among n (with_unlined area p log xs))
+          → Among n (insert_if (unlined area r && p (number_in r)) (number_in r) (with_unlined area p log xs))
+      go (version h v) q z u ih = ih u
+      go (commit r) q z u ih = by r q z (eqb r.number.0 n) refl u ih
+
+module _ (area : Area) (log : List Placed) (c : List ℕ) (p : ℕ → Bool) (slots : ℕ) where
+  pub live_ascends : Ascending (live_numbers area log c p slots)
+  unfolding live_numbers
+  live_ascends = unlined_ascends area p log (waiting_numbers c p slots) (waiting_ascends c p slots)
+
+  -- cs are commits among which those of the log are found by their numbers
+  pub live_each : (cs : List LoggedCommit) → Each (λ (x : LoggedCommit). find cs x.num ≡ x) (commits_in log)
+      → Each (λ (n : ℕ). (p n ≡ true) × ((0 < count_waiting c n slots) ⊎ Unlined area (find cs n).time)) (live_numbers area log c p slots)
+  unfolding live_numbers
+  live_each cs f =
+      unlined_each area p P log (waiting_numbers c p slots)
+      (each_map (λ (x : LoggedCommit). find cs x.num ≡ x) (λ (x : LoggedCommit). Unlined area x.time → p x.num ≡ true → P x.num) (commits_in log)
+      (λ x e u q. (q, inr (rw e u))) f)
+      (each_map (λ (n : ℕ). (p n ≡ true) × (0 < count_waiting c n slots)) P (waiting_numbers c p slots) (λ n g. (g.0, inl g.1)) (waiting_each c p slots))
+    where
+      P : ℕ → Type 0
+      P n = (p n ≡ true) × ((0 < count_waiting c n slots) ⊎ Unlined area (find cs n).time)
+
+  pub live_all : (n : ℕ) → p n ≡ true → (0 < count_waiting c n slots) ⊎ Unlined area (find (commits_in log) n).time → Among n (live_numbers area log c p slots)
+  unfolding live_numbers
+  live_all n e (inl h) = unlined_old area p log (waiting_numbers c p slots) n (waiting_all c p slots n e h)
+  live_all n e (inr h) = unlined_new area p log (waiting_numbers c p slots) n e h
 
 -- ---- ascending numbers are distinct
 

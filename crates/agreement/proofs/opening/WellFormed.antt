@@ -1,4 +1,4 @@
--- A store that is down is well formed: each of the ten conditions of opening holds of it, so an opening is accepted.
+-- A store that is down is well formed: each of the conditions of opening holds of it, so an opening is accepted.
 use Prim.Native.Nat.{ℕ}
 use mathlib.Core.Bool.{true}
 use mathlib.Core.List.{List}
@@ -8,12 +8,13 @@ use Rattle.runs.specs.Book.{Book}
 use Rattle.agreement.proofs.history.Ghost.{Disk}
 use Rattle.agreement.proofs.invariant.Invariant.{Down}
 use Rattle.agreement.proofs.opening.Redo.{applied_next_law}
+use Rattle.agreement.proofs.opening.Lines.{lines_true_law}
 use Rattle.agreement.proofs.opening.FormHolds.{fields_in_form_law, sequences_in_range_law, records_whole_law, ends_logged_law}
 use Rattle.agreement.proofs.opening.HistoryHolds.{history_true_law}
-use Rattle.agreement.proofs.opening.PairsHold.{from_one_law, numbers_left_law, pairs_once_law, waiting_few}
+use Rattle.agreement.proofs.opening.PairsHold.{from_one_law, numbers_left_law, pairs_once_law, live_few}
 
-module _ {l d : ℕ} {m : List ℕ} {b : Book} {disk : Disk} (x : Down l d m b disk) where
-  pub well_formed_law : well_formed m l d ≡ true
+module _ {l d a : ℕ} {m : List ℕ} {b : Book} {disk : Disk} (x : Down l d a m b disk) where
+  pub well_formed_law : well_formed m l d a ≡ true
   unfolding well_formed conditions all_hold
   well_formed_law =
       rw (
@@ -26,5 +27,6 @@ module _ {l d : ℕ} {m : List ℕ} {b : Book} {disk : Disk} (x : Down l d m b d
         from_one_law x.medium,
         numbers_left_law x.medium,
         pairs_once_law x.medium,
-        waiting_few x,
+        live_few x,
+        lines_true_law x.medium,
       )

@@ -29,10 +29,10 @@ apart os n a h = go (eqb a n) refl
     go true e = absurd (false≢true (sym (close_shuts os n) ∙ ap (λ (x : ℕ). is_open (close os x) n) (sym (eqb-true a n e)) ∙ h))
     go false e = refl
 
-committing : (t : Bool) (b : Book) (n a k : ℕ) (ch : Bool) → is_open (commits t b a k ch).opened n ≡ true → is_open (close b.opened a) n ≡ true
+committing : (t : Bool) (b : Book) (n a k u : ℕ) (ch : Bool) → is_open (commits t b a k u ch).opened n ≡ true → is_open (close b.opened a) n ≡ true
 unfolding add
-committing true b n a k ch h = h
-committing false b n a k ch h = h
+committing true b n a k u ch h = h
+committing false b n a k u ch h = h
 
 called : (n : ℕ) (b : Book) (x : Call) (o : Observation) → o.refusal ≡ 0 → is_open (entered b x o.result o.changed).opened n ≡ true → Open n b (call x) o
 unfolding entered is_open add
@@ -44,8 +44,8 @@ called n b (begin k) o z h = go (eqb o.result n) refl h
 called n b (write a key v) o z h = was h refl (rw z)
 called n b (erase a key) o z h = was h refl (rw z)
 called n b (current_read a key) o z h = was h refl (rw z)
-called n b (commit a k) o z h =
-    let q = committing (has_row b.rows a) b n a k o.changed h in was (close_less b.opened a n q) refl (rw (z, apart b.opened n a q))
+called n b (commit a k u) o z h =
+    let q = committing (has_row b.rows a) b n a k u o.changed h in was (close_less b.opened a n q) refl (rw (z, apart b.opened n a q))
 called n b (abort a) o z h = was (close_less b.opened a n h) refl (rw (z, apart b.opened n a h))
 called n b (as_of key t) o z h = was h refl (rw z)
 called n b (changes key t1 t2 buffer) o z h = was h refl (rw z)
@@ -76,36 +76,36 @@ opened n b (call x) o h = go o.refusal refl h
     go (suc r) z h = let q = refused_not n r x o z in was h q.0 q.1
 
 -- the begin of an open number among some events that come at w, or it was open before them
-module _ (l d n : ℕ) where
+module _ (l d a n : ℕ) where
   pub data Since (w : World) (b : Book) (es : List Event) : Type 0 where
-    kept : is_open b.opened n ≡ true → any_seen (begins n) es (trace l d w es) ≡ false → any_seen (closes n) es (trace l d w es) ≡ false → Since w b es
+    kept : is_open b.opened n ≡ true → any_seen (begins n) es (trace l d a w es) ≡ false → any_seen (closes n) es (trace l d a w es) ≡ false → Since w b es
     begun : (clock : ℕ) (before behind : List Event) → es ≡ before ++ (call (begin clock) ∷ behind)
-        → (step l d (world_after l d w before) (call (begin clock))).seen.refusal ≡ 0 → (step l d (world_after l d w before) (call (begin clock))).seen.result ≡ n
-        → any_seen (begins n) behind (trace l d (step l d (world_after l d w before) (call (begin clock))).world behind) ≡ false
-        → any_seen (closes n) behind (trace l d (step l d (world_after l d w before) (call (begin clock))).world behind) ≡ false → Since w b es
+        → (step l d a (world_after l d a w before) (call (begin clock))).seen.refusal ≡ 0 → (step l d a (world_after l d a w before) (call (begin clock))).seen.result ≡ n
+        → any_seen (begins n) behind (trace l d a (step l d a (world_after l d a w before) (call (begin clock))).world behind) ≡ false
+        → any_seen (closes n) behind (trace l d a (step l d a (world_after l d a w before) (call (begin clock))).world behind) ≡ false → Since w b es
 
-  since : (es : List Event) (w : World) (b : Book) → is_open (book_after l d w b es).opened n ≡ true → Since w b es
+  since : (es : List Event) (w : World) (b : Book) → is_open (book_after l d a w b es).opened n ≡ true → Since w b es
   unfolding book_after any_seen trace world_after
   since [] w b h = kept h refl refl
-  since (e ∷ es) w b h = go (since es (step l d w e).world (feed b e (step l d w e).seen) h)
+  since (e ∷ es) w b h = go (since es (step l d a w e).world (feed b e (step l d a w e).seen) h)
     where
-      here : any_seen (begins n) es (trace l d (step l d w e).world es) ≡ false → any_seen (closes n) es (trace l d (step l d w e).world es) ≡ false
-          → Open n b e (step l d w e).seen → Since w b (e ∷ es)
+      here : any_seen (begins n) es (trace l d a (step l d a w e).world es) ≡ false → any_seen (closes n) es (trace l d a (step l d a w e).world es) ≡ false
+          → Open n b e (step l d a w e).seen → Since w b (e ∷ es)
       here p q (was x y z) = kept x (rw (y, p)) (rw (z, q))
       here p q (given clock y z x) =
-          begun clock [] es (ap (λ (a : Event). a ∷ es) y) (rw y at z) (rw y at x) (rw y at p) (rw y at q)
+          begun clock [] es (ap (λ (x : Event). x ∷ es) y) (rw y at z) (rw y at x) (rw y at p) (rw y at q)
 
-      go : Since (step l d w e).world (feed b e (step l d w e).seen) es → Since w b (e ∷ es)
-      go (kept x p q) = here p q (opened n b e (step l d w e).seen x)
+      go : Since (step l d a w e).world (feed b e (step l d a w e).seen) es → Since w b (e ∷ es)
+      go (kept x p q) = here p q (opened n b e (step l d a w e).seen x)
       go (begun clock before behind y z x p q) = begun clock (e ∷ before) behind (ap (λ (gs : List Event). e ∷ gs) y) z x p q
 
 pub one_begin : OneBegin
 unfolding OneBegin world_after blank is_open
-one_begin l d es n r h = go (since l d n es (formatted l d) blank h)
+one_begin l d a es n r h = go (since l d a n es (formatted l d a) (blank a) h)
   where
-    go : Since l d n (formatted l d) blank es → BegunOnce l d es n
+    go : Since l d a n (formatted l d a) (blank a) es → BegunOnce l d a es n
     go (kept x p q) = absurd (false≢true x)
     go (begun clock before behind y z x p q) =
-        let e : world_after l d (formatted l d) (before ++ (call (begin clock) ∷ [])) ≡ (step l d (world_after l d (formatted l d) before) (call (begin clock))).world =
-        world_append l d before (call (begin clock) ∷ []) (formatted l d) in
+        let e : world_after l d a (formatted l d a) (before ++ (call (begin clock) ∷ [])) ≡ (step l d a (world_after l d a (formatted l d a) before) (call (begin clock))).world =
+        world_append l d a before (call (begin clock) ∷ []) (formatted l d a) in
         record { clock = clock; before = before; behind = behind; among = y; accepted = z; answer = x; only = rw e p; active = rw e q }

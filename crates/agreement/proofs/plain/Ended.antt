@@ -41,18 +41,18 @@ idle_turn n b b' hs rs e o q (opens m k z h) p = record {
   uncommitted = p.uncommitted;
 }
 idle_turn n b b' hs rs e o q (adds v ch w) p = record { shut = p.shut; uncommitted = time_version b.rows v n ∙ p.uncommitted }
-idle_turn n b b' hs rs e o q (ends m t ch a h z) p = record {
+idle_turn n b b' hs rs e o q (ends m t u ch a h z) p = record {
   shut = shut_less b.opened m n p.shut;
-  uncommitted = time_other b.rows m t n (λ y. false≢true (sym p.shut ∙ ap (is_open b.opened) y ∙ a)) ∙ p.uncommitted;
+  uncommitted = time_other b.rows m t u n (λ y. false≢true (sym p.shut ∙ ap (is_open b.opened) y ∙ a)) ∙ p.uncommitted;
 }
 idle_turn n b b' hs rs e o q (closes m) p = record { shut = shut_less b.opened m n p.shut; uncommitted = p.uncommitted }
 idle_turn n b b' hs rs e o q stores p = record { shut = p.shut; uncommitted = p.uncommitted }
 
 -- of a run that goes on with fs from the moment es
-pub stays_idle : {l d : ℕ} (es fs : List Event) (n t : ℕ) → Run l d (es ++ fs) → Idle n (book_at l d es) → any_seen (begins n) fs (trace_at l d es fs) ≡ false
-    → Among (committed n t) (book_at l d (es ++ fs)).rows → ⊥
-stays_idle {l} {d} es fs n t r i q a =
-    none_among (book_at l d (es ++ fs)).rows n t (since es fs r (begins n) (λ b hs. Idle n b) (idle_turn n) q i).uncommitted a
+pub stays_idle : {l d a : ℕ} (es fs : List Event) (n t u : ℕ) → Run l d a (es ++ fs) → Idle n (book_at l d a es) → any_seen (begins n) fs (trace_at l d a es fs) ≡ false
+    → Among (committed n t u) (book_at l d a (es ++ fs)).rows → ⊥
+stays_idle {l} {d} {a} es fs n t u r i q h =
+    none_among (book_at l d a (es ++ fs)).rows n t u (since es fs r (begins n) (λ b hs. Idle n b) (idle_turn n) q i).uncommitted h
 
 aborted_idle : (b : Book) (n : ℕ) (o : Observation) → o.refusal ≡ 0 → time_of b.rows n ≡ none → Idle n (feed b (call (abort n)) o)
 unfolding feed entered
@@ -64,16 +64,16 @@ cut_idle b n o e = record { shut = refl; uncommitted = e }
 
 -- ---- a number begun anew
 
-seen_split : (l d : ℕ) (p : Event → Observation → Bool) (fs : List Event) (w : World) → any_seen p fs (trace l d w fs) ≡ true
-    → (before : List Event) × (e : Event) × (behind : List Event) × (fs ≡ before ++ (e ∷ behind)) × (p e (step l d (world_after l d w before) e).seen ≡ true)
+seen_split : (l d a : ℕ) (p : Event → Observation → Bool) (fs : List Event) (w : World) → any_seen p fs (trace l d a w fs) ≡ true
+    → (before : List Event) × (e : Event) × (behind : List Event) × (fs ≡ before ++ (e ∷ behind)) × (p e (step l d a (world_after l d a w before) e).seen ≡ true)
 unfolding any_seen trace world_after
-seen_split l d p [] w h = absurd (false≢true h)
-seen_split l d p (e ∷ fs) w h = go (either_true (p e (step l d w e).seen) (any_seen p fs (trace l d (step l d w e).world fs)) h) (seen_split l d p fs (step l d w e).world)
+seen_split l d a p [] w h = absurd (false≢true h)
+seen_split l d a p (e ∷ fs) w h = go (either_true (p e (step l d a w e).seen) (any_seen p fs (trace l d a (step l d a w e).world fs)) h) (seen_split l d a p fs (step l d a w e).world)
   where
-    go : (p e (step l d w e).seen ≡ true) ⊎ (any_seen p fs (trace l d (step l d w e).world fs) ≡ true)
-        → (any_seen p fs (trace l d (step l d w e).world fs) ≡ true
-        → (before : List Event) × (x : Event) × (behind : List Event) × (fs ≡ before ++ (x ∷ behind)) × (p x (step l d (world_after l d (step l d w e).world before) x).seen ≡ true))
-        → (before : List Event) × (x : Event) × (behind : List Event) × (e ∷ fs ≡ before ++ (x ∷ behind)) × (p x (step l d (world_after l d w before) x).seen ≡ true)
+    go : (p e (step l d a w e).seen ≡ true) ⊎ (any_seen p fs (trace l d a (step l d a w e).world fs) ≡ true)
+        → (any_seen p fs (trace l d a (step l d a w e).world fs) ≡ true
+        → (before : List Event) × (x : Event) × (behind : List Event) × (fs ≡ before ++ (x ∷ behind)) × (p x (step l d a (world_after l d a (step l d a w e).world before) x).seen ≡ true))
+        → (before : List Event) × (x : Event) × (behind : List Event) × (e ∷ fs ≡ before ++ (x ∷ behind)) × (p x (step l d a (world_after l d a w before) x).seen ≡ true)
     go (inl q) ih = ([], e, fs, refl, q)
     go (inr q) ih = let (before, x, behind, r, z) = ih q in (e ∷ before, x, behind, ap (λ (gs : List Event). e ∷ gs) r, z)
 
@@ -87,7 +87,7 @@ begun_by n (call x) o h = go x h
     go (write a key v) h = absurd (false≢true h)
     go (erase a key) h = absurd (false≢true h)
     go (current_read a key) h = absurd (false≢true h)
-    go (commit a k) h = absurd (false≢true h)
+    go (commit a k u) h = absurd (false≢true h)
     go (abort a) h = absurd (false≢true h)
     go (as_of key t) h = absurd (false≢true h)
     go (changes key t1 t2 buffer) h = absurd (false≢true h)
@@ -95,18 +95,18 @@ begun_by n (call x) o h = go x h
     go (store_page p) h = absurd (false≢true h)
     go checkpoint h = absurd (false≢true h)
 
-anew : {l d : ℕ} (es fs : List Event) (n : ℕ) → Run l d (es ++ fs) → any_seen (begins n) fs (trace_at l d es fs) ≡ true → BegunAnew l d es fs n
-anew {l} {d} es fs n r h =
-    let (before, e, behind, q, t) = seen_split l d (begins n) fs (world_after l d (formatted l d) es) h in
-    let s : begins n e (seen_at l d (es ++ before) e) ≡ true = subst (λ (w : World). begins n e (step l d w e).seen ≡ true) (sym (world_append l d es before (formatted l d))) t in
-    let (k, z, a, x) = begun_by n e (seen_at l d (es ++ before) e) s in
+anew : {l d a : ℕ} (es fs : List Event) (n : ℕ) → Run l d a (es ++ fs) → any_seen (begins n) fs (trace_at l d a es fs) ≡ true → BegunAnew l d a es fs n
+anew {l} {d} {a} es fs n r h =
+    let (before, e, behind, q, t) = seen_split l d a (begins n) fs (world_after l d a (formatted l d a) es) h in
+    let s : begins n e (seen_at l d a (es ++ before) e) ≡ true = subst (λ (w : World). begins n e (step l d a w e).seen ≡ true) (sym (world_append l d a es before (formatted l d a))) t in
+    let (k, z, y, x) = begun_by n e (seen_at l d a (es ++ before) e) s in
     let b : Event = call (begin k) in
     let f : fs ≡ before ++ (b ∷ behind) = q ∙ ap (λ (y : Event). before ++ (y ∷ behind)) z in
     let whole : es ++ fs ≡ ((es ++ before) ++ (b ∷ [])) ++ behind =
     ap (λ (gs : List Event). es ++ gs) f ∙ sym (append_assoc es before (b ∷ behind)) ∙ sym (append_assoc (es ++ before) (b ∷ []) behind) in
-    let here : Run l d ((es ++ before) ++ (b ∷ [])) = front_run ((es ++ before) ++ (b ∷ [])) behind (subst (Run l d) whole r) in
-    let a' : (seen_at l d (es ++ before) b).refusal ≡ 0 = ap (λ (y : Event). (seen_at l d (es ++ before) y).refusal) (sym z) ∙ a in
-    let x' : (seen_at l d (es ++ before) b).result ≡ n = ap (λ (y : Event). (seen_at l d (es ++ before) y).result) (sym z) ∙ x in
+    let here : Run l d a ((es ++ before) ++ (b ∷ [])) = front_run ((es ++ before) ++ (b ∷ [])) behind (subst (Run l d a) whole r) in
+    let a' : (seen_at l d a (es ++ before) b).refusal ≡ 0 = ap (λ (y : Event). (seen_at l d a (es ++ before) y).refusal) (sym z) ∙ y in
+    let x' : (seen_at l d a (es ++ before) b).result ≡ n = ap (λ (y : Event). (seen_at l d a (es ++ before) y).result) (sym z) ∙ x in
     record {
       clock = k;
       before = before;
@@ -114,34 +114,34 @@ anew {l} {d} es fs n r h =
       among = f;
       accepted = a';
       answer = x';
-      gone = ap (has_row (book_at l d (es ++ before)).rows) (sym x') ∙ (next_fits (es ++ before) b here a').1;
+      gone = ap (has_row (book_at l d a (es ++ before)).rows) (sym x') ∙ (next_fits (es ++ before) b here a').1;
     }
 
 -- an idle number that has a commit later was begun anew
-idle_anew : {l d : ℕ} (es fs : List Event) (n t : ℕ) → Run l d (es ++ fs) → Idle n (book_at l d es) → Among (committed n t) (book_at l d (es ++ fs)).rows → BegunAnew l d es fs n
-idle_anew {l} {d} es fs n t r i h = go (any_seen (begins n) fs (trace_at l d es fs)) refl
+idle_anew : {l d a : ℕ} (es fs : List Event) (n t u : ℕ) → Run l d a (es ++ fs) → Idle n (book_at l d a es) → Among (committed n t u) (book_at l d a (es ++ fs)).rows → BegunAnew l d a es fs n
+idle_anew {l} {d} {a} es fs n t u r i h = go (any_seen (begins n) fs (trace_at l d a es fs)) refl
   where
-    go : (b : Bool) → any_seen (begins n) fs (trace_at l d es fs) ≡ b → BegunAnew l d es fs n
+    go : (b : Bool) → any_seen (begins n) fs (trace_at l d a es fs) ≡ b → BegunAnew l d a es fs n
     go true q = anew es fs n r q
-    go false q = absurd (stays_idle es fs n t r i q h)
+    go false q = absurd (stays_idle es fs n t u r i q h)
 
 pub aborted : Aborted
 unfolding Aborted Known
-aborted l d es fs n t r a h =
+aborted l d a es fs n t u r z h =
     let x : Event = call (abort n) in
     let split : (es ++ (x ∷ [])) ++ fs ≡ es ++ (x ∷ fs) = append_assoc es (x ∷ []) fs in
-    let run : Run l d ((es ++ (x ∷ [])) ++ fs) = subst (Run l d) (sym split) r in
-    let here : Run l d (es ++ (x ∷ [])) = front_run (es ++ (x ∷ [])) fs run in
-    let open' : is_open (book_at l d es).opened n ≡ true = known l d es (abort n) n here a refl in
-    let i : Idle n (feed (book_at l d es) x (seen_at l d es x)) =
-    aborted_idle (book_at l d es) n (seen_at l d es x) a ((orderly (front_run es (x ∷ []) here)).unended n open') in
-    idle_anew (es ++ (x ∷ [])) fs n t run (subst (Idle n) (sym (book_next l d es x)) i)
-    (subst (λ (gs : List Event). Among (committed n t) (book_at l d gs).rows) (sym split) h)
+    let run : Run l d a ((es ++ (x ∷ [])) ++ fs) = subst (Run l d a) (sym split) r in
+    let here : Run l d a (es ++ (x ∷ [])) = front_run (es ++ (x ∷ [])) fs run in
+    let open' : is_open (book_at l d a es).opened n ≡ true = known l d a es (abort n) n here z refl in
+    let i : Idle n (feed (book_at l d a es) x (seen_at l d a es x)) =
+    aborted_idle (book_at l d a es) n (seen_at l d a es x) z ((orderly (front_run es (x ∷ []) here)).unended n open') in
+    idle_anew (es ++ (x ∷ [])) fs n t u run (subst (Idle n) (sym (book_next l d a es x)) i)
+    (subst (λ (gs : List Event). Among (committed n t u) (book_at l d a gs).rows) (sym split) h)
 
 pub cut_off : CutOff
 unfolding CutOff
-cut_off l d es fs n t r e h =
+cut_off l d a es fs n t u r e h =
     let split : (es ++ (cut ∷ [])) ++ fs ≡ es ++ (cut ∷ fs) = append_assoc es (cut ∷ []) fs in
-    let i : Idle n (feed (book_at l d es) cut (seen_at l d es cut)) = cut_idle (book_at l d es) n (seen_at l d es cut) e in
-    idle_anew (es ++ (cut ∷ [])) fs n t (subst (Run l d) (sym split) r) (subst (Idle n) (sym (book_next l d es cut)) i)
-    (subst (λ (gs : List Event). Among (committed n t) (book_at l d gs).rows) (sym split) h)
+    let i : Idle n (feed (book_at l d a es) cut (seen_at l d a es cut)) = cut_idle (book_at l d a es) n (seen_at l d a es cut) e in
+    idle_anew (es ++ (cut ∷ [])) fs n t u (subst (Run l d a) (sym split) r) (subst (Idle n) (sym (book_next l d a es cut)) i)
+    (subst (λ (gs : List Event). Among (committed n t u) (book_at l d a gs).rows) (sym split) h)

@@ -7,13 +7,13 @@ use mathlib.Core.List.{List, [], ◌∷◌, ◌++◌, append_assoc, append-nil}
 use mathlib.Core.Logic.{inl, inr}
 use mathlib.Core.Option.{Option, none, some}
 use mathlib.Core.Path.{◌≡◌, refl, sym, ap, ◌∙◌, subst}
-use lib.ListN.{length, take, length-take, length-append}
+use lib.ListN.{length, take, drop, length-take, length-append, take-append-drop}
 use borrow.Author.Tests.{ne_eqb}
 use Rattle.runs.specs.Event.{Event, opening, call, store_log, Sight, Observation}
-use Rattle.runs.specs.Book.{Version, Row, version, committed, Book, versions, time_of, has_row, is_open, add, fall, entered, feed, sight, sights}
+use Rattle.runs.specs.Book.{Version, Row, version, committed, Book, versions, time_of, user_of, has_row, is_open, add, fall, entered, feed, sight, sights}
 use Rattle.runs.specs.Moments.{Run, book_at, seen_at, trace_at, Openings, Among}
 use Rattle.runs.specs.Plain.{rows_found, Kept, Durable}
-use Rattle.agreement.proofs.plain.Laws.{take_past, versions_append, time_front, time_none, rowless_left, version_has, close_less}
+use Rattle.agreement.proofs.plain.Laws.{take_past, versions_append, time_front, time_none, user_front, user_untimed, rowless_left, version_has, close_less}
 use Rattle.agreement.proofs.plain.Runs.{Turn, stays, falls, opens, adds, ends, closes, stores, never}
 use Rattle.agreement.proofs.plain.Times.{since, front_run, book_next, opened_cases}
 use Rattle.agreement.proofs.plain.Reads.{next_fits}
@@ -42,13 +42,28 @@ front_turn R b b' hs rs e o (adds v ch w) p = record {
   rows = ap (λ (xs : List Row). xs ++ (version v ∷ [])) p.rows ∙ append_assoc R p.rest (version v ∷ []);
   stored = stored_more R p.rest b ch p.rows p.stored;
 }
-front_turn R b b' hs rs e o (ends n t ch a h z) p = record {
-  rest = p.rest ++ (committed n t ∷ []);
-  rows = ap (λ (xs : List Row). xs ++ (committed n t ∷ [])) p.rows ∙ append_assoc R p.rest (committed n t ∷ []);
+front_turn R b b' hs rs e o (ends n t u ch a h z) p = record {
+  rest = p.rest ++ (committed n t u ∷ []);
+  rows = ap (λ (xs : List Row). xs ++ (committed n t u ∷ [])) p.rows ∙ append_assoc R p.rest (committed n t u ∷ []);
   stored = stored_more R p.rest b ch p.rows p.stored;
 }
 front_turn R b b' hs rs e o (closes n) p = record { rest = p.rest; rows = p.rows; stored = p.stored }
 front_turn R b b' hs rs e o stores p = record { rest = p.rest; rows = p.rows; stored = rw (p.rows, length-append) (omega arith) }
+
+-- those that a cut would leave now
+pub front_now : (b : Book) → Front (fall b).rows b
+unfolding fall
+front_now b = record {
+  rest = drop b.stored b.rows;
+  rows = sym (take-append-drop b.stored b.rows);
+  stored = rw length-take (omega arith);
+}
+
+-- and ever after
+pub front_since : (l d a : ℕ) (es fs : List Event) → Run l d a (es ++ fs) → Front (rows_found l d a es) (book_at l d a (es ++ fs))
+front_since l d a es fs r =
+    since es fs r (λ e o. false) (λ b hs. Front (rows_found l d a es) b) (λ b b' hs rs e o z. front_turn (rows_found l d a es) b b' hs rs e o)
+    (never fs (trace_at l d a es fs)) (front_now (book_at l d a es))
 
 -- all that an opening finds then
 pub front_found : (R : List Row) (b : Book) → Front R b → (more : List Row) × ((fall b).rows ≡ R ++ more)
@@ -61,14 +76,14 @@ logged b o z = rw z (record { rest = []; rows = sym (append-nil b.rows); stored 
 
 pub durable : Durable
 unfolding Durable
-durable l d es fs r a =
+durable l d a es fs r z =
     let x : Event = call store_log in
     let split : (es ++ (x ∷ [])) ++ fs ≡ es ++ (x ∷ fs) = append_assoc es (x ∷ []) fs in
-    let run : Run l d ((es ++ (x ∷ [])) ++ fs) = subst (Run l d) (sym split) r in
-    let start : Front (book_at l d es).rows (book_at l d (es ++ (x ∷ []))) = subst (Front (book_at l d es).rows) (sym (book_next l d es x)) (logged (book_at l d es) (seen_at l d es x) a) in
-    let all : Front (book_at l d es).rows (book_at l d ((es ++ (x ∷ [])) ++ fs)) =
-    since (es ++ (x ∷ [])) fs run (λ e o. false) (λ b hs. Front (book_at l d es).rows b) (λ b b' hs rs e o z. front_turn (book_at l d es).rows b b' hs rs e o) (never fs (trace_at l d (es ++ (x ∷ [])) fs)) start in
-    subst (λ (gs : List Event). (more : List Row) × (rows_found l d gs ≡ (book_at l d es).rows ++ more)) split (front_found (book_at l d es).rows (book_at l d ((es ++ (x ∷ [])) ++ fs)) all)
+    let run : Run l d a ((es ++ (x ∷ [])) ++ fs) = subst (Run l d a) (sym split) r in
+    let start : Front (book_at l d a es).rows (book_at l d a (es ++ (x ∷ []))) = subst (Front (book_at l d a es).rows) (sym (book_next l d a es x)) (logged (book_at l d a es) (seen_at l d a es x) z) in
+    let all : Front (book_at l d a es).rows (book_at l d a ((es ++ (x ∷ [])) ++ fs)) =
+    since (es ++ (x ∷ [])) fs run (λ e o. false) (λ b hs. Front (book_at l d a es).rows b) (λ b b' hs rs e o z. front_turn (book_at l d a es).rows b b' hs rs e o) (never fs (trace_at l d a (es ++ (x ∷ [])) fs)) start in
+    subst (λ (gs : List Event). (more : List Row) × (rows_found l d a gs ≡ (book_at l d a es).rows ++ more)) split (front_found (book_at l d a es).rows (book_at l d a ((es ++ (x ∷ [])) ++ fs)) all)
 
 -- ---- no number with a row among the stored ones commits any more
 
@@ -76,24 +91,24 @@ durable l d es fs r a =
 abbrev Foreign : List Row → List Row → Type 0
 Foreign R [] = Unit {0}
 Foreign R (version v ∷ rs) = Foreign R rs
-Foreign R (committed n t ∷ rs) = (has_row R n ≡ false) × Foreign R rs
+Foreign R (committed n t u ∷ rs) = (has_row R n ≡ false) × Foreign R rs
 
 foreign_take : (R : List Row) (i : ℕ) (rs : List Row) → Foreign R rs → Foreign R (take i rs)
 foreign_take R zero rs h = tt
 foreign_take R (suc i) [] h = tt
 foreign_take R (suc i) (version v ∷ rs) h = foreign_take R i rs h
-foreign_take R (suc i) (committed n t ∷ rs) h = (h.0, foreign_take R i rs h.1)
+foreign_take R (suc i) (committed n t u ∷ rs) h = (h.0, foreign_take R i rs h.1)
 
 foreign_append : (R rs ss : List Row) → Foreign R rs → Foreign R ss → Foreign R (rs ++ ss)
 foreign_append R [] ss h g = g
 foreign_append R (version v ∷ rs) ss h g = foreign_append R rs ss h g
-foreign_append R (committed n t ∷ rs) ss h g = (h.0, foreign_append R rs ss h.1 g)
+foreign_append R (committed n t u ∷ rs) ss h g = (h.0, foreign_append R rs ss h.1 g)
 
 foreign_none : (R rs : List Row) (n : ℕ) → has_row R n ≡ true → Foreign R rs → time_of rs n ≡ none
 unfolding time_of
 foreign_none R [] n h f = refl
 foreign_none R (version v ∷ rs) n h f = foreign_none R rs n h f
-foreign_none R (committed k t ∷ rs) n h f = rw (ne_eqb k n (λ e. false≢true (sym f.0 ∙ ap (has_row R) e ∙ h))) (foreign_none R rs n h f.1)
+foreign_none R (committed k t u ∷ rs) n h f = rw (ne_eqb k n (λ e. false≢true (sym f.0 ∙ ap (has_row R) e ∙ h))) (foreign_none R rs n h f.1)
 
 foreign_time : (R rs : List Row) (n : ℕ) → has_row R n ≡ true → Foreign R rs → time_of (R ++ rs) n ≡ time_of R n
 foreign_time R rs n h f = go (time_of R n) refl
@@ -101,6 +116,13 @@ foreign_time R rs n h f = go (time_of R n) refl
     go : (t : Option ℕ) → time_of R n ≡ t → time_of (R ++ rs) n ≡ t
     go none e = time_none R rs n e ∙ foreign_none R rs n h f
     go (some t) e = time_front R rs n t e
+
+foreign_user : (R rs : List Row) (n : ℕ) → has_row R n ≡ true → Foreign R rs → user_of (R ++ rs) n ≡ user_of R n
+foreign_user R rs n h f = go (time_of R n) refl
+  where
+    go : (t : Option ℕ) → time_of R n ≡ t → user_of (R ++ rs) n ≡ user_of R n
+    go none e = user_untimed (R ++ rs) n (foreign_time R rs n h f ∙ e) ∙ sym (user_untimed R n e)
+    go (some t) e = user_front R rs n t e
 
 record Shown (R : List Row) (b : Book) : Type 0 where
   rest : List Row
@@ -135,11 +157,11 @@ shown_turn R b b' hs rs e o (adds v ch w) p = record {
   foreign = foreign_append R p.rest (version v ∷ []) p.foreign tt;
   strangers = p.strangers;
 }
-shown_turn R b b' hs rs e o (ends n t ch a h z) p = record {
-  rest = p.rest ++ (committed n t ∷ []);
-  rows = ap (λ (xs : List Row). xs ++ (committed n t ∷ [])) p.rows ∙ append_assoc R p.rest (committed n t ∷ []);
+shown_turn R b b' hs rs e o (ends n t u ch a h z) p = record {
+  rest = p.rest ++ (committed n t u ∷ []);
+  rows = ap (λ (xs : List Row). xs ++ (committed n t u ∷ [])) p.rows ∙ append_assoc R p.rest (committed n t u ∷ []);
   stored = stored_more R p.rest b ch p.rows p.stored;
-  foreign = foreign_append R p.rest (committed n t ∷ []) p.foreign (p.strangers n a, tt);
+  foreign = foreign_append R p.rest (committed n t u ∷ []) p.foreign (p.strangers n a, tt);
   strangers = λ x q. p.strangers x (close_less b.opened n x q);
 }
 shown_turn R b b' hs rs e o (closes n) p = record {
@@ -162,17 +184,17 @@ unfolding sights
 sights_append rs [] ws = refl
 sights_append rs (v ∷ vs) ws = ap (λ (xs : List Sight). sight rs v ∷ xs) (sights_append rs vs ws)
 
-sights_same : (rs ss : List Row) (vs : List Version) → ((v : Version) → Among v vs → time_of rs v.number ≡ time_of ss v.number) → sights rs vs ≡ sights ss vs
+sights_same : (rs ss : List Row) (vs : List Version) → ((v : Version) → Among v vs → (time_of rs v.number ≡ time_of ss v.number) × (user_of rs v.number ≡ user_of ss v.number)) → sights rs vs ≡ sights ss vs
 unfolding sights sight
 sights_same rs ss [] h = refl
-sights_same rs ss (v ∷ vs) h = rw (h v (inl refl), sights_same rs ss vs (λ w a. h w (inr a)))
+sights_same rs ss (v ∷ vs) h = rw ((h v (inl refl)).0, (h v (inl refl)).1, sights_same rs ss vs (λ w a. h w (inr a)))
 
 -- the slots found before are at the front of those found now
 sights_front : (R rs : List Row) → Foreign R rs → sights (R ++ rs) (versions (R ++ rs)) ≡ sights R (versions R) ++ sights (R ++ rs) (versions rs)
 sights_front R rs f =
     ap (sights (R ++ rs)) (versions_append R rs)
     ∙ sights_append (R ++ rs) (versions R) (versions rs)
-    ∙ ap (λ (xs : List Sight). xs ++ sights (R ++ rs) (versions rs)) (sights_same (R ++ rs) R (versions R) (λ v a. foreign_time R rs v.number (version_has v R a) f))
+    ∙ ap (λ (xs : List Sight). xs ++ sights (R ++ rs) (versions rs)) (sights_same (R ++ rs) R (versions R) (λ v h. (foreign_time R rs v.number (version_has v R h) f, foreign_user R rs v.number (version_has v R h) f)))
 
 shown_found : (R : List Row) (b : Book) → Shown R b → (more : List Sight) × (sights (fall b).rows (versions (fall b).rows) ≡ sights R (versions R) ++ more)
 unfolding fall
@@ -197,33 +219,33 @@ opened_shown b = record {
   strangers = λ n q. absurd (false≢true q);
 }
 
-module _ {l d : ℕ} {es fs : List Event} {c c' : List ℕ} (x : Openings l d es c fs c') where
+module _ {l d a : ℕ} {es fs : List Event} {c c' : List ℕ} (x : Openings l d a es c fs c') where
   pub halves : (es ++ (opening c ∷ [])) ++ fs ≡ es ++ (opening c ∷ fs)
   halves = append_assoc es (opening c ∷ []) fs
 
-  pub before : Run l d (es ++ (opening c ∷ fs))
+  pub before : Run l d a (es ++ (opening c ∷ fs))
   before = front_run (es ++ (opening c ∷ fs)) (opening c' ∷ []) x.run
 
-  pub parted : Run l d ((es ++ (opening c ∷ [])) ++ fs)
-  parted = subst (Run l d) (sym halves) before
+  pub parted : Run l d a ((es ++ (opening c ∷ [])) ++ fs)
+  parted = subst (Run l d a) (sym halves) before
 
-  pub book_first : book_at l d (es ++ (opening c ∷ [])) ≡ fall (book_at l d es)
-  book_first = book_next l d es (opening c) ∙ opened_book (book_at l d es) c (seen_at l d es (opening c)) x.first
+  pub book_first : book_at l d a (es ++ (opening c ∷ [])) ≡ fall (book_at l d a es)
+  book_first = book_next l d a es (opening c) ∙ opened_book (book_at l d a es) c (seen_at l d a es (opening c)) x.first
 
-  found_first : (seen_at l d es (opening c)).found ≡ sights (rows_found l d es) (versions (rows_found l d es))
+  found_first : (seen_at l d a es (opening c)).found ≡ sights (rows_found l d a es) (versions (rows_found l d a es))
   found_first = (next_fits es (opening c) (front_run (es ++ (opening c ∷ [])) fs parted)).finds x.first
 
-  pub found_second : (seen_at l d (es ++ (opening c ∷ fs)) (opening c')).found ≡ sights (rows_found l d (es ++ (opening c ∷ fs))) (versions (rows_found l d (es ++ (opening c ∷ fs))))
+  pub found_second : (seen_at l d a (es ++ (opening c ∷ fs)) (opening c')).found ≡ sights (rows_found l d a (es ++ (opening c ∷ fs))) (versions (rows_found l d a (es ++ (opening c ∷ fs))))
   found_second = (next_fits (es ++ (opening c ∷ fs)) (opening c') x.run).finds x.second
 
-  shown_then : Shown (rows_found l d es) (book_at l d (es ++ (opening c ∷ fs)))
+  shown_then : Shown (rows_found l d a es) (book_at l d a (es ++ (opening c ∷ fs)))
   shown_then =
-      subst (λ (gs : List Event). Shown (rows_found l d es) (book_at l d gs)) halves
-      (since (es ++ (opening c ∷ [])) fs parted (λ e o. false) (λ b hs. Shown (rows_found l d es) b) (λ b b' hs rs e o z. shown_turn (rows_found l d es) b b' hs rs e o)
-      (never fs (trace_at l d (es ++ (opening c ∷ [])) fs)) (subst (Shown (rows_found l d es)) (sym book_first) (opened_shown (book_at l d es))))
+      subst (λ (gs : List Event). Shown (rows_found l d a es) (book_at l d a gs)) halves
+      (since (es ++ (opening c ∷ [])) fs parted (λ e o. false) (λ b hs. Shown (rows_found l d a es) b) (λ b b' hs rs e o z. shown_turn (rows_found l d a es) b b' hs rs e o)
+      (never fs (trace_at l d a (es ++ (opening c ∷ [])) fs)) (subst (Shown (rows_found l d a es)) (sym book_first) (opened_shown (book_at l d a es))))
 
 pub kept : Kept
 unfolding Kept
-kept l d es fs c c' x =
-    let (more, e) = shown_found (rows_found l d es) (book_at l d (es ++ (opening c ∷ fs))) (shown_then x) in
+kept l d a es fs c c' x =
+    let (more, e) = shown_found (rows_found l d a es) (book_at l d a (es ++ (opening c ∷ fs))) (shown_then x) in
     (more, found_second x ∙ e ∙ ap (λ (xs : List Sight). xs ++ more) (sym (found_first x)))

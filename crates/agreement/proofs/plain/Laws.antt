@@ -10,7 +10,7 @@ use mathlib.Core.Path.{◌≡◌, refl, sym, ap, ◌∙◌}
 use lib.Dec.{eqb}
 use lib.ListN.{length, take}
 use borrow.Author.Tests.{eqb-true, eq-eqb, ne_eqb}
-use Rattle.runs.specs.Book.{Version, Row, version, committed, Opened, versions, time_of, has_row, is_open, close}
+use Rattle.runs.specs.Book.{Version, Row, version, committed, Opened, versions, time_of, user_of, has_row, is_open, close}
 use Rattle.runs.specs.Moments.{Among, Transaction, transactions}
 
 -- ---- lists
@@ -64,13 +64,13 @@ pub versions_append : (rs ss : List Row) → versions (rs ++ ss) ≡ versions rs
 unfolding versions
 versions_append [] ss = refl
 versions_append (version v ∷ rs) ss = ap (λ (vs : List Version). v ∷ vs) (versions_append rs ss)
-versions_append (committed n t ∷ rs) ss = versions_append rs ss
+versions_append (committed n t u ∷ rs) ss = versions_append rs ss
 
 pub transactions_append : (rs ss : List Row) → transactions (rs ++ ss) ≡ transactions rs ++ transactions ss
 unfolding transactions
 transactions_append [] ss = refl
 transactions_append (version v ∷ rs) ss = transactions_append rs ss
-transactions_append (committed n t ∷ rs) ss = ap (λ (xs : List Transaction). record { number = n; time = t } ∷ xs) (transactions_append rs ss)
+transactions_append (committed n t u ∷ rs) ss = ap (λ (xs : List Transaction). record { number = n; time = t; user = u } ∷ xs) (transactions_append rs ss)
 
 -- a beginning of the rows has a beginning of the transactions
 pub transactions_take : (i : ℕ) (rs : List Row) → (j : ℕ) × (transactions (take i rs) ≡ take j (transactions rs))
@@ -78,49 +78,50 @@ unfolding transactions
 transactions_take zero rs = (0, refl)
 transactions_take (suc i) [] = (0, refl)
 transactions_take (suc i) (version v ∷ rs) = transactions_take i rs
-transactions_take (suc i) (committed n t ∷ rs) =
+transactions_take (suc i) (committed n t u ∷ rs) =
     let (j, e) = transactions_take i rs in
-    (suc j, ap (λ (xs : List Transaction). record { number = n; time = t } ∷ xs) e)
+    (suc j, ap (λ (xs : List Transaction). record { number = n; time = t; user = u } ∷ xs) e)
 
 pub version_among : (v : Version) (rs : List Row) → Among v (versions rs) → Among (version v) rs
 unfolding versions
 version_among v [] h = absurd h
 version_among v (version w ∷ rs) (inl e) = inl (ap version e)
 version_among v (version w ∷ rs) (inr h) = inr (version_among v rs h)
-version_among v (committed n t ∷ rs) h = inr (version_among v rs h)
+version_among v (committed n t u ∷ rs) h = inr (version_among v rs h)
 
 pub among_version : (v : Version) (rs : List Row) → Among (version v) rs → Among v (versions rs)
 unfolding versions
 among_version v [] h = absurd h
 among_version v (version w ∷ rs) (inl e) = inl cc
 among_version v (version w ∷ rs) (inr h) = inr (among_version v rs h)
-among_version v (committed n t ∷ rs) (inl e) = let z : ◌≡◌ {A = ℕ} 0 1 = cc in absurd (omega arith)
-among_version v (committed n t ∷ rs) (inr h) = among_version v rs h
+among_version v (committed n t u ∷ rs) (inl e) = let z : ◌≡◌ {A = ℕ} 0 1 = cc in absurd (omega arith)
+among_version v (committed n t u ∷ rs) (inr h) = among_version v rs h
 
-pub row_transaction : (n t : ℕ) (rs : List Row) → Among (committed n t) rs → Among (record { number = n; time = t }) (transactions rs)
+pub row_transaction : (n t x : ℕ) (rs : List Row) → Among (committed n t x) rs → Among (record { number = n; time = t; user = x }) (transactions rs)
 unfolding transactions
-row_transaction n t [] h = absurd h
-row_transaction n t (version v ∷ rs) (inl e) = let z : ◌≡◌ {A = ℕ} 0 1 = cc in absurd (omega arith)
-row_transaction n t (version v ∷ rs) (inr h) = row_transaction n t rs h
-row_transaction n t (committed k u ∷ rs) (inl e) = inl cc
-row_transaction n t (committed k u ∷ rs) (inr h) = inr (row_transaction n t rs h)
+row_transaction n t x [] h = absurd h
+row_transaction n t x (version v ∷ rs) (inl e) = let z : ◌≡◌ {A = ℕ} 0 1 = cc in absurd (omega arith)
+row_transaction n t x (version v ∷ rs) (inr h) = row_transaction n t x rs h
+row_transaction n t x (committed k u w ∷ rs) (inl e) = inl cc
+row_transaction n t x (committed k u w ∷ rs) (inr h) = inr (row_transaction n t x rs h)
 
-pub transaction_row : (x : Transaction) (rs : List Row) → Among x (transactions rs) → Among (committed x.number x.time) rs
+pub transaction_row : (x : Transaction) (rs : List Row) → Among x (transactions rs) → Among (committed x.number x.time x.user) rs
 unfolding transactions
 transaction_row x [] h = absurd h
 transaction_row x (version v ∷ rs) h = inr (transaction_row x rs h)
-transaction_row x (committed k u ∷ rs) (inl e) = inl cc
-transaction_row x (committed k u ∷ rs) (inr h) = inr (transaction_row x rs h)
+transaction_row x (committed k u w ∷ rs) (inl e) = inl cc
+transaction_row x (committed k u w ∷ rs) (inr h) = inr (transaction_row x rs h)
 
 -- ---- the time of a number
 
-pub time_among : (rs : List Row) (n t : ℕ) → time_of rs n ≡ some t → Among (committed n t) rs
-unfolding time_of
+pub time_among : (rs : List Row) (n t : ℕ) → time_of rs n ≡ some t → Among (committed n t (user_of rs n)) rs
+unfolding time_of user_of
 time_among [] n t e = absurd (none_some e)
 time_among (version v ∷ rs) n t e = inr (time_among rs n t e)
-time_among (committed k u ∷ rs) n t e = go (eqb k n) refl e (time_among rs n t)
+time_among (committed k u w ∷ rs) n t e = go (eqb k n) refl e (time_among rs n t)
   where
-    go : (b : Bool) → eqb k n ≡ b → cond b (some u) (time_of rs n) ≡ some t → (time_of rs n ≡ some t → Among (committed n t) rs) → Among (committed n t) (committed k u ∷ rs)
+    go : (b : Bool) → eqb k n ≡ b → cond b (some u) (time_of rs n) ≡ some t → (time_of rs n ≡ some t → Among (committed n t (user_of rs n)) rs)
+        → Among (committed n t (cond b w (user_of rs n))) (committed k u w ∷ rs)
     go true q e ih = let z : k ≡ n = eqb-true k n q in inl cc
     go false q e ih = inr (ih e)
 
@@ -128,17 +129,39 @@ pub time_front : (rs ss : List Row) (n t : ℕ) → time_of rs n ≡ some t → 
 unfolding time_of
 time_front [] ss n t e = absurd (none_some e)
 time_front (version v ∷ rs) ss n t e = time_front rs ss n t e
-time_front (committed k u ∷ rs) ss n t e = go (eqb k n) e (time_front rs ss n t)
+time_front (committed k u w ∷ rs) ss n t e = go (eqb k n) e (time_front rs ss n t)
   where
     go : (b : Bool) → cond b (some u) (time_of rs n) ≡ some t → (time_of rs n ≡ some t → time_of (rs ++ ss) n ≡ some t) → cond b (some u) (time_of (rs ++ ss) n) ≡ some t
     go true e ih = e
+    go false e ih = ih e
+
+-- the user of a number is that of its time
+pub user_front : (rs ss : List Row) (n t : ℕ) → time_of rs n ≡ some t → user_of (rs ++ ss) n ≡ user_of rs n
+unfolding time_of user_of
+user_front [] ss n t e = absurd (none_some e)
+user_front (version v ∷ rs) ss n t e = user_front rs ss n t e
+user_front (committed k u w ∷ rs) ss n t e = go (eqb k n) e (user_front rs ss n t)
+  where
+    go : (b : Bool) → cond b (some u) (time_of rs n) ≡ some t → (time_of rs n ≡ some t → user_of (rs ++ ss) n ≡ user_of rs n) → cond b w (user_of (rs ++ ss) n) ≡ cond b w (user_of rs n)
+    go true e ih = refl
+    go false e ih = ih e
+
+-- a number without a commit has none
+pub user_untimed : (rs : List Row) (n : ℕ) → time_of rs n ≡ none → user_of rs n ≡ 0
+unfolding time_of user_of
+user_untimed [] n e = refl
+user_untimed (version v ∷ rs) n e = user_untimed rs n e
+user_untimed (committed k u w ∷ rs) n e = go (eqb k n) e (user_untimed rs n)
+  where
+    go : (b : Bool) → cond b (some u) (time_of rs n) ≡ none → (time_of rs n ≡ none → user_of rs n ≡ 0) → cond b w (user_of rs n) ≡ 0
+    go true e ih = absurd (none_some (sym e))
     go false e ih = ih e
 
 pub time_none : (rs ss : List Row) (n : ℕ) → time_of rs n ≡ none → time_of (rs ++ ss) n ≡ time_of ss n
 unfolding time_of
 time_none [] ss n e = refl
 time_none (version v ∷ rs) ss n e = time_none rs ss n e
-time_none (committed k u ∷ rs) ss n e = go (eqb k n) e (time_none rs ss n)
+time_none (committed k u w ∷ rs) ss n e = go (eqb k n) e (time_none rs ss n)
   where
     go : (b : Bool) → cond b (some u) (time_of rs n) ≡ none → (time_of rs n ≡ none → time_of (rs ++ ss) n ≡ time_of ss n) → cond b (some u) (time_of (rs ++ ss) n) ≡ time_of ss n
     go true e ih = absurd (none_some (sym e))
@@ -157,36 +180,36 @@ unfolding time_of
 none_take zero rs n e = refl
 none_take (suc i) [] n e = refl
 none_take (suc i) (version v ∷ rs) n e = none_take i rs n e
-none_take (suc i) (committed k u ∷ rs) n e = go (eqb k n) e (none_take i rs n)
+none_take (suc i) (committed k u w ∷ rs) n e = go (eqb k n) e (none_take i rs n)
   where
     go : (b : Bool) → cond b (some u) (time_of rs n) ≡ none → (time_of rs n ≡ none → time_of (take i rs) n ≡ none) → cond b (some u) (time_of (take i rs) n) ≡ none
     go true e ih = absurd (none_some (sym e))
     go false e ih = ih e
 
-pub none_among : (rs : List Row) (n t : ℕ) → time_of rs n ≡ none → Among (committed n t) rs → ⊥
+pub none_among : (rs : List Row) (n t x : ℕ) → time_of rs n ≡ none → Among (committed n t x) rs → ⊥
 unfolding time_of
-none_among [] n t e h = h
-none_among (version v ∷ rs) n t e (inl q) = let z : ◌≡◌ {A = ℕ} 0 1 = cc in omega arith
-none_among (version v ∷ rs) n t e (inr h) = none_among rs n t e h
-none_among (committed k u ∷ rs) n t e (inl q) = let z : n ≡ k = cc in none_some (sym (rw (eq-eqb k n (sym z)) at e))
-none_among (committed k u ∷ rs) n t e (inr h) = go (eqb k n) e (λ q. none_among rs n t q h)
+none_among [] n t x e h = h
+none_among (version v ∷ rs) n t x e (inl q) = let z : ◌≡◌ {A = ℕ} 0 1 = cc in omega arith
+none_among (version v ∷ rs) n t x e (inr h) = none_among rs n t x e h
+none_among (committed k u w ∷ rs) n t x e (inl q) = let z : n ≡ k = cc in none_some (sym (rw (eq-eqb k n (sym z)) at e))
+none_among (committed k u w ∷ rs) n t x e (inr h) = go (eqb k n) e (λ q. none_among rs n t x q h)
   where
     go : (b : Bool) → cond b (some u) (time_of rs n) ≡ none → (time_of rs n ≡ none → ⊥) → ⊥
     go true e ih = none_some (sym e)
     go false e ih = ih e
 
 -- one row more
-pub time_other : (rs : List Row) (n t k : ℕ) → k ≢ n → time_of (rs ++ (committed n t ∷ [])) k ≡ time_of rs k
+pub time_other : (rs : List Row) (n t x k : ℕ) → k ≢ n → time_of (rs ++ (committed n t x ∷ [])) k ≡ time_of rs k
 unfolding time_of
-time_other [] n t k h = rw (ne_eqb n k (λ e. h (sym e)))
-time_other (version v ∷ rs) n t k h = time_other rs n t k h
-time_other (committed m u ∷ rs) n t k h = ap (λ (x : Option ℕ). cond (eqb m k) (some u) x) (time_other rs n t k h)
+time_other [] n t x k h = rw (ne_eqb n k (λ e. h (sym e)))
+time_other (version v ∷ rs) n t x k h = time_other rs n t x k h
+time_other (committed m u w ∷ rs) n t x k h = ap (λ (y : Option ℕ). cond (eqb m k) (some u) y) (time_other rs n t x k h)
 
 pub time_version : (rs : List Row) (v : Version) (k : ℕ) → time_of (rs ++ (version v ∷ [])) k ≡ time_of rs k
 unfolding time_of
 time_version [] v k = refl
 time_version (version w ∷ rs) v k = time_version rs v k
-time_version (committed m u ∷ rs) v k = ap (λ (x : Option ℕ). cond (eqb m k) (some u) x) (time_version rs v k)
+time_version (committed m u w ∷ rs) v k = ap (λ (x : Option ℕ). cond (eqb m k) (some u) x) (time_version rs v k)
 
 -- ---- rows of a number
 
@@ -195,14 +218,14 @@ unfolding has_row
 rowless_left [] ss n e = refl
 rowless_left (version v ∷ rs) ss n e =
     let q = neither_true (eqb v.number n) (has_row (rs ++ ss) n) e in rw q.0 (rowless_left rs ss n q.1)
-rowless_left (committed k t ∷ rs) ss n e =
+rowless_left (committed k t u ∷ rs) ss n e =
     let q = neither_true (eqb k n) (has_row (rs ++ ss) n) e in rw q.0 (rowless_left rs ss n q.1)
 
 pub rowless_none : (rs : List Row) (n : ℕ) → has_row rs n ≡ false → time_of rs n ≡ none
 unfolding has_row time_of
 rowless_none [] n e = refl
 rowless_none (version v ∷ rs) n e = rowless_none rs n (neither_true (eqb v.number n) (has_row rs n) e).1
-rowless_none (committed k t ∷ rs) n e =
+rowless_none (committed k t u ∷ rs) n e =
     let q = neither_true (eqb k n) (has_row rs n) e in rw q.0 (rowless_none rs n q.1)
 
 pub version_has : (v : Version) (rs : List Row) → Among v (versions rs) → has_row rs v.number ≡ true
@@ -210,7 +233,7 @@ unfolding has_row versions
 version_has v [] h = absurd h
 version_has v (version w ∷ rs) (inl e) = rw (eq-eqb w.number v.number (ap (λ (x : Version). x.number) (sym e)))
 version_has v (version w ∷ rs) (inr h) = rw (version_has v rs h) (or-true (eqb w.number v.number))
-version_has v (committed n t ∷ rs) h = rw (version_has v rs h) (or-true (eqb n v.number))
+version_has v (committed n t u ∷ rs) h = rw (version_has v rs h) (or-true (eqb n v.number))
 
 -- ---- open numbers
 

@@ -11,7 +11,7 @@ use lib.Dec.{eqb, leb, ltb}
 use borrow.Author.Tests.{eqb-true, ltb-true, ltb-false}
 use Rattle.fields.proofs.Choose.{and_0, and_1}
 use Rattle.runs.specs.Event.{Event, call, current_read, as_of, changes, Strip, missing, Observation}
-use Rattle.runs.specs.Book.{Version, Row, version, committed, Book, blank, versions, time_of, add, fall, strip_of, is_some, current_of, Dated, later_of, dated_of, best_below, last_below, strip_at, strip_as_of, differs, lines_at, lines_below, lines_of, Fits}
+use Rattle.runs.specs.Book.{Version, Row, version, committed, Book, blank, versions, time_of, user_of, add, fall, strip_of, is_some, current_of, Dated, later_of, dated_of, best_below, last_below, strip_at, strip_as_of, differs, lines_at, lines_below, lines_of, Fits}
 use Rattle.runs.specs.Machine.{formatted}
 use Rattle.runs.specs.Moments.{Run, world_after, book_at, seen_at, trace_at, Among, rows_seen}
 use Rattle.runs.specs.Plain.{Written, Committed, CleanAsOf, CleanLists, CleanCurrent}
@@ -32,31 +32,32 @@ seen_turn b b' hs rs e o (adds v ch w) p r a = go (among_either r b.rows (versio
     go : Among r b.rows ⊎ Among r (version v ∷ []) → Among r (hs ++ (version v ∷ []))
     go (inl h) = among_left r hs (version v ∷ []) (p r h)
     go (inr h) = among_right r hs (version v ∷ []) h
-seen_turn b b' hs rs e o (ends n t ch x y z) p r a = go (among_either r b.rows (committed n t ∷ []) a)
+seen_turn b b' hs rs e o (ends n t u ch x y z) p r a = go (among_either r b.rows (committed n t u ∷ []) a)
   where
-    go : Among r b.rows ⊎ Among r (committed n t ∷ []) → Among r (hs ++ (committed n t ∷ []))
-    go (inl h) = among_left r hs (committed n t ∷ []) (p r h)
-    go (inr h) = among_right r hs (committed n t ∷ []) h
+    go : Among r b.rows ⊎ Among r (committed n t u ∷ []) → Among r (hs ++ (committed n t u ∷ []))
+    go (inl h) = among_left r hs (committed n t u ∷ []) (p r h)
+    go (inr h) = among_right r hs (committed n t u ∷ []) h
 seen_turn b b' hs rs e o (closes n) p r a = among_left r hs [] (p r a)
 seen_turn b b' hs rs e o stores p r a = among_left r hs [] (p r a)
 
-module _ {l d : ℕ} {es : List Event} (r : Run l d es) where
-  pub rows_seen_law : (x : Row) → Among x (book_at l d es).rows → Among x (rows_seen es (trace_at l d [] es))
+module _ {l d a : ℕ} {es : List Event} (r : Run l d a es) where
+  pub rows_seen_law : (x : Row) → Among x (book_at l d a es).rows → Among x (rows_seen a es (trace_at l d a [] es))
   unfolding blank
   rows_seen_law = always r (λ b hs. (x : Row) → Among x b.rows → Among x hs) seen_turn (λ x a. a)
 
-  written_by : (v : Version) (key kind : ℕ) (value : List ℕ) → v.key ≡ key → v.kind ≡ kind → v.value ≡ value → Among v (versions (book_at l d es).rows)
-      → Written l d es (record { number = v.number; key = key; kind = kind; value = value })
-  written_by v key kind value e f g a =
-      let h : Among (version v) (book_at l d es).rows = version_among v (book_at l d es).rows a in
+  written_by : (v : Version) (key kind : ℕ) (value : List ℕ) → v.key ≡ key → v.kind ≡ kind → v.value ≡ value → Among v (versions (book_at l d a es).rows)
+      → Written l d a es (record { number = v.number; key = key; kind = kind; value = value })
+  written_by v key kind value e f g w =
+      let h : Among (version v) (book_at l d a es).rows = version_among v (book_at l d a es).rows w in
       let q : v ≡ record { number = v.number; key = key; kind = kind; value = value } = rw (← e, ← f, ← g) in
-      subst (Written l d es) q (record { row = h; seen = rows_seen_law (version v) h })
+      subst (Written l d a es) q (record { row = h; seen = rows_seen_law (version v) h })
 
-  committed_by : (v : Version) (key kind : ℕ) (value : List ℕ) (t : ℕ) → v.key ≡ key → v.kind ≡ kind → v.value ≡ value → Among v (versions (book_at l d es).rows)
-      → time_of (book_at l d es).rows v.number ≡ some t → Committed l d es key kind value t
-  committed_by v key kind value t e f g a z =
-      let h : Among (committed v.number t) (book_at l d es).rows = time_among (book_at l d es).rows v.number t z in
-      record { number = v.number; written = written_by v key kind value e f g a; row = h; seen = rows_seen_law (committed v.number t) h }
+  committed_by : (v : Version) (key kind : ℕ) (value : List ℕ) (t : ℕ) → v.key ≡ key → v.kind ≡ kind → v.value ≡ value → Among v (versions (book_at l d a es).rows)
+      → time_of (book_at l d a es).rows v.number ≡ some t → Committed l d a es key kind value t
+  committed_by v key kind value t e f g w z =
+      let x : ℕ = user_of (book_at l d a es).rows v.number in
+      let h : Among (committed v.number t x) (book_at l d a es).rows = time_among (book_at l d a es).rows v.number t z in
+      record { number = v.number; written = written_by v key kind value e f g w; user = x; row = h; seen = rows_seen_law (committed v.number t x) h }
 
 -- ---- the book's steps
 
@@ -202,27 +203,27 @@ current_from rs n key (v ∷ vs) before = go (eqb v.key key && (eqb v.number n |
 -- ---- what reads and lists give
 
 -- the event that comes next agrees with the book
-pub next_fits : {l d : ℕ} (es : List Event) (e : Event) → Run l d (es ++ (e ∷ [])) → Fits d (book_at l d es) e (seen_at l d es e)
-next_fits {l} {d} es e r = (after_one l d e [] (world_after l d (formatted l d) es) (book_at l d es) (held es e r) (comes es e r)).0
+pub next_fits : {l d a : ℕ} (es : List Event) (e : Event) → Run l d a (es ++ (e ∷ [])) → Fits d (book_at l d a es) e (seen_at l d a es e)
+next_fits {l} {d} {a} es e r = (after_one l d a e [] (world_after l d a (formatted l d a) es) (book_at l d a es) (held es e r) (comes es e r)).0
 
 pub clean_as_of : CleanAsOf
 unfolding CleanAsOf strip_as_of
-clean_as_of l d es key t r a = go (last_below (book_at l d es).rows key (suc t)) refl (next_fits es (call (as_of key t)) r a)
+clean_as_of l d a es key t r z = go (last_below (book_at l d a es).rows key (suc t)) refl (next_fits es (call (as_of key t)) r z)
   where
-    go : (z : Option Dated) → last_below (book_at l d es).rows key (suc t) ≡ z → (seen_at l d es (call (as_of key t))).strip ≡ strip_at z
-        → ((seen_at l d es (call (as_of key t))).strip ≡ missing)
-        ⊎ ((kind : ℕ) × (value : List ℕ) × (u : ℕ) × (u ≤ t) × ((seen_at l d es (call (as_of key t))).strip ≡ strip_of kind value) × Committed l d es key kind value u)
+    go : (z : Option Dated) → last_below (book_at l d a es).rows key (suc t) ≡ z → (seen_at l d a es (call (as_of key t))).strip ≡ strip_at z
+        → ((seen_at l d a es (call (as_of key t))).strip ≡ missing)
+        ⊎ ((kind : ℕ) × (value : List ℕ) × (u : ℕ) × (u ≤ t) × ((seen_at l d a es (call (as_of key t))).strip ≡ strip_of kind value) × Committed l d a es key kind value u)
     go none e s = inl s
     go (some x) e s =
-        let f = last_from (book_at l d es).rows key (suc t) x e in
+        let f = last_from (book_at l d a es).rows key (suc t) x e in
         inr (x.kind, x.value, x.time, omega (arith, f.below), s, committed_by (front_run es (call (as_of key t) ∷ []) r) f.which key x.kind x.value x.time f.keyed f.kinded f.valued f.among f.timed)
 
 pub clean_lists : CleanLists
 unfolding CleanLists lines_of
-clean_lists l d es key t1 t2 buffer r a =
-    let rs : List Row = (book_at l d es).rows in (
+clean_lists l d a es key t1 t2 buffer r z =
+    let rs : List Row = (book_at l d a es).rows in (
       lines_below rs key t1 (suc (suc t2)) (suc t2),
-      next_fits es (call (changes key t1 t2 buffer)) r a,
+      next_fits es (call (changes key t1 t2 buffer)) r z,
       λ x h.
           let (low, f) = lines_from rs key t1 (suc (suc t2)) (suc t2) x h in
           (low, omega (arith, f.below), committed_by (front_run es (call (changes key t1 t2 buffer) ∷ []) r) f.which key x.kind x.value x.time f.keyed f.kinded f.valued f.among f.timed),
@@ -230,27 +231,27 @@ clean_lists l d es key t1 t2 buffer r a =
 
 pub clean_current : CleanCurrent
 unfolding CleanCurrent
-clean_current l d es n key r a = go (current_from (book_at l d es).rows n key (versions (book_at l d es).rows) missing)
+clean_current l d a es n key r z = go (current_from (book_at l d a es).rows n key (versions (book_at l d a es).rows) missing)
   where
     rs : List Row
-    rs = (book_at l d es).rows
+    rs = (book_at l d a es).rows
 
     s : Strip
-    s = (seen_at l d es (call (current_read n key))).strip
+    s = (seen_at l d a es (call (current_read n key))).strip
 
     given : s ≡ current_of rs n key missing (versions rs)
-    given = next_fits es (call (current_read n key)) r a
+    given = next_fits es (call (current_read n key)) r z
 
-    run : Run l d es
+    run : Run l d a es
     run = front_run es (call (current_read n key) ∷ []) r
 
     whose' : (v : Version) → Among v (versions rs) → v.key ≡ key → (v.number ≡ n) ⊎ ((t : ℕ) × (time_of rs v.number ≡ some t))
-        → Written l d es (record { number = n; key = key; kind = v.kind; value = v.value }) ⊎ ((u : ℕ) × Committed l d es key v.kind v.value u)
+        → Written l d a es (record { number = n; key = key; kind = v.kind; value = v.value }) ⊎ ((u : ℕ) × Committed l d a es key v.kind v.value u)
     whose' v h e (inl q) = inl (rw q at (written_by run v key v.kind v.value e refl refl h))
     whose' v h e (inr (t, q)) = inr (t, committed_by run v key v.kind v.value t e refl refl h q)
 
     go : (current_of rs n key missing (versions rs) ≡ missing) ⊎ Mine rs n key (versions rs) (current_of rs n key missing (versions rs))
         → (s ≡ missing) ⊎ ((kind : ℕ) × (value : List ℕ) × (s ≡ strip_of kind value)
-        × (Written l d es (record { number = n; key = key; kind = kind; value = value }) ⊎ ((u : ℕ) × Committed l d es key kind value u)))
+        × (Written l d a es (record { number = n; key = key; kind = kind; value = value }) ⊎ ((u : ℕ) × Committed l d a es key kind value u)))
     go (inl e) = inl (given ∙ e)
     go (inr m) = inr (m.which.kind, m.which.value, given ∙ m.strip, whose' m.which m.among m.keyed m.whose)

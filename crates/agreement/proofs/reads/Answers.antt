@@ -27,7 +27,7 @@ use Rattle.agreement.proofs.reads.CurrentRead.{current_found, current_strip}
 use Rattle.agreement.proofs.reads.AsOf.{best_found, best_strip}
 use Rattle.agreement.proofs.reads.Changes.{alike_length, alike_laid, lines_are}
 
-module _ {l d : ℕ} {m c : List ℕ} {s : State} {b : Book} {disk : Disk} {closed : List (List Record)} {tail : List Record} (u : Up l d m c s b disk closed tail) where
+module _ {l d a : ℕ} {m c : List ℕ} {s : State} {b : Book} {disk : Disk} {closed : List (List Record)} {tail : List Record} (u : Up l d a m c s b disk closed tail) where
   pub current_answers : (n key : ℕ) → answer_number (current_of s m c n key).answer ≡ 0
       → strip_of (current_of s m c n key).answer (current_of s m c n key).value ≡ rows_current b.rows n key missing (versions b.rows)
   unfolding current_of current_if answer_number

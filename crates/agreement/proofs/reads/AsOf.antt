@@ -121,7 +121,7 @@ unfolding best_of
 best_reached c pair t (At j) a r = r (suc j) (omega arith)
 best_reached c pair t Nothing a r = r
 
-module _ {l d : ℕ} {m c : List ℕ} {s : State} {b : Book} {disk : Disk} {closed : List (List Record)} {tail : List Record} (u : Up l d m c s b disk closed tail) where
+module _ {l d a : ℕ} {m c : List ℕ} {s : State} {b : Book} {disk : Disk} {closed : List (List Record)} {tail : List Record} (u : Up l d a m c s b disk closed tail) where
   counting_is : (t j : ℕ) (rest : Best) → j < length (versions_of (closed ++ (tail ∷ [])))
       → counting c (time_under s.places) t j rest
       ≡ better_of (timing (find (commits_of (closed ++ (tail ∷ []))) (at (versions_of (closed ++ (tail ∷ []))) j).num).time) j t rest

@@ -83,7 +83,7 @@ same_is [] (y ∷ ys) = refl
 same_is (x ∷ xs) [] = refl
 same_is (x ∷ xs) (y ∷ ys) = ap (λ (t : Bool). eqb x y && t) (same_is xs ys)
 
-module _ {l d : ℕ} {m c : List ℕ} {s : State} {b : Book} {disk : Disk} {closed : List (List Record)} {tail : List Record} (u : Up l d m c s b disk closed tail) where
+module _ {l d a : ℕ} {m c : List ℕ} {s : State} {b : Book} {disk : Disk} {closed : List (List Record)} {tail : List Record} (u : Up l d a m c s b disk closed tail) where
   differs_is : (n t : ℕ) → n < length (versions_of (closed ++ (tail ∷ []))) → (x : Best) (y : Option Dated) → Agree (versions_of (closed ++ (tail ∷ []))) x y
       → differs_from c n x ≡ row_differs (record { time = t; kind = (at (versions_of (closed ++ (tail ∷ []))) n).kind; value = (at (versions_of (closed ++ (tail ∷ []))) n).value }) y
   unfolding differs

@@ -68,7 +68,7 @@ unfolding visible_of
 visible_reached c pair n (At j) a r = r (suc j) (omega arith)
 visible_reached c pair n Nothing a r = r
 
-module _ {l d : ℕ} {m c : List ℕ} {s : State} {b : Book} {disk : Disk} {closed : List (List Record)} {tail : List Record} (u : Up l d m c s b disk closed tail) where
+module _ {l d a : ℕ} {m c : List ℕ} {s : State} {b : Book} {disk : Disk} {closed : List (List Record)} {tail : List Record} (u : Up l d a m c s b disk closed tail) where
   visible_is : (n j : ℕ) → j < length (versions_of (closed ++ (tail ∷ [])))
       → visible (cell_at c j).state (time_under s.places) n
       ≡ (eqb (at (versions_of (closed ++ (tail ∷ []))) j).num n || is_some (time_of b.rows (at (versions_of (closed ++ (tail ∷ []))) j).num))

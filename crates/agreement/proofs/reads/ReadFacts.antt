@@ -9,7 +9,7 @@ use lib.Seq.{take-suc, take_all}
 use Rattle.layout.specs.Journal.{Record}
 use Rattle.layout.specs.Slot.{Cell}
 use Rattle.store.specs.declared.Refusal.{Refusal}
-use Rattle.store.specs.declared.Refusal.TheVariants.{BadSizes, BadCache, Malformed, NoPlace, NotActive, Held, NoSlot, LogFull, NoTime, NotYet, NoPage, NotLogged, Unchanged, ShortBuffer, NoNumber, Unfit, NoRecord}
+use Rattle.store.specs.declared.Refusal.TheVariants.{BadSizes, BadCache, Malformed, NoPlace, NotActive, Held, NoSlot, LogFull, NoTime, NotYet, NoPage, NotLogged, Unchanged, ShortBuffer, NoNumber, Unfit, NoRecord, AreaFull}
 use Rattle.store.specs.declared.State.{State}
 use Rattle.store.specs.Answer.{refusal_number}
 use Rattle.store.specs.Chain.{cell_at}
@@ -40,6 +40,7 @@ positive ShortBuffer = omega arith
 positive NoNumber = omega arith
 positive Unfit = omega arith
 positive NoRecord = omega arith
+positive AreaFull = omega arith
 
 -- ---- rows, one more
 
@@ -54,7 +55,7 @@ rows_for_step vs j h = ap rows_for (take-suc vs j no_version h) ∙ rows_for_app
 
 -- ---- of a running store
 
-module _ {l d : ℕ} {m c : List ℕ} {s : State} {b : Book} {disk : Disk} {closed : List (List Record)} {tail : List Record} (u : Up l d m c s b disk closed tail) where
+module _ {l d a : ℕ} {m c : List ℕ} {s : State} {b : Book} {disk : Disk} {closed : List (List Record)} {tail : List Record} (u : Up l d a m c s b disk closed tail) where
   pub all_rows : versions b.rows ≡ rows_for (take (length (versions_of (closed ++ (tail ∷ [])))) (versions_of (closed ++ (tail ∷ []))))
   all_rows =
       ap versions u.rows ∙ versions_are (records (closed ++ (tail ∷ [])))

@@ -4,7 +4,7 @@ use Prim.Native.Nat.{ℕ, zero, suc, ◌+◌, ◌<◌}
 use native.Mathlib.Numerals.{add-one}
 use native.Mathlib.Omega.{arith}
 use mathlib.Core.List.{List, [], ◌∷◌, ◌++◌}
-use mathlib.Core.Path.{◌≡◌, refl, sym, ap, ◌∙◌}
+use mathlib.Core.Path.{◌≡◌, refl, sym, ap, ◌∙◌, subst}
 use lib.ListN.{length, drop, drop_of_length-le}
 use lib.Seq.{drop-cons}
 use Rattle.layout.specs.Journal.{Record}
@@ -12,17 +12,20 @@ use Rattle.layout.specs.Slot.{Cell}
 use Rattle.store.specs.declared.State.{State}
 use Rattle.store.specs.declared.Timing.TheVariants.{Timed}
 use Rattle.store.specs.Places.{time_under}
+use Rattle.store.specs.Users.{user_of}
 use Rattle.store.specs.Chain.{cell_at, version_time}
 use Rattle.runs.specs.Book.{Book, versions, sight, sights, last_time}
 use Rattle.runs.specs.Event.{Sight}
-use Rattle.runs.specs.Machine.{sights_from, sight_at}
+use Rattle.runs.specs.Machine.{user_in, sights_from, sight_at}
 use Rattle.agreement.proofs.history.Ghost.{versions_of, commits_of, records, LoggedVersion, no_version, at, LoggedCommit, Match, still, marked, rows_in, find, timing, cell, Disk}
 use Rattle.agreement.proofs.invariant.Invariant.{Up}
 use Rattle.agreement.proofs.invariant.MediumFacts.{sound_at, cell_fields, cell_cached, find_stored, counted}
 use Rattle.agreement.proofs.invariant.PlaceFacts.{time_under_law}
-use Rattle.agreement.proofs.history.RowLaws.{row_for, rows_for, versions_are, time_row, last_row}
+use Rattle.agreement.proofs.history.RowLaws.{row_for, rows_for, versions_are, time_row, user_row, last_row}
+use Rattle.agreement.proofs.history.CommitLaws.{rising_above}
+use Rattle.agreement.proofs.reads.Users.{find_no_user, user_is}
 
-module _ {l d : ℕ} {m c : List ℕ} {s : State} {b : Book} {disk : Disk} {closed : List (List Record)} {tail : List Record} (u : Up l d m c s b disk closed tail) where
+module _ {l d a : ℕ} {m c : List ℕ} {s : State} {b : Book} {disk : Disk} {closed : List (List Record)} {tail : List Record} (u : Up l d a m c s b disk closed tail) where
   -- a version's time: its stamp is its number's commit's (match, find_stored), or its number is waited for
   -- (PlaceFacts.time_under_law)
   pub version_time_law : (n : ℕ) → n < length (versions_of (closed ++ (tail ∷ [])))
@@ -44,25 +47,33 @@ module _ {l d : ℕ} {m c : List ℕ} {s : State} {b : Book} {disk : Disk} {clos
       go x e (marked t z q) =
           timed t z ∙ ap timing (sym q ∙ sym (ap (λ (c : LoggedCommit). c.time) (find_stored u.medium (at (versions_of (closed ++ (tail ∷ []))) n).num (omega arith))))
 
+  -- the user of a number's commit, 0 where it has none
+  user_in_law : (n : ℕ) → user_in (user_of s m) (timing (find (commits_of (closed ++ (tail ∷ []))) n).time) ≡ (find (commits_of (closed ++ (tail ∷ []))) n).user
+  user_in_law n = go (find (commits_of (closed ++ (tail ∷ []))) n).time refl
+    where
+      go : (t : ℕ) → (find (commits_of (closed ++ (tail ∷ []))) n).time ≡ t → user_in (user_of s m) (timing t) ≡ (find (commits_of (closed ++ (tail ∷ []))) n).user
+      go zero e = sym (find_no_user n (commits_of (closed ++ (tail ∷ []))) (rising_above 0 (commits_of (closed ++ (tail ∷ []))) u.medium.numbers.rising) e)
+      go (suc t) e = subst (λ (x : ℕ). user_of s m x ≡ (find (commits_of (closed ++ (tail ∷ []))) n).user) e (user_is u n (omega arith))
+
   sight_is : (n : ℕ) → n < length (versions_of (closed ++ (tail ∷ [])))
-      → sight_at c s.places n ≡ sight (rows_in (records (closed ++ (tail ∷ [])))) (row_for (at (versions_of (closed ++ (tail ∷ []))) n))
+      → sight_at (user_of s m) c s.places n ≡ sight (rows_in (records (closed ++ (tail ∷ [])))) (row_for (at (versions_of (closed ++ (tail ∷ []))) n))
   unfolding sight_at sight
   sight_is n h =
       let q = cell_fields u.medium n h in
-      rw (version_time_law n h, time_row (records (closed ++ (tail ∷ []))) 0 u.medium.numbers.rising (at (versions_of (closed ++ (tail ∷ []))) n).num, cell_cached u.medium u.cache n h, q.1, q.2, q.4)
+      rw (version_time_law n h, time_row (records (closed ++ (tail ∷ []))) 0 u.medium.numbers.rising (at (versions_of (closed ++ (tail ∷ []))) n).num, user_row (records (closed ++ (tail ∷ []))) (at (versions_of (closed ++ (tail ∷ []))) n).num, user_in_law (at (versions_of (closed ++ (tail ∷ []))) n).num, cell_cached u.medium u.cache n h, q.1, q.2, q.4)
 
   up_to : (j n : ℕ) → n + j ≡ length (versions_of (closed ++ (tail ∷ [])))
-      → sights_from c s.places n j ≡ sights (rows_in (records (closed ++ (tail ∷ [])))) (rows_for (drop n (versions_of (closed ++ (tail ∷ [])))))
+      → sights_from (user_of s m) c s.places n j ≡ sights (rows_in (records (closed ++ (tail ∷ [])))) (rows_for (drop n (versions_of (closed ++ (tail ∷ [])))))
   unfolding sights_from sights rows_for
   up_to zero n e = rw (drop_of_length-le (versions_of (closed ++ (tail ∷ []))) {i = n} (omega arith))
   up_to (suc j) n e =
       rw (drop-cons (versions_of (closed ++ (tail ∷ []))) n no_version (omega arith), sight_is n (omega arith), add-one)
       (ap (λ (xs : List Sight). sight (rows_in (records (closed ++ (tail ∷ [])))) (row_for (at (versions_of (closed ++ (tail ∷ []))) n)) ∷ xs) (rw add-one at (up_to j (n + 1) (omega arith))))
 
-  pub sights_are : sights_from c s.places 0 s.slots ≡ sights b.rows (versions b.rows)
+  pub sights_are : sights_from (user_of s m) c s.places 0 s.slots ≡ sights b.rows (versions b.rows)
   sights_are =
-      rw (u.state.slots, u.rows, versions_are (records (closed ++ (tail ∷ []))))
-      (up_to (length (versions_of (closed ++ (tail ∷ [])))) 0 (omega arith))
+      ap (sights_from (user_of s m) c s.places 0) u.state.slots
+      ∙ rw (u.rows, versions_are (records (closed ++ (tail ∷ [])))) (up_to (length (versions_of (closed ++ (tail ∷ [])))) 0 (omega arith))
 
   pub last_is : s.last.0 ≡ last_time b.rows
   last_is = u.state.last ∙ sym (ap last_time u.rows ∙ last_row (records (closed ++ (tail ∷ []))) u.medium.numbers.rising)

@@ -1,4 +1,5 @@
--- Active places stay through stores and checkpoint calls: storing a page counts down committed places only, and frees no other.
+-- Active places stay through stores and checkpoint calls: storing a page counts down committed places only, storing user lines
+-- frees committed places only.
 use Prim.Native.Nat.{ℕ, zero, suc, ◌+◌, ◌<◌}
 use mathlib.Core.Path.{◌≡◌, refl, sym, ap, ◌∙◌, subst}
 use mathlib.Core.Bool.{Bool, true, false, false≢true}
@@ -9,6 +10,7 @@ use Rattle.layout.specs.declared.slot.Slot.{Slot}
 use Rattle.layout.specs.declared.slot.Slot.TheVariants.{Empty, Waiting, Stamped}
 use Rattle.store.specs.declared.Found.{Found}
 use Rattle.store.specs.declared.Found.TheVariants.{At, Nothing}
+use Rattle.store.specs.declared.Area.{Area}
 use Rattle.store.specs.declared.Life.{Life}
 use Rattle.store.specs.declared.Life.TheVariants.{Free, Active, Committed}
 use Rattle.store.specs.declared.Place.{Place}
@@ -17,7 +19,9 @@ use Rattle.store.specs.declared.Timing.{Timing}
 use Rattle.store.specs.declared.Timing.TheVariants.{Timed, Untimed}
 use Rattle.store.specs.Places.{place_at, active_as, committed_as, find_active, find_committed, lowered}
 use Rattle.store.specs.StorePage.{stamp_time, lower_at, settle_with, settle_from, stored_pair, settled}
+use Rattle.store.specs.Users.{relined_as, relined}
 use Rattle.store.proofs.SearchLaws.{first_found, first_same}
+use Rattle.store.proofs.UserLaws.{place_at_relined}
 use Rattle.agreement.proofs.invariant.PlaceSet.{place_at_other}
 use Rattle.agreement.proofs.stores.SettleLaws.{Kept, same, freed, AllKept}
 
@@ -43,42 +47,57 @@ not_both (Active m c) n k e f = false≢true f
 not_both (Committed m t z) n k e f = false≢true e
 
 -- a version that is stamped counts down a committed place
-module _ (old : List Place) (j n : ℕ) (h : active_as (place_at old j).life n ≡ true) where
-  lower_active : (x : ℕ) (f : Found) → find_committed old x ≡ f → (ps : List Place) → place_at (lower_at f ps) j ≡ place_at ps j
+module _ (area : Area) (old : List Place) (j n : ℕ) (h : active_as (place_at old j).life n ≡ true) where
+  lower_active : (x : ℕ) (f : Found) → find_committed old x ≡ f → (ps : List Place) → place_at (lower_at area f ps) j ≡ place_at ps j
   unfolding find_committed
   lower_active x Nothing e ps = refl
-  lower_active x (At i) e ps = place_at_other ps i j (lowered (place_at ps i)) (λ z.
+  lower_active x (At i) e ps = place_at_other ps i j (lowered area (place_at ps i)) (λ z.
       not_both (place_at old j).life n x h (subst (λ (a : ℕ). committed_as (place_at old a).life x ≡ true) (sym z) (first_found (λ a. committed_as (place_at old a).life x) 64 0 i e).2))
 
-  settle_active : (t : Timing) (slot : Slot) (ps : List Place) → place_at (settle_with t slot old ps) j ≡ place_at ps j
+  settle_active : (t : Timing) (slot : Slot) (ps : List Place) → place_at (settle_with area t slot old ps) j ≡ place_at ps j
   settle_active Untimed slot ps = refl
   settle_active (Timed t) Empty ps = refl
   settle_active (Timed t) (Waiting x) ps = lower_active x.0 (find_committed old x.0) refl ps
   settle_active (Timed t) (Stamped u) ps = refl
 
-  settles_active : (pair : ℕ → Timing) (page : List ℕ) (ps : List Place) (i k : ℕ) → place_at (settle_from pair old page ps i k) j ≡ place_at ps j
+  settles_active : (pair : ℕ → Timing) (page : List ℕ) (ps : List Place) (i k : ℕ) → place_at (settle_from area pair old page ps i k) j ≡ place_at ps j
   unfolding settle_from
   settles_active pair page ps i zero = refl
   settles_active pair page ps i (suc k) =
       let slot = slot_state (page_slot page i) in
-      settles_active pair page (settle_with (stamp_time pair slot) slot old ps) (i + 1) k ∙ settle_active (stamp_time pair slot) slot ps
+      settles_active pair page (settle_with area (stamp_time pair slot) slot old ps) (i + 1) k ∙ settle_active (stamp_time pair slot) slot ps
 
-pub alike_settled : (s t : State) (page : List ℕ) → t.next ≡ s.next → t.places ≡ settled s page → AllKept s.places (settled s page) → Alike s t
-unfolding settled find_active
-alike_settled s t page f e k = record {
+-- each place keeps its life or is free, and an active one stays
+pub alike_kept : (s t : State) → t.next ≡ s.next → AllKept s.places t.places
+    → ((j n : ℕ) → active_as (place_at s.places j).life n ≡ true → place_at t.places j ≡ place_at s.places j) → Alike s t
+unfolding find_active
+alike_kept s t f k stays = record {
   next = f;
   active = λ n. first_same (λ i. active_as (place_at t.places i).life n) (λ i. active_as (place_at s.places i).life n) 64 0
       (λ j h. go n j h (active_as (place_at s.places j).life n) refl);
   place = stays;
 }
   where
-    stays : (j n : ℕ) → active_as (place_at s.places j).life n ≡ true → place_at t.places j ≡ place_at s.places j
-    stays j n h = ap (λ (ps : List Place). place_at ps j) e ∙ settles_active s.places j n h (stored_pair s) page s.places 0 15
-
     by : (x y : Life) (n : ℕ) → Kept x y → active_as x n ≡ false → active_as y n ≡ false
     by x y n same h = h
     by x y n freed h = refl
 
     go : (n j : ℕ) → j < 64 → (a : Bool) → active_as (place_at s.places j).life n ≡ a → active_as (place_at t.places j).life n ≡ active_as (place_at s.places j).life n
     go n j h true a = ap (λ (p : Place). active_as p.life n) (stays j n a)
-    go n j h false a = by (place_at s.places j).life (place_at t.places j).life n (rw e (k j h)) a ∙ sym a
+    go n j h false a = by (place_at s.places j).life (place_at t.places j).life n (k j h) a ∙ sym a
+
+pub alike_settled : (s t : State) (page : List ℕ) → t.next ≡ s.next → t.places ≡ settled s page → AllKept s.places (settled s page) → Alike s t
+unfolding settled
+alike_settled s t page f e k =
+    alike_kept s t f (subst (AllKept s.places) (sym e) k)
+    (λ j n h. ap (λ (ps : List Place). place_at ps j) e ∙ settles_active s.area s.places j n h (stored_pair s) page s.places 0 15)
+
+relined_active : (area : Area) (x : Life) (p : Place) (n : ℕ) → active_as x n ≡ true → relined_as x area p ≡ p
+relined_active area Free p n h = absurd (false≢true h)
+relined_active area (Active a k) p n h = refl
+relined_active area (Committed a t e) p n h = absurd (false≢true h)
+
+pub alike_relined : (s t : State) (area : Area) → t.next ≡ s.next → t.places ≡ relined area s.places → AllKept s.places (relined area s.places) → Alike s t
+alike_relined s t area f e k =
+    alike_kept s t f (subst (AllKept s.places) (sym e) k)
+    (λ j n h. ap (λ (ps : List Place). place_at ps j) e ∙ place_at_relined area s.places j ∙ relined_active area (place_at s.places j).life (place_at s.places j) n h)

@@ -11,15 +11,15 @@ use lib.ListN.{length}
 use lib.Dec.{eqb, ltb}
 use Rattle.fields.proofs.CellLaws.{Each}
 use Rattle.layout.specs.Journal.{Record}
+use Rattle.layout.specs.Item.{user_bytes_of}
 use Rattle.layout.specs.Slot.{Cell, key_form}
 use Rattle.store.specs.declared.Answer.{Answer}
 use Rattle.store.specs.declared.Answer.TheVariants.{Refused, Done, Begun, Written, Committed, Opened, Missing, Erased, Present, Listed}
 use Rattle.store.specs.declared.Found.{Found}
 use Rattle.store.specs.declared.Found.TheVariants.{At, Nothing}
-use Rattle.store.specs.declared.Phase.TheVariants.{Idle, FirstStored, SecondStored}
 use Rattle.store.specs.declared.Place.{Place}
 use Rattle.store.specs.declared.Refusal.{Refusal}
-use Rattle.store.specs.declared.Refusal.TheVariants.{BadSizes, BadCache, Malformed, NoPlace, NotActive, Held, NoSlot, LogFull, NoTime, NotYet, NoPage, NotLogged, Unchanged, ShortBuffer, NoNumber, Unfit, NoRecord}
+use Rattle.store.specs.declared.Refusal.TheVariants.{BadSizes, BadCache, Malformed, NoPlace, NotActive, Held, NoSlot, LogFull, NoTime, NotYet, NoPage, NotLogged, Unchanged, ShortBuffer, NoNumber, Unfit, NoRecord, AreaFull}
 use Rattle.store.specs.declared.State.{State}
 use Rattle.store.specs.Answer.{Outcome, ask, answer_number, refusal_number}
 use Rattle.store.specs.Places.{is_at, find_active, place_at, active_as}
@@ -27,16 +27,16 @@ use Rattle.store.specs.Chain.{held, held_at, held_as}
 use Rattle.store.specs.State.{fits}
 use Rattle.store.specs.Tail.{may_log}
 use Rattle.store.specs.Write.{write_asks, write_step}
-use Rattle.store.specs.Commit.{commit_asks, commit_step, no_versions}
+use Rattle.store.specs.Commit.{form_of, commit_asks, commit_step, no_versions}
 use Rattle.store.specs.StoreLog.{store_log_if}
 use Rattle.store.specs.StorePage.{store_page_if}
-use Rattle.store.specs.Checkpoint.{checkpoint_step}
+use Rattle.store.specs.Checkpoint.{store_table, checkpoint_step}
 use Rattle.store.proofs.AskLaws.{Passed, passes}
 use Rattle.store.proofs.SearchLaws.{first_found}
 use Rattle.runs.specs.Event.{Call, begin, write, erase, current_read, commit, abort, as_of, changes, store_log, store_page, checkpoint}
 use Rattle.runs.specs.Book.{Book}
 use Rattle.runs.specs.Machine.{up, called, after}
-use Rattle.runs.proofs.Asks.{asks, is_refused, Way, refused, begins, writes, erases, looks, commits, ends, aborts, logs, pages, checks, way}
+use Rattle.runs.proofs.Asks.{asks, is_refused, Way, refused, begins, writes, erases, looks, commits, ends, aborts, logs, pages, lines, firsts, seconds, thirds, way}
 use Rattle.agreement.proofs.history.Ghost.{LoggedVersion, versions_of, at, newest_of, commits_of, cell, waiting_cell, Match, still, marked, Disk}
 use Rattle.agreement.proofs.history.VersionLaws.{newest_at}
 use Rattle.agreement.proofs.invariant.Invariant.{Up}
@@ -67,6 +67,7 @@ full_of ShortBuffer e = absurd (omega arith)
 full_of NoNumber e = absurd (omega arith)
 full_of Unfit e = absurd (omega arith)
 full_of NoRecord e = absurd (omega arith)
+full_of AreaFull e = absurd (omega arith)
 
 done_number : (a : Answer) → is_refused a ≡ false → answer_number a ≡ 0
 unfolding answer_number
@@ -86,37 +87,39 @@ pub record Filled (m c : List ℕ) (s : State) (x : Call) (o : Outcome) : Type 0
   pub stays : after o ≡ up m c s
 
 pub full_way : {m c : List ℕ} {s : State} {x : Call} {o : Outcome} → Way m c s x o → answer_number o.answer ≡ 8 → Filled m c s x o
-unfolding answer_number write_step commit_step store_log_if store_page_if checkpoint_step
+unfolding answer_number write_step commit_step store_log_if store_page_if store_table checkpoint_step
 full_way (refused k r w) e = record { no = w ∙ ap some (full_of r e); stays = refl }
 full_way (begins clock i p w) e = absurd (omega arith)
 full_way (writes n key i v p w) e = absurd (omega arith)
 full_way (erases n key i p w) e = absurd (omega arith)
 full_way (looks k a v b h p n w) e = absurd (omega (arith, done_number a n))
-full_way (commits n clock i p w z) e = absurd (omega arith)
-full_way (ends n clock i p w z) e = absurd (omega arith)
+full_way (commits n clock user i p w z) e = absurd (omega arith)
+full_way (ends n clock user i p w z) e = absurd (omega arith)
 full_way (aborts n i p w) e = absurd (omega arith)
 full_way (logs p) e = absurd (omega arith)
 full_way (pages n p) e = absurd (omega arith)
-full_way (checks Idle p w) e = absurd (omega arith)
-full_way (checks (FirstStored n t) p w) e = absurd (omega arith)
-full_way (checks (SecondStored n t) p w) e = absurd (omega arith)
+full_way (lines o t p w z) e = absurd (omega arith)
+full_way (firsts o t p w z) e = absurd (omega arith)
+full_way (seconds o t p w) e = absurd (omega arith)
+full_way (thirds o t p w) e = absurd (omega arith)
 
 -- all were answered "yes"
 pub done_way : {m c : List ℕ} {s : State} {x : Call} {o : Outcome} → Way m c s x o → Passed (asks m c s x) → answer_number o.answer ≡ 0
-unfolding answer_number write_step commit_step store_log_if store_page_if checkpoint_step
+unfolding answer_number write_step commit_step store_log_if store_page_if store_table checkpoint_step
 done_way {m} {c} {s} (refused k r w) e = let h = passes (asks m c s k) e in let z : ◌≡◌ {A = ℕ} 0 1 = cc in absurd (omega arith)
 done_way (begins clock i p w) e = refl
 done_way (writes n key i v p w) e = refl
 done_way (erases n key i p w) e = refl
 done_way (looks k a v b h p n w) e = done_number a n
-done_way (commits n clock i p w z) e = refl
-done_way (ends n clock i p w z) e = refl
+done_way (commits n clock user i p w z) e = refl
+done_way (ends n clock user i p w z) e = refl
 done_way (aborts n i p w) e = refl
 done_way (logs p) e = refl
 done_way (pages n p) e = refl
-done_way (checks Idle p w) e = refl
-done_way (checks (FirstStored n t) p w) e = refl
-done_way (checks (SecondStored n t) p w) e = refl
+done_way (lines o t p w z) e = refl
+done_way (firsts o t p w z) e = refl
+done_way (seconds o t p w) e = refl
+done_way (thirds o t p w) e = refl
 
 -- those before question 8 were answered "yes"
 before_write : (v k w x y z : Bool) → ask ((v, Unfit) ∷ (k, NoRecord) ∷ (w, NotActive) ∷ (x, Held) ∷ (y, NoSlot) ∷ (z, LogFull) ∷ []) ≡ some LogFull
@@ -153,6 +156,7 @@ is_full ShortBuffer = false
 is_full NoNumber = false
 is_full Unfit = false
 is_full NoRecord = false
+is_full AreaFull = false
 
 never : (qs : List (Bool × Refusal)) → Each (λ (q : Bool × Refusal). is_full q.1 ≡ false) qs → ask qs ≡ some LogFull → ⊥
 never [] h e = let o : ◌≡◌ {A = ℕ} 0 1 = cc in omega arith
@@ -166,7 +170,7 @@ abbrev pub holder : Found → List LoggedVersion → List Place → ℕ → Bool
 holder Nothing vs ps n = false
 holder (At y) vs ps n = not (eqb (at vs y).num n) && is_at (find_active ps (at vs y).num)
 
-module _ {l d : ℕ} {m c : List ℕ} {s : State} {b : Book} {disk : Disk} {closed : List (List Record)} {tail : List Record} (u : Up l d m c s b disk closed tail) where
+module _ {l d a : ℕ} {m c : List ℕ} {s : State} {b : Book} {disk : Disk} {closed : List (List Record)} {tail : List Record} (u : Up l d a m c s b disk closed tail) where
   abbrev pub vs : List LoggedVersion
   vs = versions_of (closed ++ (tail ∷ []))
 
@@ -197,9 +201,9 @@ pub active_there : (ps : List Place) (x i : ℕ) → find_active ps x ≡ At i �
 unfolding find_active
 active_there ps x i e = (first_found (λ j. active_as (place_at ps j).life x) 64 0 i e).2
 
-module _ {l d : ℕ} {m c n a : List ℕ} {s t : State} {b b' : Book} {disk disk' : Disk} {closed : List (List Record)} {tail : List Record}
-    (u : Up l d m c s b disk closed tail) (w : Up l d n a t b' disk' closed tail) (same : Alike s t) (room : (size : ℕ) → may_log t n size ≡ true) where
-  held_same : (key x : ℕ) → held a t.places t.slots key x ≡ held c s.places s.slots key x
+module _ {l d a : ℕ} {m c n c' : List ℕ} {s t : State} {b b' : Book} {disk disk' : Disk} {closed : List (List Record)} {tail : List Record}
+    (u : Up l d a m c s b disk closed tail) (w : Up l d a n c' t b' disk' closed tail) (same : Alike s t) (room : (size : ℕ) → may_log t n size ≡ true) where
+  held_same : (key x : ℕ) → held c' t.places t.slots key x ≡ held c s.places s.slots key x
   held_same key x = held_is w key x ∙ go (newest_of (vs u) key (length (vs u))) ∙ sym (held_is u key x)
     where
       go : (f : Found) → holder f (vs u) t.places x ≡ holder f (vs u) s.places x
@@ -222,32 +226,32 @@ module _ {l d : ℕ} {m c n a : List ℕ} {s t : State} {b b' : Book} {disk disk
       go Nothing e = refl
       go (At i) e = ap (λ (p : Place). eqb p.waiting 0) (same.place i x (active_there s.places x i e))
 
-  write_passes : (x key : ℕ) → ask (write_asks s m c x key) ≡ some LogFull → Passed (write_asks t n a x key)
+  write_passes : (x key : ℕ) → ask (write_asks s m c x key) ≡ some LogFull → Passed (write_asks t n c' x key)
   write_passes x key e =
       let p = before_write (fits s (length m) (length c)) (key_form key) (is_at (find_active s.places x)) (not (held c s.places s.slots key x)) (ltb s.slots (15 * s.pages)) (may_log s m 34) e in (
         fits_up w,
         (p.0, (rw (same.active x) p.1, (rw (held_same key x) p.2, (rw (slots_same, pages_same) p.3, (room 34, tt))))),
       )
 
-  commit_passes : (x : ℕ) → ask (commit_asks s m c x) ≡ some LogFull → Passed (commit_asks t n a x)
+  commit_passes : (x : ℕ) → ask (commit_asks s m c x) ≡ some LogFull → Passed (commit_asks t n c' x)
   commit_passes x e =
-      let p = before_commit (fits s (length m) (length c)) (is_at (find_active s.places x)) (no_versions (find_active s.places x) s || ltb s.last.0 (2 ^ 64 - 1)) (no_versions (find_active s.places x) s || may_log s m 19) e in (
+      let p = before_commit (fits s (length m) (length c)) (is_at (find_active s.places x)) (no_versions (find_active s.places x) s || ltb s.last.0 (2 ^ 64 - 1)) (no_versions (find_active s.places x) s || may_log s m (19 + user_bytes_of (form_of s.area.blocks))) e in (
         fits_up w,
-        (rw (same.active x) p.0, (rw (none_same x, last_same) p.1, (rw (room 19) (or-true (no_versions (find_active t.places x) t)), tt))),
+        (rw (same.active x) p.0, (rw (none_same x, last_same) p.1, (rw (room (19 + user_bytes_of (form_of t.area.blocks))) (or-true (no_versions (find_active t.places x) t)), tt))),
       )
 
-  passes_again : (x : Call) → ask (asks m c s x) ≡ some LogFull → Passed (asks n a t x)
+  passes_again : (x : Call) → ask (asks m c s x) ≡ some LogFull → Passed (asks n c' t x)
   passes_again (begin y) e = absurd (never (asks m c s (begin y)) (refl, (refl, (refl, tt))) e)
   passes_again (write y key v) e = write_passes y key e
   passes_again (erase y key) e = write_passes y key e
   passes_again (current_read y key) e = absurd (never (asks m c s (current_read y key)) (refl, (refl, (refl, (refl, tt)))) e)
-  passes_again (commit y clock) e = commit_passes y e
+  passes_again (commit y clock user) e = commit_passes y e
   passes_again (abort y) e = absurd (never (asks m c s (abort y)) (refl, (refl, tt)) e)
   passes_again (as_of key y) e = absurd (never (asks m c s (as_of key y)) (refl, (refl, (refl, tt))) e)
   passes_again (changes key y z v) e = absurd (never (asks m c s (changes key y z v)) (refl, (refl, (refl, (refl, tt)))) e)
   passes_again store_log e = absurd (never (asks m c s store_log) (refl, (refl, tt)) e)
   passes_again (store_page p) e = absurd (never (asks m c s (store_page p)) (refl, (refl, (refl, (refl, tt)))) e)
-  passes_again checkpoint e = absurd (never (asks m c s checkpoint) (refl, tt) e)
+  passes_again checkpoint e = absurd (never (asks m c s checkpoint) (refl, (refl, tt)) e)
 
-  pub done_again : (x : Call) → answer_number (called m c s x).answer ≡ 8 → answer_number (called n a t x).answer ≡ 0
-  done_again x e = done_way (way n a t x) (passes_again x (full_way (way m c s x) e).no)
+  pub done_again : (x : Call) → answer_number (called m c s x).answer ≡ 8 → answer_number (called n c' t x).answer ≡ 0
+  done_again x e = done_way (way n c' t x) (passes_again x (full_way (way m c s x) e).no)

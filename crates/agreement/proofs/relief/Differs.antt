@@ -34,15 +34,17 @@ use Rattle.store.specs.Tail.{tail_end}
 use Rattle.store.specs.StorePage.{stamp_time, stamp_from, stored_pair, stamped_page, settled}
 use Rattle.store.specs.Checkpoint.{least_or, new_oldest}
 use Rattle.runs.specs.Book.{Book}
-use Rattle.agreement.proofs.history.Ghost.{size_of, BlockSound, records, LoggedVersion, versions_of, no_version, at, LoggedCommit, commits_of, find, cell, end_of_page, page_with, full, Disk}
-use Rattle.agreement.proofs.history.ListLaws.{split, same?, each_left}
+use Rattle.agreement.proofs.history.Ghost.{size_of, BlockSound, records, LoggedVersion, versions_of, no_version, at, LoggedCommit, no_commit, commit_at, commits_of, find, cell, end_of_page, page_with, full, Disk}
+use Rattle.agreement.proofs.history.ListLaws.{split, same?, each_left, each_from}
 use Rattle.agreement.proofs.history.PlacingLaws.{records_tail, between_weak, between_append, between_block, between_all}
-use Rattle.agreement.proofs.history.CommitLaws.{find_num, find_each}
+use Rattle.agreement.proofs.history.CommitLaws.{find_num, find_each, find_last}
 use Rattle.agreement.proofs.history.SlotLaws.{count_at, used_page, end_page}
 use Rattle.agreement.proofs.history.VersionLaws.{place_versions, place_commits, near}
 use Rattle.agreement.proofs.invariant.Invariant.{Stored, nothing, up_to, life_num, life_time, life_end, num_at, time_at, Lively, Up}
 use Rattle.agreement.proofs.invariant.MediumFacts.{CommitSound, commits_sound, match_sized, fewer_stored}
 use Rattle.agreement.proofs.invariant.PlaceFacts.{committed_found, committed_finds}
+use Rattle.agreement.proofs.invariant.StoredFacts.{commit_marked}
+use Rattle.agreement.proofs.invariant.AreaFacts.{rising_at, at_find}
 use Rattle.agreement.proofs.logging.GrowthLaws.{block_used, tail_seq, tail_used}
 use Rattle.agreement.proofs.opening.ReadingLaws.{between_high}
 use Rattle.agreement.proofs.stores.SettleLaws.{kept_num}
@@ -62,7 +64,7 @@ unfolding stamp_from
 stamps_none pair page i zero f = refl
 stamps_none pair page i (suc k) f = rw (f i (omega arith) (omega arith)) (stamps_none pair page (i + 1) k (λ j a b. f j (omega arith) (omega arith)))
 
-module _ {l d : ℕ} {m c : List ℕ} {s : State} {b : Book} {disk : Disk} {closed : List (List Record)} {tail : List Record} (u : Up l d m c s b disk closed tail) where
+module _ {l d a : ℕ} {m c : List ℕ} {s : State} {b : Book} {disk : Disk} {closed : List (List Record)} {tail : List Record} (u : Up l d a m c s b disk closed tail) where
   abbrev history : List (List Record)
   history = closed ++ (tail ∷ [])
 
@@ -72,7 +74,7 @@ module _ {l d : ℕ} {m c : List ℕ} {s : State} {b : Book} {disk : Disk} {clos
   pub log_same : blk m (log_block_at l (length closed)) ≡ s.tail → s.end.0 ≡ (tail_end s.tail).0
   unfolding log_block_at
   log_same e =
-      go disk.stored s.end.0 u.state.mark fresh (each_at (BlockSound d) disk.stored (length closed) [] u.medium.log.shape.stored_sound fresh) stored ∙ sym (end_is u)
+      go disk.stored s.end.0 u.state.mark fresh (each_at (BlockSound d a) disk.stored (length closed) [] u.medium.log.shape.stored_sound fresh) stored ∙ sym (end_is u)
     where
       on_medium : blk m (log_block_at l (length closed)) ≡ log_bytes (length closed) tail
       on_medium = e ∙ u.state.tail_block
@@ -83,12 +85,12 @@ module _ {l d : ℕ} {m c : List ℕ} {s : State} {b : Book} {disk : Disk} {clos
       stored : log_bytes (length closed) tail ≡ log_bytes (length closed) (get_or disk.stored (length closed) [])
       stored = sym on_medium ∙ u.medium.log.blocks (length closed) u.state.ring_low fresh
 
-      go : (bs : List (List Record)) (end : ℕ) → Stored closed tail bs end → length closed < length bs → BlockSound d (get_or bs (length closed) [])
+      go : (bs : List (List Record)) (end : ℕ) → Stored closed tail bs end → length closed < length bs → BlockSound d a (get_or bs (length closed) [])
           → log_bytes (length closed) tail ≡ log_bytes (length closed) (get_or bs (length closed) []) → end ≡ end_place (length closed) (10 + size_of tail)
       go bs end (nothing x h) f z q = absurd (omega arith)
       go bs end (up_to n h) f z q =
           let w : 10 + size_of tail ≡ 10 + size_of (take n tail) =
-          sym (tail_used closed tail u.medium) ∙ ap used_of q ∙ block_used d (length closed) (get_or (closed ++ (take n tail ∷ [])) (length closed) []) z
+          sym (tail_used closed tail u.medium) ∙ ap used_of q ∙ block_used d a (length closed) (get_or (closed ++ (take n tail ∷ [])) (length closed) []) z
           ∙ ap (λ (rs : List Record). 10 + size_of rs) (get_or-append_seam closed (take n tail) [] []) in
           ap (end_place (length closed)) (sym w)
 
@@ -103,8 +105,18 @@ module _ {l d : ℕ} {m c : List ℕ} {s : State} {b : Book} {disk : Disk} {clos
         (between_high (512 * 0 + 10) (512 * length closed + (10 + size_of tail)) (records closed ++ place_from (length closed) 10 tail)
         (between_append (512 * 0 + 10) (512 * length closed + 10) (512 * length closed + (10 + size_of tail)) (records closed) (place_from (length closed) 10 tail)
         (between_weak (512 * 0 + 10) (512 * 0 + 10) (records closed) (512 * (0 + length closed) + 10) (512 * length closed + 10) (omega arith) (omega arith)
-        (between_all d 0 closed (each_left (BlockSound d) closed (tail ∷ []) u.medium.log.shape.sound)))
+        (between_all d a 0 closed (each_left (BlockSound d a) closed (tail ∷ []) u.medium.log.shape.sound)))
         (between_block (length closed) 10 tail))).1
+
+    -- so every commit's time is stored
+    pub times_stored : Each (λ (x : LoggedCommit). x.time ≤ s.saved.0) (commits_of history)
+    times_stored = each_from (λ (x : LoggedCommit). x.time ≤ s.saved.0) (commits_of history) no_commit (λ i h.
+        let e : find (commits_of history) (commit_at (commits_of history) i).num ≡ commit_at (commits_of history) i = at_find 0 (commits_of history) u.medium.numbers.rising u.medium.numbers.once i h in
+        let z : 0 < (commit_at (commits_of history) i).time = rising_at 0 (commits_of history) u.medium.numbers.rising i h in
+        let q : find (commits_of disk.stored) (commit_at (commits_of history) i).num ≡ find (commits_of history) (commit_at (commits_of history) i).num =
+        commit_marked u.medium u.state.mark (commit_at (commits_of history) i).num (rw e z)
+        (rw e (each_at (λ (x : LoggedCommit). x.end ≤ s.end.0) (commits_of history) i no_commit (place_commits (λ x y. x ≤ s.end.0) (records history) ends) h)) in
+        omega (arith, ap (λ (x : LoggedCommit). x.time) (q ∙ e), find_last (commits_of disk.stored) (commit_at (commits_of history) i).num, u.state.saved))
 
     -- so every page's end place is stored
     pub page_ended : (p : ℕ) → p < d → page_end (blk c p) ≤ s.end.0
@@ -121,14 +133,14 @@ module _ {l d : ℕ} {m c : List ℕ} {s : State} {b : Book} {disk : Disk} {clos
         go zero z = omega (arith, page_end_law zero z (omega arith))
         go (suc x) z =
             let lt : 15 * p + x < length (versions_of history) = omega (arith, z) in
-            omega (arith, page_end_law (suc x) z (omega (arith, near d history u.medium.log.shape.sound (15 * p + x) lt, u.medium.log.shape.top)), version_end (15 * p + x) lt)
+            omega (arith, page_end_law (suc x) z (omega (arith, near d a history u.medium.log.shape.sound (15 * p + x) lt, u.medium.log.shape.top)), version_end (15 * p + x) lt)
 
     -- a live number without a stored commit has none
     unpaired : (n i : ℕ) → i < 64 → num_at s.places i ≡ n → 0 < n → stored_pair s n ≡ Untimed → (find (commits_of history) n).time ≡ 0
     unfolding stored_pair stored_under
     unpaired n i h e z w = go (same? (time_at s.places i) 0)
       where
-        lively : Lively (commits_of history) disk.cells disk.oldest s.next.0 (place_at s.places i)
+        lively : Lively disk.area (commits_of history) disk.cells disk.oldest s.next.0 (place_at s.places i)
         lively = u.living.each i h
 
         timed : (x : Life) → 0 < life_time x → life_end x ≤ s.end.0 → time_up_to x s.end.0 ≡ Untimed → ⊥
@@ -170,8 +182,8 @@ module _ {l d : ℕ} {m c : List ℕ} {s : State} {b : Book} {disk : Disk} {clos
         go (inr z) =
             let t = page_turned u p h in
             let pos : 0 < (find (commits_of history) n.0).time = omega arith in
-            let low : 0 < n.0 = omega (arith, find_num n.0 (commits_of history) pos, (find_each n.0 CommitSound (commits_of history) (commits_sound d history u.medium.log.shape.sound) pos).low) in
-            let (i, a, q) = t.living.all n.0 (count_at n.0 (15 * p + j) t.cells lt (ap (λ (y : Slot). waits_under y n.0) w ∙ eq-eqb n.0 n.0 refl)) pos in
+            let low : 0 < n.0 = omega (arith, find_num n.0 (commits_of history) pos, (find_each n.0 CommitSound (commits_of history) (commits_sound d a history u.medium.log.shape.sound) pos).low) in
+            let (i, a, q) = t.living.all n.0 (inl (count_at n.0 (15 * p + j) t.cells lt (ap (λ (y : Slot). waits_under y n.0) w ∙ eq-eqb n.0 n.0 refl))) pos in
             let r : (place_at (settled s (blk c p)) i).life ≡ (place_at s.places i).life = kept_num (place_at s.places i).life (place_at (settled s (blk c p)) i).life (t.kept i a) (omega (arith, q)) in
             unpaired n.0 i a (ap life_num (sym r) ∙ q) low (t.done j g n w)
 

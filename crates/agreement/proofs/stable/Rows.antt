@@ -25,27 +25,27 @@ use Rattle.agreement.proofs.plain.Reads.{last_from}
 abbrev pub Fresh : List Row → List Row → Type 0
 Fresh R [] = Unit {0}
 Fresh R (version v ∷ rs) = (time_of R v.number ≡ none) × Fresh (R ++ (version v ∷ [])) rs
-Fresh R (committed n t ∷ rs) = Fresh (R ++ (committed n t ∷ [])) rs
+Fresh R (committed n t u ∷ rs) = Fresh (R ++ (committed n t u ∷ [])) rs
 
 fresh_take : (i : ℕ) (R rs : List Row) → Fresh R rs → Fresh R (take i rs)
 fresh_take zero R rs h = tt
 fresh_take (suc i) R [] h = tt
 fresh_take (suc i) R (version v ∷ rs) h = (h.0, fresh_take i (R ++ (version v ∷ [])) rs h.1)
-fresh_take (suc i) R (committed n t ∷ rs) h = fresh_take i (R ++ (committed n t ∷ [])) rs h
+fresh_take (suc i) R (committed n t u ∷ rs) h = fresh_take i (R ++ (committed n t u ∷ [])) rs h
 
 fresh_append : (R rs ss : List Row) → Fresh R rs → Fresh (R ++ rs) ss → Fresh R (rs ++ ss)
 fresh_append R [] ss h g = subst (λ (xs : List Row). Fresh xs ss) (append-nil R) g
 fresh_append R (version v ∷ rs) ss h g =
     (h.0, fresh_append (R ++ (version v ∷ [])) rs ss h.1 (subst (λ (xs : List Row). Fresh xs ss) (sym (append_assoc R (version v ∷ []) rs)) g))
-fresh_append R (committed n t ∷ rs) ss h g =
-    fresh_append (R ++ (committed n t ∷ [])) rs ss h (subst (λ (xs : List Row). Fresh xs ss) (sym (append_assoc R (committed n t ∷ []) rs)) g)
+fresh_append R (committed n t u ∷ rs) ss h g =
+    fresh_append (R ++ (committed n t u ∷ [])) rs ss h (subst (λ (xs : List Row). Fresh xs ss) (sym (append_assoc R (committed n t u ∷ []) rs)) g)
 
 fresh_right : (R rs ss : List Row) → Fresh R (rs ++ ss) → Fresh (R ++ rs) ss
 fresh_right R [] ss h = subst (λ (xs : List Row). Fresh xs ss) (sym (append-nil R)) h
 fresh_right R (version v ∷ rs) ss h =
     subst (λ (xs : List Row). Fresh xs ss) (append_assoc R (version v ∷ []) rs) (fresh_right (R ++ (version v ∷ [])) rs ss h.1)
-fresh_right R (committed n t ∷ rs) ss h =
-    subst (λ (xs : List Row). Fresh xs ss) (append_assoc R (committed n t ∷ []) rs) (fresh_right (R ++ (committed n t ∷ [])) rs ss h)
+fresh_right R (committed n t u ∷ rs) ss h =
+    subst (λ (xs : List Row). Fresh xs ss) (append_assoc R (committed n t u ∷ []) rs) (fresh_right (R ++ (committed n t u ∷ [])) rs ss h)
 
 -- an open number has no commit, and writes are of open numbers
 record Written (b : Book) : Type 0 where
@@ -61,38 +61,38 @@ written_turn b b' hs rs e o t p = record { orderly = orderly_turn b b' hs rs e o
     go (falls z) = fresh_take b.stored [] b.rows p.fresh
     go (opens n k z h) = p.fresh
     go (adds v ch w) = fresh_append [] b.rows (version v ∷ []) p.fresh (p.orderly.unended v.number w, tt)
-    go (ends n t ch a h z) = fresh_append [] b.rows (committed n t ∷ []) p.fresh tt
+    go (ends n t u ch a h z) = fresh_append [] b.rows (committed n t u ∷ []) p.fresh tt
     go (closes n) = p.fresh
     go stores = p.fresh
 
-pub fresh_rows : {l d : ℕ} {es : List Event} → Run l d es → Fresh [] (book_at l d es).rows
+pub fresh_rows : {l d a : ℕ} {es : List Event} → Run l d a es → Fresh [] (book_at l d a es).rows
 unfolding is_open blank time_of
 fresh_rows r = (always r (λ b hs. Written b) written_turn (record { orderly = record { once = tt; unended = λ n q. refl }; fresh = tt })).fresh
 
 -- ---- times
 
 -- low is the time of a commit row before them
-last_low : (m low : ℕ) (rs : List Row) → Rises low (transactions rs) → low ≤ last_time (committed m low ∷ rs)
+last_low : (m low x : ℕ) (rs : List Row) → Rises low (transactions rs) → low ≤ last_time (committed m low x ∷ rs)
 unfolding transactions last_time
-last_low m low [] r = omega arith
-last_low m low (version v ∷ rs) r = last_low m low rs r
-last_low m low (committed k u ∷ rs) r = omega (arith, r.0, last_low k u rs r.1)
+last_low m low x [] r = omega arith
+last_low m low x (version v ∷ rs) r = last_low m low x rs r
+last_low m low x (committed k u w ∷ rs) r = omega (arith, r.0, last_low k u w rs r.1)
 
-last_from_low : (m low : ℕ) (rs ss : List Row) → Rises low (transactions (rs ++ ss)) → last_time (committed m low ∷ rs) ≤ last_time (committed m low ∷ rs ++ ss)
+last_from_low : (m low x : ℕ) (rs ss : List Row) → Rises low (transactions (rs ++ ss)) → last_time (committed m low x ∷ rs) ≤ last_time (committed m low x ∷ rs ++ ss)
 unfolding transactions last_time
-last_from_low m low [] ss r = last_low m low ss r
-last_from_low m low (version v ∷ rs) ss r = last_from_low m low rs ss r
-last_from_low m low (committed k u ∷ rs) ss r = last_from_low k u rs ss r.1
+last_from_low m low x [] ss r = last_low m low x ss r
+last_from_low m low x (version v ∷ rs) ss r = last_from_low m low x rs ss r
+last_from_low m low x (committed k u w ∷ rs) ss r = last_from_low k u w rs ss r.1
 
 pub last_more : (rs ss : List Row) → Rises 0 (transactions (rs ++ ss)) → last_time rs ≤ last_time (rs ++ ss)
 unfolding last_time
-last_more rs ss r = last_from_low 0 0 rs ss r
+last_more rs ss r = last_from_low 0 0 0 rs ss r
 
 above : (low : ℕ) (rs : List Row) (n u : ℕ) → Rises low (transactions rs) → time_of rs n ≡ some u → low < u
 unfolding transactions time_of
 above low [] n u r e = let z : ◌≡◌ {A = ℕ} 0 1 = cc in absurd (omega arith)
 above low (version v ∷ rs) n u r e = above low rs n u r e
-above low (committed k t ∷ rs) n u r e = go (eqb k n) e (above t rs n u r.1)
+above low (committed k t w ∷ rs) n u r e = go (eqb k n) e (above t rs n u r.1)
   where
     go : (x : Bool) → cond x (some t) (time_of rs n) ≡ some u → (time_of rs n ≡ some u → t < u) → low < u
     go true e ih = let z : t ≡ u = cc in omega (arith, r.0)
@@ -117,8 +117,8 @@ best_fresh R S (version v ∷ rs) key limit best h =
     same : (x : Bool) → cond x best best ≡ best
     same true = refl
     same false = refl
-best_fresh R S (committed n t ∷ rs) key limit best h =
-    best_fresh R (S ++ (committed n t ∷ [])) rs key limit best (subst (λ (xs : List Row). Fresh xs rs) (append_assoc R S (committed n t ∷ [])) h)
+best_fresh R S (committed n t u ∷ rs) key limit best h =
+    best_fresh R (S ++ (committed n t u ∷ [])) rs key limit best (subst (λ (xs : List Row). Fresh xs rs) (append_assoc R S (committed n t u ∷ [])) h)
 
 -- ---- lists
 
@@ -141,7 +141,7 @@ module _ (rs qs : List Row) (key t1 top : ℕ) (last : (limit : ℕ) → limit �
 module _ (R more : List Row) (rising : Rises 0 (transactions (R ++ more))) (fresh : Fresh [] (R ++ more)) (t : ℕ) (reached : t ≤ last_time R) where
   later : (n u : ℕ) → time_of more n ≡ some u → t < u
   unfolding last_time
-  later n u e = omega (arith, above (last_time R) more n u (rises_right 0 0 R more rising) e)
+  later n u e = omega (arith, above (last_time R) more n u (rises_right 0 0 0 R more rising) e)
 
   dated_same : (v : Version) (best : Option Dated) (limit : ℕ) → limit ≤ suc t
       → dated_of (time_of (R ++ more) v.number) best limit v ≡ dated_of (time_of R v.number) best limit v

@@ -29,7 +29,7 @@ use Rattle.agreement.proofs.logging.GrowthLaws.{fits_up}
 use Rattle.agreement.proofs.reads.Changes.{alike_length, alike_bytes, alike_size, lines_are}
 use Rattle.agreement.proofs.Cut.{cut_down}
 
-module _ {l d : ℕ} {m c : List ℕ} {s : State} {b : Book} {disk : Disk} {closed : List (List Record)} {tail : List Record} (u : Up l d m c s b disk closed tail) where
+module _ {l d a : ℕ} {m c : List ℕ} {s : State} {b : Book} {disk : Disk} {closed : List (List Record)} {tail : List Record} (u : Up l d a m c s b disk closed tail) where
   pub saved_is : s.saved.0 ≡ last_time (fall b).rows
   saved_is = u.state.saved ∙ sym (ap last_time (cut_down u).rows ∙ last_row (records disk.stored) (cut_down u).medium.numbers.rising)
 

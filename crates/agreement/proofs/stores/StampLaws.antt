@@ -26,6 +26,7 @@ use Rattle.layout.proofs.PageLaws.{no_cell, free_page_bytes, stamp_page_bytes}
 use Rattle.layout.proofs.SlotLaws.{SlotSized, cell_stamped, cell_slot_bytes}
 use Rattle.store.specs.declared.Found.{Found}
 use Rattle.store.specs.declared.Found.TheVariants.{At, Nothing}
+use Rattle.store.specs.declared.Area.{Area}
 use Rattle.store.specs.declared.Life.{Life}
 use Rattle.store.specs.declared.Life.TheVariants.{Free, Active, Committed}
 use Rattle.store.specs.declared.Place.{Place}
@@ -43,6 +44,7 @@ use Rattle.agreement.proofs.history.SlotLaws.{count_at, slot_page}
 use Rattle.agreement.proofs.invariant.Invariant.{life_num, life_time, life_end, num_at, time_at, Living, Up}
 use Rattle.agreement.proofs.invariant.StoredFacts.{commit_marked, commit_closed}
 use Rattle.agreement.proofs.invariant.PlaceFacts.{committed_found, life_low}
+use Rattle.agreement.proofs.invariant.AreaFacts.{ends_low}
 use Rattle.agreement.proofs.stores.SettleLaws.{same, kept_num, kept_twice, AllKept, lowered_kept, counted_down, living_lowered}
 
 -- ---- slots of a page
@@ -131,14 +133,14 @@ stamp_next : (pair : ℕ → Timing) (page : List ℕ) (i j : ℕ)
 unfolding stamp_from
 stamp_next pair page i j = refl
 
-settle_none : (pair : ℕ → Timing) (old : List Place) (page : List ℕ) (ps : List Place) (i : ℕ) → settle_from pair old page ps i 0 ≡ ps
+settle_none : (area : Area) (pair : ℕ → Timing) (old : List Place) (page : List ℕ) (ps : List Place) (i : ℕ) → settle_from area pair old page ps i 0 ≡ ps
 unfolding settle_from
-settle_none pair old page ps i = refl
+settle_none area pair old page ps i = refl
 
-settle_next : (pair : ℕ → Timing) (old : List Place) (page : List ℕ) (ps : List Place) (i j : ℕ)
-    → settle_from pair old page ps i (suc j) ≡ settle_from pair old page (settle_with (stamp_time pair (slot_state (page_slot page i))) (slot_state (page_slot page i)) old ps) (i + 1) j
+settle_next : (area : Area) (pair : ℕ → Timing) (old : List Place) (page : List ℕ) (ps : List Place) (i j : ℕ)
+    → settle_from area pair old page ps i (suc j) ≡ settle_from area pair old page (settle_with area (stamp_time pair (slot_state (page_slot page i))) (slot_state (page_slot page i)) old ps) (i + 1) j
 unfolding settle_from
-settle_next pair old page ps i j = refl
+settle_next area pair old page ps i j = refl
 
 -- after the turns of the first i slots of page p: the slots so far, the page and the places
 pub record Turned (m : List ℕ) (disk : Disk) (vs : List LoggedVersion) (cs : List LoggedCommit) (next : ℕ) (old : List Place) (pair : ℕ → Timing) (p i : ℕ) (page : List ℕ) (ps : List Place) : Type 0 where
@@ -149,10 +151,10 @@ pub record Turned (m : List ℕ) (disk : Disk) (vs : List LoggedVersion) (cs : L
   pub ahead : (n : ℕ) → 15 * p + i ≤ n → cell cells n ≡ cell disk.cells n
   pub match : (n : ℕ) → n < length vs → Match (commits_of disk.stored) (at vs n) (cell cells n)
   pub done : (j : ℕ) → j < i → (n : TxNumber) → (cell cells (15 * p + j)).state ≡ Waiting n → pair n.0 ≡ Untimed  -- what still waits has no stored commit
-  pub living : Living m cs cells disk.oldest next ps
+  pub living : Living m disk.area cs cells disk.oldest next ps
   pub kept : AllKept old ps
 
-module _ {l d : ℕ} {m c : List ℕ} {s : State} {b : Book} {disk : Disk} {closed : List (List Record)} {tail : List Record} (u : Up l d m c s b disk closed tail) where
+module _ {l d a : ℕ} {m c : List ℕ} {s : State} {b : Book} {disk : Disk} {closed : List (List Record)} {tail : List Record} (u : Up l d a m c s b disk closed tail) where
   abbrev history : List (List Record)
   history = closed ++ (tail ∷ [])
 
@@ -214,9 +216,9 @@ module _ {l d : ℕ} {m c : List ℕ} {s : State} {b : Book} {disk : Disk} {clos
 
     -- a slot is stamped
     stamped : (i : ℕ) (page : List ℕ) (ps : List Place) → i < 15 → Here i page ps → (n : TxNumber) (w : CommitTime) → (cell disk.cells (15 * p + i)).state ≡ Waiting n
-        → stored_pair s n.0 ≡ Timed w → Here (i + 1) (stamp_cell page i w.0) (lower_at (find_committed s.places n.0) ps)
+        → stored_pair s n.0 ≡ Timed w → Here (i + 1) (stamp_cell page i w.0) (lower_at disk.area (find_committed s.places n.0) ps)
     stamped i page ps h t n w e f =
-        subst (λ (x : Found). Here (i + 1) (stamp_cell page i w.0) (lower_at x ps)) (sym st.found) (record {
+        subst (λ (x : Found). Here (i + 1) (stamp_cell page i w.0) (lower_at disk.area x ps)) (sym st.found) (record {
           cells = set t.cells x new;
           size = length-set t.cells x new ∙ t.size;
           bytes = ap (λ (y : List ℕ). stamp_cell y i w.0) t.bytes
@@ -225,8 +227,8 @@ module _ {l d : ℕ} {m c : List ℕ} {s : State} {b : Book} {disk : Disk} {clos
           ahead = λ a g. get_or-set_other t.cells x a new no_cell (omega arith) ∙ t.ahead a (omega arith);
           match = λ a g. match' a g (same? a x);
           done = λ a g. done' a g (same? a i);
-          living = living_lowered t.living x lt n waits new w refl st.place st.inside num time;
-          kept = λ a g. kept_twice _ _ _ (t.kept a g) (lowered_kept ps st.place t.living.size st.inside (counted_down t.living x lt n waits new w refl st.place st.inside num time) a g);
+          living = living_lowered t.living u.medium.numbers.lined (ends_low u.medium) x lt n waits new w refl st.place st.inside num time;
+          kept = λ a g. kept_twice _ _ _ (t.kept a g) (lowered_kept disk.area ps st.place t.living.size st.inside (counted_down t.living u.medium.numbers.lined (ends_low u.medium) x lt n waits new w refl st.place st.inside num time) a g);
         })
       where
         st : Stamps s.places (commits_of disk.stored) (commits_of history) n.0 w.0
@@ -268,7 +270,7 @@ module _ {l d : ℕ} {m c : List ℕ} {s : State} {b : Book} {disk : Disk} {clos
         -- the number is still waited for, so its place keeps its life
         home : (j : ℕ) × (j < 64) × (num_at ps j ≡ n.0)
         home = t.living.all n.0
-            (count_at n.0 x t.cells lt (ap (λ (y : Slot). waits_under y n.0) waits ∙ eq-eqb n.0 n.0 refl)) st.ended
+            (inl (count_at n.0 x t.cells lt (ap (λ (y : Slot). waits_under y n.0) waits ∙ eq-eqb n.0 n.0 refl))) st.ended
 
         life : (place_at ps st.place).life ≡ (place_at s.places st.place).life
         life =
@@ -285,13 +287,13 @@ module _ {l d : ℕ} {m c : List ℕ} {s : State} {b : Book} {disk : Disk} {clos
 
     -- the turn of slot i, by what stands in it
     turn : (i : ℕ) (page : List ℕ) (ps : List Place) → i < 15 → Here i page ps → (x : Slot) → (cell disk.cells (15 * p + i)).state ≡ x
-        → Here (i + 1) (stamp_with (stamp_time (stored_pair s) x) page i) (settle_with (stamp_time (stored_pair s) x) x s.places ps)
+        → Here (i + 1) (stamp_with (stamp_time (stored_pair s) x) page i) (settle_with disk.area (stamp_time (stored_pair s) x) x s.places ps)
     unfolding stamp_time
     turn i page ps h t Empty e = unstamped i page ps (λ n w. let o : ◌≡◌ {A = ℕ} 0 1 = cc in absurd (omega arith)) t
     turn i page ps h t (Stamped w) e = unstamped i page ps (λ n w. let o : ◌≡◌ {A = ℕ} 0 1 = cc in absurd (omega arith)) t
     turn i page ps h t (Waiting n) e = go (stored_pair s n.0) refl
       where
-        go : (x : Timing) → stored_pair s n.0 ≡ x → Here (i + 1) (stamp_with x page i) (settle_with x (Waiting n) s.places ps)
+        go : (x : Timing) → stored_pair s n.0 ≡ x → Here (i + 1) (stamp_with x page i) (settle_with disk.area x (Waiting n) s.places ps)
         go Untimed f = unstamped i page ps (λ y w. let o : n.0 ≡ y.0 = cc in rw o at f) t
         go (Timed w) f = stamped i page ps h t n w e f
 
@@ -308,32 +310,32 @@ module _ {l d : ℕ} {m c : List ℕ} {s : State} {b : Book} {disk : Disk} {clos
 
     slot_turn : (i : ℕ) (page : List ℕ) (ps : List Place) → i < 15 → Here i page ps
         → Here (i + 1) (stamp_with (stamp_time (stored_pair s) (slot_state (page_slot page i))) page i)
-        (settle_with (stamp_time (stored_pair s) (slot_state (page_slot (blk c p) i))) (slot_state (page_slot (blk c p) i)) s.places ps)
+        (settle_with disk.area (stamp_time (stored_pair s) (slot_state (page_slot (blk c p) i))) (slot_state (page_slot (blk c p) i)) s.places ps)
     slot_turn i page ps h t =
         let x = (cell disk.cells (15 * p + i)).state in
         subst (λ (y : Slot). Here (i + 1) (stamp_with (stamp_time (stored_pair s) y) page i)
-        (settle_with (stamp_time (stored_pair s) (slot_state (page_slot (blk c p) i))) (slot_state (page_slot (blk c p) i)) s.places ps)) (sym (new_state i page ps h t))
-        (subst (λ (y : Slot). Here (i + 1) (stamp_with (stamp_time (stored_pair s) x) page i) (settle_with (stamp_time (stored_pair s) y) y s.places ps)) (sym (old_state i h))
+        (settle_with disk.area (stamp_time (stored_pair s) (slot_state (page_slot (blk c p) i))) (slot_state (page_slot (blk c p) i)) s.places ps)) (sym (new_state i page ps h t))
+        (subst (λ (y : Slot). Here (i + 1) (stamp_with (stamp_time (stored_pair s) x) page i) (settle_with disk.area (stamp_time (stored_pair s) y) y s.places ps)) (sym (old_state i h))
         (turn i page ps h t x refl))
 
     turns : (j i : ℕ) (page : List ℕ) (ps : List Place) → i + j ≤ 15 → Here i page ps
-        → Here (i + j) (stamp_from (stored_pair s) page i j) (settle_from (stored_pair s) s.places (blk c p) ps i j)
+        → Here (i + j) (stamp_from (stored_pair s) page i j) (settle_from disk.area (stored_pair s) s.places (blk c p) ps i j)
     turns zero i page ps h t =
-        subst (λ (a : ℕ). Here a (stamp_from (stored_pair s) page i 0) (settle_from (stored_pair s) s.places (blk c p) ps i 0)) (sym (add-zero i))
-        (subst (λ (y : List ℕ). Here i y (settle_from (stored_pair s) s.places (blk c p) ps i 0)) (sym (stamp_none (stored_pair s) page i))
-        (subst (λ (y : List Place). Here i page y) (sym (settle_none (stored_pair s) s.places (blk c p) ps i)) t))
+        subst (λ (a : ℕ). Here a (stamp_from (stored_pair s) page i 0) (settle_from disk.area (stored_pair s) s.places (blk c p) ps i 0)) (sym (add-zero i))
+        (subst (λ (y : List ℕ). Here i y (settle_from disk.area (stored_pair s) s.places (blk c p) ps i 0)) (sym (stamp_none (stored_pair s) page i))
+        (subst (λ (y : List Place). Here i page y) (sym (settle_none disk.area (stored_pair s) s.places (blk c p) ps i)) t))
     turns (suc j) i page ps h t =
         let e : i + 1 + j ≡ i + suc j = omega arith in
         let page' = stamp_with (stamp_time (stored_pair s) (slot_state (page_slot page i))) page i in
-        let ps' = settle_with (stamp_time (stored_pair s) (slot_state (page_slot (blk c p) i))) (slot_state (page_slot (blk c p) i)) s.places ps in
-        subst (λ (a : ℕ). Here a (stamp_from (stored_pair s) page i (suc j)) (settle_from (stored_pair s) s.places (blk c p) ps i (suc j))) e
-        (subst (λ (y : List ℕ). Here (i + 1 + j) y (settle_from (stored_pair s) s.places (blk c p) ps i (suc j))) (sym (stamp_next (stored_pair s) page i j))
-        (subst (λ (y : List Place). Here (i + 1 + j) (stamp_from (stored_pair s) page' (i + 1) j) y) (sym (settle_next (stored_pair s) s.places (blk c p) ps i j))
+        let ps' = settle_with disk.area (stamp_time (stored_pair s) (slot_state (page_slot (blk c p) i))) (slot_state (page_slot (blk c p) i)) s.places ps in
+        subst (λ (a : ℕ). Here a (stamp_from (stored_pair s) page i (suc j)) (settle_from disk.area (stored_pair s) s.places (blk c p) ps i (suc j))) e
+        (subst (λ (y : List ℕ). Here (i + 1 + j) y (settle_from disk.area (stored_pair s) s.places (blk c p) ps i (suc j))) (sym (stamp_next (stored_pair s) page i j))
+        (subst (λ (y : List Place). Here (i + 1 + j) (stamp_from (stored_pair s) page' (i + 1) j) y) (sym (settle_next disk.area (stored_pair s) s.places (blk c p) ps i j))
         (turns j (i + 1) page' ps' (omega arith) (slot_turn i page ps (omega arith) t))))
 
     pub page_turned : Here 15 (stamped_page s (blk c p)) (settled s (blk c p))
     unfolding stamped_page settled
-    page_turned = turns 15 0 (blk c p) s.places (omega arith) (record {
+    page_turned = subst (λ (x : Area). Here 15 (stamp_from (stored_pair s) (blk c p) 0 15) (settle_from x (stored_pair s) s.places (blk c p) s.places 0 15)) (sym u.state.area) (turns 15 0 (blk c p) s.places (omega arith) (record {
       cells = disk.cells;
       size = u.medium.pages.slots.count;
       bytes = u.cache.pages p inside;
@@ -343,4 +345,4 @@ module _ {l d : ℕ} {m c : List ℕ} {s : State} {b : Book} {disk : Disk} {clos
       done = λ j h. absurd (omega arith);
       living = u.living;
       kept = λ i h. same;
-    })
+    }))

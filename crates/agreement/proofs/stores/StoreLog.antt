@@ -27,7 +27,7 @@ use Rattle.agreement.proofs.invariant.Invariant.{Stored, up_to, Pending, Up, Inv
 use Rattle.agreement.proofs.invariant.PlaceSet.{phase_map, covered_same, living_same}
 use Rattle.agreement.proofs.logging.Growth.{with_log, storing, pairs_stay}
 
-module _ {l d : ℕ} {m c : List ℕ} {s : State} {b : Book} {disk : Disk} {closed : List (List Record)} {tail : List Record} (u : Up l d m c s b disk closed tail) where
+module _ {l d a : ℕ} {m c : List ℕ} {s : State} {b : Book} {disk : Disk} {closed : List (List Record)} {tail : List Record} (u : Up l d a m c s b disk closed tail) where
   abbrev pub history : List (List Record)
   history = closed ++ (tail ∷ [])
 
@@ -38,10 +38,10 @@ module _ {l d : ℕ} {m c : List ℕ} {s : State} {b : Book} {disk : Disk} {clos
   new_disk = with_log disk history
 
   tail_size : length (flat record_bytes tail) ≡ size_of tail
-  tail_size = size_flat tail (sound_sized d tail (each_right (BlockSound d) closed (tail ∷ []) u.medium.log.shape.sound).0.each)
+  tail_size = size_flat tail (sound_sized d a tail (each_right (BlockSound d a) closed (tail ∷ []) u.medium.log.shape.sound).0.each)
 
   tail_fits : length (flat record_bytes tail) ≤ 502
-  tail_fits = omega (arith, tail_size, (each_right (BlockSound d) closed (tail ∷ []) u.medium.log.shape.sound).0.fits)
+  tail_fits = omega (arith, tail_size, (each_right (BlockSound d a) closed (tail ∷ []) u.medium.log.shape.sound).0.fits)
 
   pub medium_is : stored_tail s.blocks m s.tail ≡ medium
   unfolding stored_tail
@@ -65,13 +65,14 @@ module _ {l d : ℕ} {m c : List ℕ} {s : State} {b : Book} {disk : Disk} {clos
   pub later : last_of (commits_of disk.stored) ≤ last_of (commits_of history)
   later = omega (arith, ap last_of (commits_split u.medium), last_append (commits_of disk.stored) (commits_in u.medium.log.shape.rest))
 
-  pub log_up : Up l d medium c (log_stored s) (record { opened = b.opened; rows = b.rows; stored = length b.rows }) new_disk closed tail
+  pub log_up : Up l d a medium c (log_stored s) (record { area = b.area; opened = b.opened; rows = b.rows; stored = length b.rows }) new_disk closed tail
   unfolding log_stored
   log_up = record {
     medium = storing u.medium u.state.ring_low u.state.ring_high u.state.mark;
     state = record {
       blocks = u.state.blocks;
       pages = u.state.pages;
+      area = u.state.area;
       slots = u.state.slots;
       tail_block = u.state.tail_block;
       ring_low = u.state.ring_low;
@@ -90,6 +91,7 @@ module _ {l d : ℕ} {m c : List ℕ} {s : State} {b : Book} {disk : Disk} {clos
     phase = phase_map s.phase d m medium disk new_disk (commits_of history) (commits_of history) s.places s.places s.first s.first (length closed) (length closed) goes_on u.phase;
     rows = u.rows;
     stored = ap length u.rows ∙ length_rows (records history);
+    area = u.area;
   }
     where
       goes_on : (o t n : ℕ) → n ≤ 64 → Pending d m disk (commits_of history) s.places s.first (length closed) o t n
@@ -100,9 +102,12 @@ module _ {l d : ℕ} {m c : List ℕ} {s : State} {b : Book} {disk : Disk} {clos
         pages = q.pages;
         early = q.early;
         late = omega (arith, q.late, later);
+        space = q.space;
+        some = q.some;
+        lined = q.lined;
         covered = covered_same m medium pairs (commits_of history) s.places o n h q.covered;
       }
 
-  pub log_stored_law : Inv l d (up (stored_tail s.blocks m s.tail) c (log_stored s))
-      (record { opened = b.opened; rows = b.rows; stored = length b.rows })
-  log_stored_law = subst (λ (x : List ℕ). Inv l d (up x c (log_stored s)) (record { opened = b.opened; rows = b.rows; stored = length b.rows })) (sym medium_is) (running log_up)
+  pub log_stored_law : Inv l d a (up (stored_tail s.blocks m s.tail) c (log_stored s))
+      (record { area = b.area; opened = b.opened; rows = b.rows; stored = length b.rows })
+  log_stored_law = subst (λ (x : List ℕ). Inv l d a (up x c (log_stored s)) (record { area = b.area; opened = b.opened; rows = b.rows; stored = length b.rows })) (sym medium_is) (running log_up)

@@ -11,13 +11,13 @@ use lib.Dec.{eqb}
 use lib.ListN.{length, get_or, set, length-set}
 use lib.Seq.{get_or-set_same, get_or-set_other}
 use borrow.Author.Tests.{eq-eqb, ne_eqb, ltb-true, leb-true}
-use Rattle.fields.specs.Block.{blk, put, log_block_at, page_block_at, medium_length, cache_length}
+use Rattle.fields.specs.Block.{blk, put, log_block_at, page_block_at, area_block_at, medium_length, cache_length}
 use Rattle.layout.specs.Journal.{Record}
 use Rattle.layout.specs.Page.{page_end}
 use Rattle.layout.specs.Table.{table_pair}
 use Rattle.fields.proofs.BlockLaws.{length_put, blk_same, blk_other}
 use Rattle.fields.proofs.CellLaws.{Each}
-use Rattle.layout.proofs.PlaceLaws.{log_page_apart, page_blocks_apart, page_block_low}
+use Rattle.layout.proofs.PlaceLaws.{log_page_apart, page_blocks_apart, page_block_low, page_block_high}
 use Rattle.layout.proofs.SlotLaws.{SlotSized}
 use Rattle.layout.proofs.TableLaws.{table_pair_other}
 use Rattle.store.specs.declared.State.{State}
@@ -32,6 +32,7 @@ use Rattle.agreement.proofs.history.VersionLaws.{near}
 use Rattle.agreement.proofs.invariant.MediumFacts.{match_sized}
 use Rattle.agreement.proofs.invariant.Invariant.{Firsts, Pending, Up, Inv, running}
 use Rattle.agreement.proofs.invariant.StoredFacts.{version_marked}
+use Rattle.agreement.proofs.invariant.AreaFacts.{area_front}
 use Rattle.agreement.proofs.invariant.PlaceSet.{phase_map, table_same, covered_same, living_same}
 use Rattle.agreement.proofs.stores.SettleLaws.{opens_kept, covered_kept}
 use Rattle.agreement.proofs.stores.StampLaws.{Turned, page_turned}
@@ -76,7 +77,7 @@ firsts_cleared {d} {vs} {on} {o} {q} {first} f p h = record {
     lacks' i a (inl e) z = absurd (omega (arith, rw e at z, get_or-set_same first p 0 0 (omega (arith, f.size))))
     lacks' i a (inr e) z = rw (on_other on p (full (length vs) p) i e) (f.lacks i a (rw (get_or-set_other first p i 0 0 e) at z))
 
-module _ {l d : ℕ} {m c : List ℕ} {s : State} {b : Book} {disk : Disk} {closed : List (List Record)} {tail : List Record} (u : Up l d m c s b disk closed tail) where
+module _ {l d a : ℕ} {m c : List ℕ} {s : State} {b : Book} {disk : Disk} {closed : List (List Record)} {tail : List Record} (u : Up l d a m c s b disk closed tail) where
   abbrev pub history : List (List Record)
   history = closed ++ (tail ∷ [])
 
@@ -91,7 +92,7 @@ module _ {l d : ℕ} {m c : List ℕ} {s : State} {b : Book} {disk : Disk} {clos
             let lt : 15 * p + x < length (versions_of history) = omega (arith, e) in
             let z : page_end (blk c p) ≡ (at (versions_of history) (15 * p + x)).end =
             ap page_end (u.cache.pages p inside ∙ ap (λ (y : ℕ). page_with (versions_of history) disk.cells p y) e)
-            ∙ end_page (versions_of history) disk.cells p (suc x) (omega (arith, near d history u.medium.log.shape.sound (15 * p + x) lt, u.medium.log.shape.top)) in
+            ∙ end_page (versions_of history) disk.cells p (suc x) (omega (arith, near d a history u.medium.log.shape.sound (15 * p + x) lt, u.medium.log.shape.top)) in
             omega (arith, version_marked u.medium u.state.mark (15 * p + x) lt (omega (arith, z, ended)))
 
     abbrev pub page : List ℕ
@@ -113,7 +114,7 @@ module _ {l d : ℕ} {m c : List ℕ} {s : State} {b : Book} {disk : Disk} {clos
     on = on_with disk.on p (full N p)
 
     abbrev pub new_disk : Disk
-    new_disk = record { oldest = disk.oldest; next = disk.next; time = disk.time; stored = disk.stored; cells = turned.cells; on = on }
+    new_disk = record { oldest = disk.oldest; next = disk.next; time = disk.time; stored = disk.stored; cells = turned.cells; on = on; area = disk.area }
 
     sized : Each SlotSized turned.cells
     sized = match_sized u.medium turned.cells turned.size turned.match
@@ -124,6 +125,11 @@ module _ {l d : ℕ} {m c : List ℕ} {s : State} {b : Book} {disk : Disk} {clos
     within : 512 * place + 512 ≤ length m
     unfolding page_block_at medium_length
     within = omega (arith, u.medium.sizes.size)
+
+    -- pages lie in front of the user lines
+    before : place < area_block_at l d 0
+    unfolding area_block_at
+    before = omega (arith, page_block_high l d p inside)
 
     within_cache : 512 * p + 512 ≤ length c
     unfolding cache_length
@@ -165,7 +171,7 @@ module _ {l d : ℕ} {m c : List ℕ} {s : State} {b : Book} {disk : Disk} {clos
         go (inl e) z = absurd (omega (arith, rw e at z, get_or-set_same s.first p 0 0 (omega (arith, u.firsts.size, u.medium.sizes.range.pages_high))))
         go (inr e) z = get_or-set_other s.first p q 0 0 e
 
-    pub page_up : Up l d new_medium (put c p page) (page_stored s p (blk c p)) b new_disk closed tail
+    pub page_up : Up l d a new_medium (put c p page) (page_stored s p (blk c p)) b new_disk closed tail
     unfolding page_stored
     page_up = record {
       medium = record {
@@ -192,6 +198,7 @@ module _ {l d : ℕ} {m c : List ℕ} {s : State} {b : Book} {disk : Disk} {clos
           kept = λ n h z. u.medium.pages.kept n h (absent n h z).1;
           plain = λ n h z. turned.off n (absent n h z).0 ∙ u.medium.pages.plain n h (absent n h z).1;
         };
+        area = area_front place page page_length before u.medium.area;
         table = table_same m new_medium pairs u.medium.table;
         numbers = u.medium.numbers;
       };
@@ -203,6 +210,7 @@ module _ {l d : ℕ} {m c : List ℕ} {s : State} {b : Book} {disk : Disk} {clos
       phase = phase_map s.phase d m new_medium disk new_disk (commits_of history) (commits_of history) s.places (settled s (blk c p)) s.first (set s.first p 0) (length closed) (length closed) goes_on u.phase;
       rows = u.rows;
       stored = u.stored;
+      area = u.area;
     }
       where
         goes_on : (o t n : ℕ) → n ≤ 64 → Pending d m disk (commits_of history) s.places s.first (length closed) o t n
@@ -213,12 +221,15 @@ module _ {l d : ℕ} {m c : List ℕ} {s : State} {b : Book} {disk : Disk} {clos
           pages = λ i a z. let e = cleared i z in omega (arith, e, q.pages i a (omega (arith, e)));
           early = q.early;
           late = q.late;
+          space = q.space;
+          some = q.some;
+          lined = q.lined;
           covered = covered_same m new_medium pairs (commits_of history) (settled s (blk c p)) o n h
               (covered_kept m (commits_of history) s.places (settled s (blk c p)) o n h turned.kept q.covered);
         }
 
-  pub page_stored_law : (p : ℕ) → Passed (store_page_asks s m c p) → Inv l d (after (store_page_if none s m c p)) b
+  pub page_stored_law : (p : ℕ) → Passed (store_page_asks s m c p) → Inv l d a (after (store_page_if none s m c p)) b
   unfolding store_page_if
-  page_stored_law p a =
-      subst (λ (x : ℕ). Inv l d (up (put m (page_block_at x p) (stamped_page s (blk c p))) (put c p (stamped_page s (blk c p))) (page_stored s p (blk c p))) b) (sym u.state.blocks)
-      (running (page_up p (omega (arith, ltb-true p s.pages a.1.0, u.state.pages)) (leb-true (page_end (blk c p)) s.end.0 a.1.1.0)))
+  page_stored_law p q =
+      subst (λ (x : ℕ). Inv l d a (up (put m (page_block_at x p) (stamped_page s (blk c p))) (put c p (stamped_page s (blk c p))) (page_stored s p (blk c p))) b) (sym u.state.blocks)
+      (running (page_up p (omega (arith, ltb-true p s.pages q.1.0, u.state.pages)) (leb-true (page_end (blk c p)) s.end.0 q.1.1.0)))

@@ -6,13 +6,14 @@ use native.Mathlib.Omega.{arith}
 use mathlib.Core.Bool.{Bool, true, false, cond}
 use mathlib.Core.List.{List, [], ◌∷◌, ◌++◌}
 use mathlib.Core.Logic.{◌⊎◌, inl, inr, ◌≢◌}
-use mathlib.Core.Path.{◌≡◌, refl, sym, ap, ◌∙◌}
+use mathlib.Core.Path.{◌≡◌, refl, sym, ap, ◌∙◌, subst}
 use lib.Dec.{leb}
 use lib.ListN.{length, get_or}
 use borrow.Author.Tests.{leb-true, leb-false}
-use Rattle.fields.specs.Block.{log_block_at, page_block_at, put}
+use Rattle.fields.specs.Block.{log_block_at, page_block_at, area_block_at, put}
 use Rattle.layout.specs.Journal.{Record}
 use Rattle.fields.proofs.BlockLaws.{length_put, blk_other}
+use Rattle.fields.proofs.CellLaws.{Each}
 use Rattle.layout.proofs.PlaceLaws.{log_not_first, page_not_first, first_in_medium}
 use Rattle.layout.specs.Table.{table_pair}
 use Rattle.layout.specs.declared.item.Pair.{Pair}
@@ -35,7 +36,8 @@ use Rattle.agreement.proofs.history.VersionLaws.{near_commits}
 use Rattle.agreement.proofs.invariant.MediumFacts.{last_high}
 use Rattle.agreement.proofs.invariant.StoredFacts.{commit_closed}
 use Rattle.agreement.proofs.invariant.PlaceFacts.{life_low}
-use Rattle.agreement.proofs.invariant.Invariant.{life_num, life_time, life_end, Formed, num_at, time_at, table_num, table_time, TableOn, OnMedium, Covered, Living, PhaseIs, Up}
+use Rattle.agreement.proofs.invariant.AreaFacts.{not_both, area_front}
+use Rattle.agreement.proofs.invariant.Invariant.{life_num, life_time, life_end, Formed, num_at, time_at, table_num, table_time, Unlined, Lined, TableOn, OnMedium, Covered, Living, PhaseIs, Up}
 
 -- ---- a table block
 
@@ -59,8 +61,9 @@ tabled o (Committed n t e) f = go (leb e.0 (512 * o)) refl
     go true q = some refl refl f.1 (leb-true _ _ q)
     go false q = none refl refl (λ z w. omega (arith, leb-false e.0 (512 * o) q))
 
-module _ {l d : ℕ} {m c : List ℕ} {s : State} {b : Book} {disk : Disk} {closed : List (List Record)} {tail : List Record} (u : Up l d m c s b disk closed tail)
-    (t : ℕ) (two : t < 2) (o : ℕ) (above : disk.oldest ≤ o) (below : o ≤ length closed) where
+module _ {l d a : ℕ} {m c : List ℕ} {s : State} {b : Book} {disk : Disk} {closed : List (List Record)} {tail : List Record} (u : Up l d a m c s b disk closed tail)
+    (t : ℕ) (two : t < 2) (o : ℕ) (above : disk.oldest ≤ o) (below : o ≤ length closed)
+    (lined : Each (λ (x : LoggedCommit). x.seq < o → Lined disk.area x.time) (commits_of (closed ++ (tail ∷ [])))) where
   abbrev cs : List LoggedCommit
   cs = commits_of (closed ++ (tail ∷ []))
 
@@ -75,7 +78,7 @@ module _ {l d : ℕ} {m c : List ℕ} {s : State} {b : Book} {disk : Disk} {clos
   length_new = rw (length_pairs, length_pairs_from)
 
   inside : 512 * (1 + t) + 512 ≤ length m
-  inside = rw u.medium.sizes.size (first_in_medium l d (1 + t) (omega arith))
+  inside = rw u.medium.sizes.size (first_in_medium l d a (1 + t) (omega arith))
 
   -- a commit lies below block o just if its end place does
   ends_near : (i : ℕ) → i < 64 → 0 < time_at s.places i → (life_end (place_at s.places i).life ≤ 512 * o → (find cs (num_at s.places i)).seq < o) × ((find cs (num_at s.places i)).seq < o → life_end (place_at s.places i).life ≤ 512 * o)
@@ -84,7 +87,7 @@ module _ {l d : ℕ} {m c : List ℕ} {s : State} {b : Book} {disk : Disk} {clos
       near_find : (512 * (find cs (num_at s.places i)).seq + 10 < (find cs (num_at s.places i)).end) × ((find cs (num_at s.places i)).end ≤ 512 * (find cs (num_at s.places i)).seq + 512) × ((find cs (num_at s.places i)).seq < length (closed ++ (tail ∷ [])))
       near_find =
           find_each (num_at s.places i) (λ (x : LoggedCommit). (512 * x.seq + 10 < x.end) × (x.end ≤ 512 * x.seq + 512) × (x.seq < length (closed ++ (tail ∷ [])))) cs
-          (near_commits d (closed ++ (tail ∷ [])) u.medium.log.shape.sound) (omega (arith, (u.living.each i h).over z))
+          (near_commits d a (closed ++ (tail ∷ [])) u.medium.log.shape.sound) (omega (arith, (u.living.each i h).over z))
 
       go : (life_end (place_at s.places i).life ≡ (find cs (num_at s.places i)).end) ⊎ ((life_end (place_at s.places i).life ≡ 0) × ((find cs (num_at s.places i)).seq < disk.oldest))
           → (life_end (place_at s.places i).life ≤ 512 * o → (find cs (num_at s.places i)).seq < o) × ((find cs (num_at s.places i)).seq < o → life_end (place_at s.places i).life ≤ 512 * o)
@@ -132,18 +135,26 @@ module _ {l d : ℕ} {m c : List ℕ} {s : State} {b : Book} {disk : Disk} {clos
       go (inl e) = by e (tabled o (place_at s.places i).life (u.living.each i h).formed)
       go (inr e) = old e (ap (λ (p : Pair). p.number.0) (pair_old i h e)) (ap (λ (p : Pair). p.time.0) (pair_old i h e))
 
-  -- a live pair of the old table is at its number's place, and a filled place's number is live
-  live_at : (i : ℕ) → i < 64 → 0 < time_at s.places i → 0 < count (num_at s.places i) disk.cells
-  live_at i h z = omega (arith, (u.living.each i h).busy z, (u.living.each i h).waits (num_low i h z))
-    where
-      num_low : (i : ℕ) → i < 64 → 0 < time_at s.places i → 0 < num_at s.places i
-      num_low i h z = life_low (place_at s.places i).life (u.living.each i h).formed z
+  -- the line of a commit below block o is on the medium
+  line_on : (i : ℕ) → i < 64 → 0 < time_at s.places i → (find cs (num_at s.places i)).seq < o → Lined disk.area (time_at s.places i)
+  line_on i h z f =
+      let e = (u.living.each i h).over z in
+      subst (Lined disk.area) e (find_each (num_at s.places i) (λ (x : LoggedCommit). x.seq < o → Lined disk.area x.time) cs lined (omega (arith, e)) f)
 
-  pub table_on : TableOn m' disk.stored
+  -- a live pair of the old table is at its number's place, and a filled place's number is waited for
+  live_at : (i : ℕ) → i < 64 → 0 < time_at s.places i → (find cs (num_at s.places i)).seq < o → 0 < count (num_at s.places i) disk.cells
+  live_at i h z f = go ((u.living.each i h).busy z)
+    where
+      go : (0 < (place_at s.places i).waiting) ⊎ Unlined disk.area (time_at s.places i) → 0 < count (num_at s.places i) disk.cells
+      go (inl w) = omega (arith, (u.living.each i h).waits (life_low (place_at s.places i).life (u.living.each i h).formed z))
+      go (inr w) = absurd (not_both disk.area (time_at s.places i) w (line_on i h z f))
+
+  pub table_on : TableOn m' disk.area disk.stored
   table_on = record {
     pair = λ i h. pair' i h (case i h);
     vacant = λ i h. vacant' i h (case i h);
     apart = λ i j h g. apart' i j h g (case i h) (case j g);
+    lined = λ i h. lined' i h (case i h);
   }
     where
       pair' : (i : ℕ) → i < 64 → Case i → 0 < table_num m' i → (0 < table_time m' i) × ((find (commits_of disk.stored) (table_num m' i)).time ≡ table_time m' i)
@@ -158,20 +169,30 @@ module _ {l d : ℕ} {m c : List ℕ} {s : State} {b : Book} {disk : Disk} {clos
       vacant' i h (vacated e a q f) z = q
       vacant' i h (filled e a q y f) z = absurd (omega (arith, life_low (place_at s.places i).life (u.living.each i h).formed y))
 
-      mixed : (i j : ℕ) → i < 64 → j < 64 → 0 < time_at s.places j → 0 < table_num m i → table_num m i ≡ num_at s.places j → i ≡ j
-      mixed i j h g y z e =
-          u.living.distinct i j h g (omega (arith, u.living.home i h z (rw e (live_at j g y)))) (u.living.home i h z (rw e (live_at j g y)) ∙ e)
+      mixed : (i j : ℕ) → i < 64 → j < 64 → 0 < time_at s.places j → (find cs (num_at s.places j)).seq < o → 0 < table_num m i → table_num m i ≡ num_at s.places j → i ≡ j
+      mixed i j h g y f z e =
+          u.living.distinct i j h g (omega (arith, u.living.home i h z (rw e (live_at j g y f)))) (u.living.home i h z (rw e (live_at j g y f)) ∙ e)
 
       apart' : (i j : ℕ) → i < 64 → j < 64 → Case i → Case j → 0 < table_num m' i → table_num m' i ≡ table_num m' j → i ≡ j
       apart' i j h g (old e a q) (old e' a' q') z w = u.medium.table.apart i j h g (omega arith) (sym a ∙ w ∙ a')
       apart' i j h g (old e a q) (vacated e' a' q' f') z w = absurd (omega arith)
-      apart' i j h g (old e a q) (filled e' a' q' y' f') z w = mixed i j h g y' (omega arith) (sym a ∙ w ∙ a')
+      apart' i j h g (old e a q) (filled e' a' q' y' f') z w = mixed i j h g y' f' (omega arith) (sym a ∙ w ∙ a')
       apart' i j h g (vacated e a q f) x z w = absurd (omega arith)
-      apart' i j h g (filled e a q y f) (old e' a' q') z w = sym (mixed j i g h y (omega arith) (sym a' ∙ sym w ∙ a))
+      apart' i j h g (filled e a q y f) (old e' a' q') z w = sym (mixed j i g h y f (omega arith) (sym a' ∙ sym w ∙ a))
       apart' i j h g (filled e a q y f) (vacated e' a' q' f') z w = absurd (omega arith)
       apart' i j h g (filled e a q y f) (filled e' a' q' y' f') z w = u.living.distinct i j h g (omega arith) (sym a ∙ w ∙ a')
 
-  pub medium_tabled : OnMedium l d m' disk (closed ++ (tail ∷ []))
+      lined' : (i : ℕ) → i < 64 → Case i → 0 < table_num m' i → Lined disk.area (table_time m' i)
+      lined' i h (old e a q) z = rw q (u.medium.table.lined i h (rw a at z))
+      lined' i h (vacated e a q f) z = absurd (omega arith)
+      lined' i h (filled e a q y f) z = rw q (line_on i h y f)
+
+  -- the table lies in front of the user lines
+  before : 1 + t < area_block_at l d 0
+  unfolding area_block_at
+  before = omega arith
+
+  pub medium_tabled : OnMedium l d a m' disk (closed ++ (tail ∷ []))
   medium_tabled = record {
     sizes = record { range = u.medium.sizes.range; size = length_put m (1 + t) new ∙ u.medium.sizes.size };
     master = record {
@@ -190,6 +211,7 @@ module _ {l d : ℕ} {m c : List ℕ} {s : State} {b : Book} {disk : Disk} {clos
       kept = u.medium.pages.kept;
       plain = u.medium.pages.plain;
     };
+    area = area_front (1 + t) new length_new before u.medium.area;
     table = table_on;
     numbers = u.medium.numbers;
   }
@@ -213,7 +235,7 @@ module _ {l d : ℕ} {m c : List ℕ} {s : State} {b : Book} {disk : Disk} {clos
       go (vacated n a y g) = absurd (g z q)
       go (filled n a y v w) = (a, y)
 
-  living_tabled : Living m' cs disk.cells disk.oldest s.next.0 s.places
+  living_tabled : Living m' disk.area cs disk.cells disk.oldest s.next.0 s.places
   living_tabled = record {
     size = u.living.size;
     each = u.living.each;
@@ -228,7 +250,7 @@ module _ {l d : ℕ} {m c : List ℕ} {s : State} {b : Book} {disk : Disk} {clos
       home' i h (vacated e a q f) z w = absurd (omega arith)
       home' i h (filled e a q y f) z w = sym a
 
-  pub tabled_up : (ph : Phase) → PhaseIs ph d m' disk cs s.places s.first (length closed) → Up l d m' c (with_phase s ph) b disk closed tail
+  pub tabled_up : (ph : Phase) → PhaseIs ph d m' disk cs s.places s.first (length closed) → Up l d a m' c (with_phase s ph) b disk closed tail
   unfolding with_phase
   tabled_up ph p = record {
     medium = medium_tabled;
@@ -240,4 +262,5 @@ module _ {l d : ℕ} {m c : List ℕ} {s : State} {b : Book} {disk : Disk} {clos
     phase = p;
     rows = u.rows;
     stored = u.stored;
+    area = u.area;
   }

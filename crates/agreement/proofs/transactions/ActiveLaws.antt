@@ -17,7 +17,7 @@ use Rattle.agreement.proofs.invariant.PlaceFacts.{active_found}
 use Rattle.agreement.proofs.invariant.MediumFacts.{find_stored}
 use Rattle.agreement.proofs.invariant.Invariant.{num_at, time_at, table_num, Up}
 
-module _ {l d : ℕ} {m c : List ℕ} {s : State} {b : Book} {disk : Disk} {closed : List (List Record)} {tail : List Record} (u : Up l d m c s b disk closed tail)
+module _ {l d a : ℕ} {m c : List ℕ} {s : State} {b : Book} {disk : Disk} {closed : List (List Record)} {tail : List Record} (u : Up l d a m c s b disk closed tail)
     (n i : ℕ) (f : find_active s.places n ≡ At i) where
   pub active_place : i < 64
   active_place = (active_found u.living n i f).0

@@ -79,7 +79,7 @@ free_found : (ps : List Place) (ring r : ℕ) → find_free ps ring ≡ At r →
 unfolding find_free
 free_found ps ring r e = (first_found (λ k. is_free (place_at ps (ring_place ring k)).life) 64 0 r e).2
 
-module _ {l d : ℕ} {m c : List ℕ} {s : State} {b : Book} {disk : Disk} {closed : List (List Record)} {tail : List Record} (u : Up l d m c s b disk closed tail) where
+module _ {l d a : ℕ} {m c : List ℕ} {s : State} {b : Book} {disk : Disk} {closed : List (List Record)} {tail : List Record} (u : Up l d a m c s b disk closed tail) where
   -- the next number is neither open nor in a row: all are below it
   pub not_open : is_open b.opened s.next.0 ≡ false
   not_open = closed_above b.opened s.next.0 u.opens.below
@@ -89,16 +89,17 @@ module _ {l d : ℕ} {m c : List ℕ} {s : State} {b : Book} {disk : Disk} {clos
 
   -- the place was free, so no live pair of the table is at it (home); nothing waits under the new number
   pub began : (clock i : ℕ) → clock < 2 ^ 64 → Passed (begin_asks s m c) → find_free s.places s.ring ≡ At i
-      → Inv l d (up m c (begun s (ring_place s.ring i) clock))
-      (record { opened = record { number = s.next.0; clock = clock } ∷ b.opened; rows = b.rows; stored = b.stored })
+      → Inv l d a (up m c (begun s (ring_place s.ring i) clock))
+      (record { area = b.area; opened = record { number = s.next.0; clock = clock } ∷ b.opened; rows = b.rows; stored = b.stored })
   unfolding begun clock_in is_open
   began clock r hc p f =
       let next-bound : s.next.0 < 2 ^ 64 - 1 = ltb-true s.next.0 (2 ^ 64 - 1) p.1.0 in
-      running {s = begun s i clock} {b = record { opened = record { number = s.next.0; clock = clock } ∷ b.opened; rows = b.rows; stored = b.stored }} (record {
+      running {s = begun s i clock} {b = record { area = b.area; opened = record { number = s.next.0; clock = clock } ∷ b.opened; rows = b.rows; stored = b.stored }} (record {
         medium = u.medium;
         state = record {
           blocks = u.state.blocks;
           pages = u.state.pages;
+          area = u.state.area;
           slots = u.state.slots;
           tail_block = u.state.tail_block;
           ring_low = u.state.ring_low;
@@ -112,8 +113,8 @@ module _ {l d : ℕ} {m c : List ℕ} {s : State} {b : Book} {disk : Disk} {clos
         };
         cache = u.cache;
         firsts = u.firsts;
-        living = living_set u.living m (commits_of history) disk.cells disk.oldest (s.next.0 + 1) i h new
-            (record { formed = u.state.next_low; small = omega arith; over = λ z. absurd (omega arith); place = λ z. absurd (omega arith); unended = λ z t. no_commit; waits = λ z. sym no_wait; busy = λ z. absurd (omega arith) })
+        living = living_set u.living m disk.area (commits_of history) disk.cells disk.oldest (s.next.0 + 1) i h new
+            (record { formed = u.state.next_low; small = omega arith; over = λ z. absurd (omega arith); place = λ z. absurd (omega arith); unended = λ z t. no_commit; waits = λ z. sym no_wait; busy = λ z. absurd (omega arith); who = λ z. absurd (omega arith) })
             (λ j b e. raise (u.living.each j b))
             (λ j b e z w. omega (arith, w, (u.living.each j b).small))
             (λ x w z. let (j, b, e) = u.living.all x w z in inr (j, b, (λ y. elsewhere x j z e y), e))
@@ -128,10 +129,11 @@ module _ {l d : ℕ} {m c : List ℕ} {s : State} {b : Book} {disk : Disk} {clos
           known = λ j b. known' j b (same? j i);
         };
         phase = phase_map s.phase d m m disk disk _ _ s.places (set s.places i new) s.first s.first (length closed) (length closed)
-            (λ o t x le p. record { above = p.above; below = p.below; pages = p.pages; early = p.early; late = p.late; covered = covered' o x p.covered })
+            (λ o t x le p. record { above = p.above; below = p.below; pages = p.pages; early = p.early; late = p.late; space = p.space; some = p.some; lined = p.lined; covered = covered' o x p.covered })
             u.phase;
         rows = u.rows;
         stored = u.stored;
+        area = u.area;
       })
     where
       history : List (List Record)
@@ -141,7 +143,7 @@ module _ {l d : ℕ} {m c : List ℕ} {s : State} {b : Book} {disk : Disk} {clos
       i = ring_place s.ring r
 
       new : Place
-      new = record { life = Active s.next clock; waiting = 0 }
+      new = record { life = Active s.next clock; waiting = 0; user = 0 }
 
       h : i < 64
       h = ring_below s.ring r
@@ -162,13 +164,13 @@ module _ {l d : ℕ} {m c : List ℕ} {s : State} {b : Book} {disk : Disk} {clos
           go (inl e) = e
           go (inr e) = let (j, a, q, w) = waiting_slot u.medium s.next.0 (omega arith) in absurd (omega (arith, q, no_version_law j a))
 
-      raise : {q : Place} → Lively (commits_of history) disk.cells disk.oldest s.next.0 q → Lively (commits_of history) disk.cells disk.oldest (s.next.0 + 1) q
-      raise v = record { formed = v.formed; small = omega (arith, v.small); over = v.over; place = v.place; unended = v.unended; waits = v.waits; busy = v.busy }
+      raise : {q : Place} → Lively disk.area (commits_of history) disk.cells disk.oldest s.next.0 q → Lively disk.area (commits_of history) disk.cells disk.oldest (s.next.0 + 1) q
+      raise v = record { formed = v.formed; small = omega (arith, v.small); over = v.over; place = v.place; unended = v.unended; waits = v.waits; busy = v.busy; who = v.who }
 
       -- a committed number is not 0, so it is at another place
       elsewhere : (x j : ℕ) → 0 < (find (commits_of history) x).time → num_at s.places j ≡ x → j ≡ i → ⊥
       elsewhere x j z e y =
-          let low : 1 ≤ (find (commits_of history) x).num = (find_each x CommitSound (commits_of history) (commits_sound d history u.medium.log.shape.sound) z).low in
+          let low : 1 ≤ (find (commits_of history) x).num = (find_each x CommitSound (commits_of history) (commits_sound d a history u.medium.log.shape.sound) z).low in
           let q : num_at s.places j ≡ num_at s.places i = ap (num_at s.places) y in
           omega (arith, low, find_num x (commits_of history) z, q, vacant, e)
 
@@ -198,7 +200,7 @@ module _ {l d : ℕ} {m c : List ℕ} {s : State} {b : Book} {disk : Disk} {clos
 
   -- the number has no commit, so `all` and `home` do not speak of it
   pub closes : (n i : ℕ) → find_active s.places n ≡ At i
-      → Inv l d (up m c (with_place s i free_place)) (record { opened = close b.opened n; rows = b.rows; stored = b.stored })
+      → Inv l d a (up m c (with_place s i free_place)) (record { area = b.area; opened = close b.opened n; rows = b.rows; stored = b.stored })
   unfolding with_place
   closes n i f =
       let a = active_found u.living n i f in
@@ -209,8 +211,8 @@ module _ {l d : ℕ} {m c : List ℕ} {s : State} {b : Book} {disk : Disk} {clos
         state = u.state;
         cache = u.cache;
         firsts = u.firsts;
-        living = living_set u.living m _ _ _ _ i h free_place
-            (record { formed = tt; small = u.state.next_low; over = λ z. absurd (omega arith); place = λ z. absurd (omega arith); unended = λ z. absurd (omega arith); waits = λ z. absurd (omega arith); busy = λ z. absurd (omega arith) })
+        living = living_set u.living m _ _ _ _ _ i h free_place
+            (record { formed = tt; small = u.state.next_low; over = λ z. absurd (omega arith); place = λ z. absurd (omega arith); unended = λ z. absurd (omega arith); waits = λ z. absurd (omega arith); busy = λ z. absurd (omega arith); who = λ z. absurd (omega arith) })
             (λ j b e. u.living.each j b)
             (λ j b e z. absurd (omega arith))
             (λ x w z. let (j, b, e) = u.living.all x w z in inr (j, b, (λ y. omega (arith, z, lone, other x e y)), e))
@@ -225,10 +227,11 @@ module _ {l d : ℕ} {m c : List ℕ} {s : State} {b : Book} {disk : Disk} {clos
           known = λ j b. known' i a.2 h j b (same? j i);
         };
         phase = phase_map s.phase d m m disk disk _ _ s.places (set s.places i free_place) s.first s.first (length closed) (length closed)
-            (λ o t x le p. record { above = p.above; below = p.below; pages = p.pages; early = p.early; late = p.late; covered = covered' i u.living.size h o x p.covered })
+            (λ o t x le p. record { above = p.above; below = p.below; pages = p.pages; early = p.early; late = p.late; space = p.space; some = p.some; lined = p.lined; covered = covered' i u.living.size h o x p.covered })
             u.phase;
         rows = u.rows;
         stored = u.stored;
+        area = u.area;
       })
     where
       other : (x : ℕ) {j : ℕ} → num_at s.places j ≡ x → j ≡ i → (find (commits_of (closed ++ (tail ∷ []))) n).time ≡ (find (commits_of (closed ++ (tail ∷ []))) x).time

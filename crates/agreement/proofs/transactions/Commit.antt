@@ -1,41 +1,45 @@
 -- Commit of a number with versions: a running store goes on to the book with one commit row more. The log grows by the
 -- commit; only the number's own place and its commit change, and its versions all wait, so the table and the slots stay
 -- as they are.
-use Prim.Native.Nat.{ℕ, ◌-◌, ◌^◌, ◌≤◌, ◌<◌}
+use Prim.Native.Nat.{ℕ, ◌+◌, ◌-◌, ◌^◌, ◌≤◌, ◌<◌}
 use native.Mathlib.Omega.{arith}
-use mathlib.Core.Bool.{true, false}
+use mathlib.Core.Bool.{Bool, true, false, cond}
 use mathlib.Core.List.{List, [], ◌∷◌, ◌++◌}
 use mathlib.Core.Logic.{◌⊎◌, inl, inr, ◌≢◌}
-use mathlib.Core.Path.{◌≡◌, refl, sym, ap, ◌∙◌}
+use mathlib.Core.Path.{◌≡◌, refl, sym, ap, ◌∙◌, subst}
 use lib.Dec.{eqb, ltb}
 use lib.ListN.{length, set}
 use borrow.Author.Tests.{eqb-true, eqb-false, ltb-true}
 use Rattle.layout.specs.Journal.{Record, commit, record_form, record_size}
+use Rattle.layout.specs.Item.{user_bytes_of}
 use Rattle.layout.specs.declared.CommitTime.{CommitTime}
+use Rattle.layout.specs.declared.item.Form.{Form}
+use Rattle.layout.specs.declared.item.Form.TheVariants.{Plain, Signed}
 use Rattle.fields.proofs.CellLaws.{each_append}
 use Rattle.store.specs.declared.Place.{Place}
 use Rattle.store.specs.Tail.{Logged, logged, may_log, tail_end}
 use Rattle.store.specs.OpenLog.{Placed, number_in}
-use Rattle.store.specs.Commit.{commit_asks, commit_time, commit_step, committed as committed_state}
+use Rattle.store.specs.Commit.{form_of, user_given as user_stored, new_commit, commit_asks, commit_time, commit_step, committed as committed_state}
 use Rattle.store.specs.declared.Found.TheVariants.{At}
 use Rattle.store.specs.declared.State.{State}
+use Rattle.store.specs.Answer.{Outcome}
 use Rattle.store.specs.Places.{find_active, place_at, clock_of}
 use Rattle.store.specs.declared.Life.{Life}
 use Rattle.store.specs.declared.Life.TheVariants.{Free, Active, Committed}
 use Rattle.store.proofs.AskLaws.{Passed}
-use Rattle.runs.specs.Book.{Book, Row, committed, add, close, has_row, is_open, clock_of as clock_in, commit_time as row_time}
+use Rattle.runs.specs.Book.{Book, Row, committed, user_given, add, close, has_row, is_open, clock_of as clock_in, commit_time as row_time}
 use Rattle.runs.specs.Machine.{after, log_changed}
 use Rattle.agreement.proofs.logging.Growth.{num_stays, time_stays, recent, with_log, Grows, grows}
-use Rattle.agreement.proofs.history.Ghost.{Sound, versions_of, commits_of, records, at, LoggedCommit, find, last_of, count, rows_in, Disk}
+use Rattle.agreement.proofs.history.Ghost.{Sound, versions_of, commits_of, records, at, LoggedCommit, no_commit, commits_in, find, last_of, count, rows_in, Disk}
 use Rattle.agreement.proofs.history.ListLaws.{same?}
 use Rattle.agreement.proofs.history.VersionLaws.{commits_append}
 use Rattle.agreement.proofs.history.CommitLaws.{rising_above, last_append}
 use Rattle.agreement.proofs.history.RowLaws.{version_row, rowless, rows_append, length_rows}
-use Rattle.agreement.proofs.invariant.MediumFacts.{waiting_slot, counted}
+use Rattle.agreement.proofs.invariant.MediumFacts.{waiting_slot, counted, commits_split}
 use Rattle.agreement.proofs.reads.Sights.{last_is}
 use Rattle.agreement.proofs.transactions.ActiveLaws.{active_place, active_low, active_num, active_time, active_next, active_high, active_waits, uncommitted, elsewhere, all_wait, alone}
-use Rattle.agreement.proofs.invariant.Invariant.{life_clock, num_at, time_at, table_num, Covered, Lively, Living, Opens, Pending, Up, Inv, running}
-use Rattle.agreement.proofs.logging.GrowthLaws.{old_versions, new_com, find_new, find_old}
+use Rattle.agreement.proofs.invariant.Invariant.{life_clock, num_at, time_at, table_num, Covered, Wanted, Lined, Roomy, Lively, Living, Opens, Pending, Up, Inv, running}
+use Rattle.agreement.proofs.logging.GrowthLaws.{old_versions, new_com, find_new, find_old, snoc_each, area_blocks}
 use Rattle.agreement.proofs.invariant.PlaceSet.{place_at_same, place_at_other, covered_set, living_set, phase_map}
 use Rattle.agreement.proofs.transactions.BeginAbort.{clock_close, open_close, below_close}
 use Rattle.agreement.proofs.logging.Grown.{grow_commit}
@@ -45,7 +49,7 @@ clock_is Free = refl
 clock_is (Active n k) = refl
 clock_is (Committed n t e) = refl
 
-module _ {l d : ℕ} {m c : List ℕ} {s : State} {b : Book} {disk : Disk} {closed : List (List Record)} {tail : List Record} (u : Up l d m c s b disk closed tail) where
+module _ {l d a : ℕ} {m c : List ℕ} {s : State} {b : Book} {disk : Disk} {closed : List (List Record)} {tail : List Record} (u : Up l d a m c s b disk closed tail) where
   -- an active number has rows just if versions wait in its place: its versions all wait, since it has no commit
   pub some_row : (n i : ℕ) → find_active s.places n ≡ At i → eqb (place_at s.places i).waiting 0 ≡ false → has_row b.rows n ≡ true
   some_row n i f w =
@@ -69,24 +73,33 @@ module _ {l d : ℕ} {m c : List ℕ} {s : State} {b : Book} {disk : Disk} {clos
       ∙ ap (clock_in b.opened) (active_num u n i f) in
       omega (arith, a, last_is u)
 
+-- the user recorded fits the record's form
+user_fits : (x user : ℕ) → user < 2 ^ 32 → user_stored x user < 256 ^ user_bytes_of (form_of x)
+unfolding user_stored form_of user_bytes_of
+user_fits x user h = go (eqb x 0)
+  where
+    go : (t : Bool) → cond t 0 user < 256 ^ user_bytes_of (cond t Plain Signed)
+    go true = omega arith
+    go false = omega arith
+
 -- ---- the commit record is taken: g is how the log grows by it, e its end place
 
-module _ {l d : ℕ} {m c : List ℕ} {s : State} {b : Book} {disk : Disk} {closed : List (List Record)} {tail : List Record} (u : Up l d m c s b disk closed tail)
-    (n i : ℕ) (f : find_active s.places n ≡ At i) (t : CommitTime) (late : s.last.0 < t.0) (some : eqb (place_at s.places i).waiting 0 ≡ false)
-    (lg : Logged) (g : Grows l d m disk closed tail (commit (record { number = record { 0 = n }; time = t })) lg) where
+module _ {l d a : ℕ} {m c : List ℕ} {s : State} {b : Book} {disk : Disk} {closed : List (List Record)} {tail : List Record} (u : Up l d a m c s b disk closed tail)
+    (n i : ℕ) (f : find_active s.places n ≡ At i) (form : Form) (t : CommitTime) (user : ℕ) (late : s.last.0 < t.0) (some : eqb (place_at s.places i).waiting 0 ≡ false)
+    (lg : Logged) (g : Grows l d a m disk closed tail (commit (record { form = form; number = record { 0 = n }; time = t; user = user })) lg) where
   -- the commit, and the place committed
   me : LoggedCommit
-  me = record { seq = length g.closed'; end = (tail_end lg.tail).0; num = n; time = t.0 }
+  me = record { seq = length g.closed'; end = (tail_end lg.tail).0; num = n; time = t.0; user = user }
 
   ended : Place
-  ended = record { life = Committed (record { 0 = n }) t (tail_end lg.tail); waiting = (place_at s.places i).waiting }
+  ended = record { life = Committed (record { 0 = n }) t (tail_end lg.tail); waiting = (place_at s.places i).waiting; user = user }
 
   old_vs : versions_of (g.closed' ++ (g.tail' ∷ [])) ≡ versions_of (closed ++ (tail ∷ []))
-  old_vs = old_versions (g.closed' ++ (g.tail' ∷ [])) (records (closed ++ (tail ∷ []))) _ g.grown (record { number = record { 0 = n }; time = t }) refl
+  old_vs = old_versions (g.closed' ++ (g.tail' ∷ [])) (records (closed ++ (tail ∷ []))) _ g.grown (record { form = form; number = record { 0 = n }; time = t; user = user }) refl
 
   new_cs : commits_of (g.closed' ++ (g.tail' ∷ [])) ≡ commits_of (closed ++ (tail ∷ [])) ++ (me ∷ [])
   unfolding me
-  new_cs = new_com (g.closed' ++ (g.tail' ∷ [])) (records (closed ++ (tail ∷ []))) _ g.grown (record { number = record { 0 = n }; time = t }) refl
+  new_cs = new_com (g.closed' ++ (g.tail' ∷ [])) (records (closed ++ (tail ∷ []))) _ g.grown (record { form = form; number = record { 0 = n }; time = t; user = user }) refl
 
   found_new : find (commits_of (closed ++ (tail ∷ [])) ++ (me ∷ [])) n ≡ me
   unfolding me
@@ -104,10 +117,10 @@ module _ {l d : ℕ} {m c : List ℕ} {s : State} {b : Book} {disk : Disk} {clos
       (λ z w. absurd (omega (arith, h, ap (λ (y : LoggedCommit). y.seq) found_new, w)))
       (λ j a e. rw (found_old (num_at s.places j) (elsewhere u n i f j (omega arith) e), num_stays g j (omega arith), time_stays g j (omega arith)) (p j a))
 
-  living' : Living lg.medium (commits_of (closed ++ (tail ∷ [])) ++ (me ∷ [])) disk.cells disk.oldest s.next.0 (set s.places i ended)
+  living' : Living lg.medium disk.area (commits_of (closed ++ (tail ∷ [])) ++ (me ∷ [])) disk.cells disk.oldest s.next.0 (set s.places i ended)
   unfolding ended me
   living' =
-      living_set u.living lg.medium (commits_of (closed ++ (tail ∷ [])) ++ (me ∷ [])) disk.cells disk.oldest s.next.0 i (active_place u n i f) ended
+      living_set u.living lg.medium disk.area (commits_of (closed ++ (tail ∷ [])) ++ (me ∷ [])) disk.cells disk.oldest s.next.0 i (active_place u n i f) ended
       (record {
         formed = (active_low u n i f, omega arith);
         small = active_next u n i f;
@@ -115,7 +128,8 @@ module _ {l d : ℕ} {m c : List ℕ} {s : State} {b : Book} {disk : Disk} {clos
         place = λ z. inl (sym (ap (λ (y : LoggedCommit). y.end) found_new));
         unended = λ z w. absurd (omega arith);
         waits = λ z. active_waits u n i f;
-        busy = λ z. omega (arith, eqb-false (place_at s.places i).waiting 0 some);
+        busy = λ z. inl (omega (arith, eqb-false (place_at s.places i).waiting 0 some));
+        who = λ z w. sym (ap (λ (y : LoggedCommit). y.user) found_new);
       })
       (λ j h e. other j h (found_old (num_at s.places j) (elsewhere u n i f j h e)) (u.living.each j h))
       (λ j h e z. elsewhere u n i f j h e)
@@ -125,8 +139,8 @@ module _ {l d : ℕ} {m c : List ℕ} {s : State} {b : Book} {disk : Disk} {clos
       (λ j h e. home' j h)
     where
       other : (j : ℕ) → j < 64 → find (commits_of (closed ++ (tail ∷ [])) ++ (me ∷ [])) (num_at s.places j) ≡ find (commits_of (closed ++ (tail ∷ []))) (num_at s.places j)
-          → Lively (commits_of (closed ++ (tail ∷ []))) disk.cells disk.oldest s.next.0 (place_at s.places j)
-          → Lively (commits_of (closed ++ (tail ∷ [])) ++ (me ∷ [])) disk.cells disk.oldest s.next.0 (place_at s.places j)
+          → Lively disk.area (commits_of (closed ++ (tail ∷ []))) disk.cells disk.oldest s.next.0 (place_at s.places j)
+          → Lively disk.area (commits_of (closed ++ (tail ∷ [])) ++ (me ∷ [])) disk.cells disk.oldest s.next.0 (place_at s.places j)
       other j h q y = record {
         formed = y.formed;
         small = y.small;
@@ -135,13 +149,14 @@ module _ {l d : ℕ} {m c : List ℕ} {s : State} {b : Book} {disk : Disk} {clos
         unended = rw q y.unended;
         waits = y.waits;
         busy = y.busy;
+        who = rw q y.who;
       }
 
-      all' : (x : ℕ) → 0 < count x disk.cells → 0 < (find (commits_of (closed ++ (tail ∷ [])) ++ (me ∷ [])) x).time → (x ≡ n) ⊎ (x ≢ n)
+      all' : (x : ℕ) → Wanted disk.area (commits_of (closed ++ (tail ∷ [])) ++ (me ∷ [])) disk.cells x → 0 < (find (commits_of (closed ++ (tail ∷ [])) ++ (me ∷ [])) x).time → (x ≡ n) ⊎ (x ≢ n)
           → (n ≡ x) ⊎ ((j : ℕ) × (j < 64) × (j ≢ i) × (num_at s.places j ≡ x))
       all' x a z (inl e) = inl (sym e)
       all' x a z (inr e) =
-          let (j, h, q) = u.living.all x a (rw (found_old x e) at z) in
+          let (j, h, q) = u.living.all x (rw (found_old x e) at a) (rw (found_old x e) at z) in
           inr (j, h, (λ w. e (sym q ∙ ap (λ (y : ℕ). num_at s.places y) w ∙ active_num u n i f)), q)
 
       home' : (j : ℕ) → j < 64 → 0 < table_num lg.medium j → 0 < count (table_num lg.medium j) disk.cells → num_at s.places j ≡ table_num lg.medium j
@@ -193,17 +208,22 @@ module _ {l d : ℕ} {m c : List ℕ} {s : State} {b : Book} {disk : Disk} {clos
     pages = p.pages;
     early = each_append (λ (z : LoggedCommit). z.seq < o → z.time ≤ y) (commits_of (closed ++ (tail ∷ []))) (me ∷ []) p.early ((λ a. absurd (omega (arith, p.below, g.below))), tt);
     late = rw (g.longer, commits_append, last_append) (omega (arith, p.late));
+    some = p.some;
+    space = snoc_each no_commit (λ j z. z.time ≤ y → Roomy disk.area x j) (commits_of (closed ++ (tail ∷ []))) me p.space
+        (λ w z. absurd (omega (arith, p.late, u.state.last, ap last_of (commits_split u.medium), last_append (commits_of disk.stored) (commits_in u.medium.log.shape.rest))));
+    lined = λ z. each_append (λ (w : LoggedCommit). w.seq < o → Lined disk.area w.time) (commits_of (closed ++ (tail ∷ []))) (me ∷ []) (p.lined z) ((λ a. absurd (omega (arith, p.below, g.below))), tt);
     covered = covered' o x le (omega (arith, p.below, g.below)) p.covered;
   }
 
-  commit_up : Up l d lg.medium c (committed_state s i n t lg) (add b (committed n t.0) (log_changed l m lg.medium) (close b.opened n)) (with_log disk g.stored') g.closed' g.tail'
+  commit_up : Up l d a lg.medium c (committed_state s i (record { form = form; number = record { 0 = n }; time = t; user = user }) lg) (add b (committed n t.0 user) (log_changed l m lg.medium) (close b.opened n)) (with_log disk g.stored') g.closed' g.tail'
   unfolding committed_state add ended me rows_in last_of
   commit_up = record {
-    medium = grow_commit g.medium _ g.grown g.sound g.top g.front (recent u g) (record { number = record { 0 = n }; time = t }) refl
+    medium = grow_commit g.medium _ g.grown g.sound g.top g.front (recent u g) (record { form = form; number = record { 0 = n }; time = t; user = user }) refl
         (omega (arith, u.state.last)) (uncommitted u n i f) (alone u n i f);
     state = record {
       blocks = u.state.blocks;
       pages = u.state.pages;
+      area = u.state.area;
       slots = rw old_vs u.state.slots;
       tail_block = g.tail_block;
       ring_low = (recent u g);
@@ -223,32 +243,38 @@ module _ {l d : ℕ} {m c : List ℕ} {s : State} {b : Book} {disk : Disk} {clos
         s.places (set s.places i ended) s.first s.first (length closed) (length g.closed') goes_on u.phase);
     rows = rw (g.grown, rows_append, u.rows);
     stored = rw (u.stored, u.rows, length_rows) g.rows;
+    area = u.area;
   }
 
-module _ {l d : ℕ} {m c : List ℕ} {s : State} {b : Book} {disk : Disk} {closed : List (List Record)} {tail : List Record} (u : Up l d m c s b disk closed tail) where
+module _ {l d a : ℕ} {m c : List ℕ} {s : State} {b : Book} {disk : Disk} {closed : List (List Record)} {tail : List Record} (u : Up l d a m c s b disk closed tail) where
   -- the record that the call takes is sound: its time is above the last one, and below 2^64 by the questions
-  pub taken : (n clock i : ℕ) → clock < 2 ^ 64 → find_active s.places n ≡ At i → s.last.0 < 2 ^ 64 - 1
-      → Sound d (commit (record { number = record { 0 = n }; time = commit_time s i clock }))
-  unfolding commit_time record_form
-  taken n clock i h f a = record {
+  pub taken : (n clock user i : ℕ) → clock < 2 ^ 64 → user < 2 ^ 32 → find_active s.places n ≡ At i → s.last.0 < 2 ^ 64 - 1
+      → Sound d a (commit (new_commit s n (commit_time s i clock) user))
+  unfolding new_commit commit_time record_form
+  taken n clock user i h k f last = record {
     sized = record {
       number = omega (arith, active_high u n i f);
       time = omega (arith, u.opens.short i (active_place u n i f), clock_is (place_at s.places i).life);
+      user = user_fits s.area.blocks user k;
     };
     form = refl;
     low = active_low u n i f;
     high = active_high u n i f;
     placeable = omega arith;
+    signed = ap form_of (area_blocks u);
   }
 
-  pub committed_up : (n clock i : ℕ) → clock < 2 ^ 64 → Passed (commit_asks s m c n) → find_active s.places n ≡ At i
+  pub committed_up : (n clock user i : ℕ) → clock < 2 ^ 64 → user < 2 ^ 32 → Passed (commit_asks s m c n) → find_active s.places n ≡ At i
       → eqb (place_at s.places i).waiting 0 ≡ false
-      → Inv l d (after (commit_step s m c i n (commit_time s i clock)))
-      (add b (committed n (commit_time s i clock).0) (log_changed l m (commit_step s m c i n (commit_time s i clock)).medium) (close b.opened n))
-  unfolding commit_step commit_time record_size
-  committed_up n clock i h p f w =
-      let a : ltb s.last.0 (2 ^ 64 - 1) ≡ true = rw (f, w) at p.1.1.0 in
-      let may : may_log s m 19 ≡ true = rw (f, w) at p.1.1.1.0 in
-      let r : Record = commit (record { number = record { 0 = n }; time = commit_time s i clock }) in
-      running (commit_up u n i f (commit_time s i clock) (omega arith) w (logged s m r)
-      (grows u r (taken n clock i h f (ltb-true s.last.0 (2 ^ 64 - 1) a)) may))
+      → Inv l d a (after (commit_step s m c i (new_commit s n (commit_time s i clock) user)))
+      (add b (committed n (commit_time s i clock).0 (user_given b.area user)) (log_changed l m (commit_step s m c i (new_commit s n (commit_time s i clock) user)).medium) (close b.opened n))
+  unfolding commit_step new_commit user_stored user_given commit_time record_size
+  committed_up n clock user i h k p f w =
+      let last : ltb s.last.0 (2 ^ 64 - 1) ≡ true = rw (f, w) at p.1.1.0 in
+      let may : may_log s m (19 + user_bytes_of (form_of s.area.blocks)) ≡ true = rw (f, w) at p.1.1.1.0 in
+      let o : Outcome = commit_step s m c i (new_commit s n (commit_time s i clock) user) in
+      subst (λ (x : ℕ). Inv l d a (after o) (add b (committed n (commit_time s i clock).0 (user_given x user)) (log_changed l m o.medium) (close b.opened n)))
+      (area_blocks u ∙ sym u.area)
+      (running (commit_up u n i f (form_of s.area.blocks) (commit_time s i clock) (user_stored s.area.blocks user) (omega arith) w
+      (logged s m (commit (new_commit s n (commit_time s i clock) user)))
+      (grows u (commit (new_commit s n (commit_time s i clock) user)) (taken n clock user i h k f (ltb-true s.last.0 (2 ^ 64 - 1) last)) may)))

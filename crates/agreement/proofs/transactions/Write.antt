@@ -44,7 +44,7 @@ use Rattle.agreement.proofs.invariant.MediumFacts.{key_below, cells_sized, fewer
 use Rattle.agreement.proofs.transactions.ActiveLaws.{active_place, active_low, active_num, active_next, active_high, active_waits, uncommitted, elsewhere, unpaired}
 use Rattle.agreement.proofs.transactions.WriteLaws.{count_other, count_same, touch_low, firsts_more, cache_more, newest_is, not_held}
 use Rattle.agreement.proofs.invariant.PlaceSet.{place_at_same, place_at_other, living_set, phase_map}
-use Rattle.agreement.proofs.invariant.Invariant.{num_at, time_at, table_num, Covered, OnMedium, CacheIs, Firsts, Lively, Living, Opens, Pending, Up, Inv, running}
+use Rattle.agreement.proofs.invariant.Invariant.{num_at, time_at, table_num, Covered, Wanted, OnMedium, CacheIs, Firsts, Lively, Living, Opens, Pending, Up, Inv, running}
 use Rattle.agreement.proofs.logging.GrowthLaws.{new_ver, old_commits}
 use Rattle.agreement.proofs.logging.Grown.{with_cell, grow_version}
 
@@ -55,10 +55,10 @@ head_as width s c n key kind =
 
 -- ---- the version record is taken: g is how the log grows by it
 
-module _ {l d : ℕ} {m c : List ℕ} {s : State} {b : Book} {disk : Disk} {closed : List (List Record)} {tail : List Record} (u : Up l d m c s b disk closed tail)
+module _ {l d a : ℕ} {m c : List ℕ} {s : State} {b : Book} {disk : Disk} {closed : List (List Record)} {tail : List Record} (u : Up l d a m c s b disk closed tail)
     (n i : ℕ) (f : find_active s.places n ≡ At i) (width : Width) (key kind earlier : ℕ) (v : List ℕ) (room : s.slots < 15 * d)
     (chained : earlier ≡ or_none (newest c key s.slots)) (free : held c s.places s.slots key n ≡ false)
-    (lg : Logged) (g : Grows l d m disk closed tail (version_record (record { width = width; slot = s.slots; key = key; kind = kind; earlier = earlier; number = record { 0 = n } }) v) lg) where
+    (lg : Logged) (g : Grows l d a m disk closed tail (version_record (record { width = width; slot = s.slots; key = key; kind = kind; earlier = earlier; number = record { 0 = n } }) v) lg) where
   head : VersionHead
   head = record { width = width; slot = s.slots; key = key; kind = kind; earlier = earlier; number = record { 0 = n } }
 
@@ -89,10 +89,10 @@ module _ {l d : ℕ} {m c : List ℕ} {s : State} {b : Book} {disk : Disk} {clos
   covered' : (o x : ℕ) → x ≤ 64 → Covered m (commits_of (closed ++ (tail ∷ []))) s.places o x → Covered lg.medium (commits_of (closed ++ (tail ∷ []))) (set s.places i mine) o x
   covered' o x le p j a = rw (life_stays j, num_stays g j (omega arith), time_stays g j (omega arith)) (p j a)
 
-  living' : Living lg.medium (commits_of (closed ++ (tail ∷ []))) (disk.cells ++ (waiting_cell me ∷ [])) disk.oldest s.next.0 (set s.places i mine)
+  living' : Living lg.medium disk.area (commits_of (closed ++ (tail ∷ []))) (disk.cells ++ (waiting_cell me ∷ [])) disk.oldest s.next.0 (set s.places i mine)
   unfolding mine raised me
   living' =
-      living_set u.living lg.medium (commits_of (closed ++ (tail ∷ []))) (disk.cells ++ (waiting_cell me ∷ [])) disk.oldest s.next.0 i (active_place u n i f) mine
+      living_set u.living lg.medium disk.area (commits_of (closed ++ (tail ∷ []))) (disk.cells ++ (waiting_cell me ∷ [])) disk.oldest s.next.0 i (active_place u n i f) mine
       (record {
         formed = own.formed;
         small = own.small;
@@ -101,7 +101,8 @@ module _ {l d : ℕ} {m c : List ℕ} {s : State} {b : Book} {disk : Disk} {clos
         unended = own.unended;
         waits = λ z. rw (active_num u n i f, count_same me disk.cells, active_waits u n i f)
             (omega (arith, count_small n disk.cells, u.medium.pages.slots.count, u.medium.pages.slots.room, u.medium.sizes.range.pages_high));
-        busy = λ z. omega arith;
+        busy = λ z. inl (omega arith);
+        who = own.who;
       })
       (λ j h e. other j h (elsewhere u n i f j h e) (u.living.each j h))
       (λ j h e z q. elsewhere u n i f j h e (q ∙ active_num u n i f))
@@ -110,11 +111,11 @@ module _ {l d : ℕ} {m c : List ℕ} {s : State} {b : Book} {disk : Disk} {clos
       (home' i (active_place u n i f))
       (λ j h e. home' j h)
     where
-      own : Lively (commits_of (closed ++ (tail ∷ []))) disk.cells disk.oldest s.next.0 (place_at s.places i)
+      own : Lively disk.area (commits_of (closed ++ (tail ∷ []))) disk.cells disk.oldest s.next.0 (place_at s.places i)
       own = u.living.each i (active_place u n i f)
 
-      other : (j : ℕ) → j < 64 → num_at s.places j ≢ n → Lively (commits_of (closed ++ (tail ∷ []))) disk.cells disk.oldest s.next.0 (place_at s.places j)
-          → Lively (commits_of (closed ++ (tail ∷ []))) (disk.cells ++ (waiting_cell me ∷ [])) disk.oldest s.next.0 (place_at s.places j)
+      other : (j : ℕ) → j < 64 → num_at s.places j ≢ n → Lively disk.area (commits_of (closed ++ (tail ∷ []))) disk.cells disk.oldest s.next.0 (place_at s.places j)
+          → Lively disk.area (commits_of (closed ++ (tail ∷ []))) (disk.cells ++ (waiting_cell me ∷ [])) disk.oldest s.next.0 (place_at s.places j)
       other j h q y = record {
         formed = y.formed;
         small = y.small;
@@ -123,9 +124,10 @@ module _ {l d : ℕ} {m c : List ℕ} {s : State} {b : Book} {disk : Disk} {clos
         unended = y.unended;
         waits = λ z. y.waits z ∙ sym (count_other (num_at s.places j) me disk.cells q);
         busy = y.busy;
+        who = y.who;
       }
 
-      all' : (x : ℕ) → 0 < count x (disk.cells ++ (waiting_cell me ∷ [])) → 0 < (find (commits_of (closed ++ (tail ∷ []))) x).time → (x ≡ n) ⊎ (x ≢ n)
+      all' : (x : ℕ) → Wanted disk.area (commits_of (closed ++ (tail ∷ []))) (disk.cells ++ (waiting_cell me ∷ [])) x → 0 < (find (commits_of (closed ++ (tail ∷ []))) x).time → (x ≡ n) ⊎ (x ≢ n)
           → (num_at s.places i ≡ x) ⊎ ((j : ℕ) × (j < 64) × (j ≢ i) × (num_at s.places j ≡ x))
       all' x a z (inl e) = inl (active_num u n i f ∙ sym e)
       all' x a z (inr e) =
@@ -171,6 +173,9 @@ module _ {l d : ℕ} {m c : List ℕ} {s : State} {b : Book} {disk : Disk} {clos
     pages = touch_low d s.first (s.slots / 15) (sequence_of lg.tail) (omega (arith, u.firsts.size, u.medium.sizes.range.pages_high)) o p.pages (omega (arith, tail_is, p.below, g.below));
     early = p.early;
     late = rw (g.longer, commits_append, last_append) (omega (arith, p.late));
+    space = p.space;
+    some = p.some;
+    lined = p.lined;
     covered = covered' o x le p.covered;
   }
 
@@ -178,15 +183,15 @@ module _ {l d : ℕ} {m c : List ℕ} {s : State} {b : Book} {disk : Disk} {clos
   next_missing : disk.on (length (versions_of (closed ++ (tail ∷ []))) / 15) ≤ length (versions_of (closed ++ (tail ∷ []))) % 15
   next_missing = omega (arith, (u.medium.pages.few (length (versions_of (closed ++ (tail ∷ []))) / 15)).1, fewer_stored u.medium)
 
-  medium' : OnMedium l d lg.medium (with_cell (with_log disk g.stored') (waiting_cell me)) (g.closed' ++ (g.tail' ∷ []))
+  medium' : OnMedium l d a lg.medium (with_cell (with_log disk g.stored') (waiting_cell me)) (g.closed' ++ (g.tail' ∷ []))
   unfolding head me
   medium' =
-      subst (λ (y : Cell). OnMedium l d lg.medium (with_cell (with_log disk g.stored') y) (g.closed' ++ (g.tail' ∷ [])))
+      subst (λ (y : Cell). OnMedium l d a lg.medium (with_cell (with_log disk g.stored') y) (g.closed' ++ (g.tail' ∷ [])))
       (ap (λ (vs : List LoggedVersion). waiting_cell (at vs (length (versions_of (closed ++ (tail ∷ [])))))) new_vs ∙ ap waiting_cell (get_or-append_seam (versions_of (closed ++ (tail ∷ []))) me [] no_version))
       (grow_version g.medium _ g.grown g.sound g.top g.front (recent u g) head v refl u.state.slots (omega (arith, u.state.slots))
       (chained ∙ ap or_none (newest_is u key)) (uncommitted u n i f))
 
-  write_up : Up l d lg.medium (put_version c s.slots (tail_end lg.tail).0 (waiting_cell me)) (written s i lg)
+  write_up : Up l d a lg.medium (put_version c s.slots (tail_end lg.tail).0 (waiting_cell me)) (written s i lg)
       (add b (version (record { number = n; key = key; kind = kind; value = v })) (log_changed l m lg.medium) b.opened)
       (with_cell (with_log disk g.stored') (waiting_cell me)) g.closed' g.tail'
   unfolding written add mine me rows_in
@@ -195,6 +200,7 @@ module _ {l d : ℕ} {m c : List ℕ} {s : State} {b : Book} {disk : Disk} {clos
     state = record {
       blocks = u.state.blocks;
       pages = u.state.pages;
+      area = u.state.area;
       slots = rw (new_vs, length-append) (omega (arith, u.state.slots));
       tail_block = g.tail_block;
       ring_low = (recent u g);
@@ -217,9 +223,10 @@ module _ {l d : ℕ} {m c : List ℕ} {s : State} {b : Book} {disk : Disk} {clos
         s.places (set s.places i mine) s.first (touched s.first (page_of s.slots) (sequence_of lg.tail)) (length closed) (length g.closed') goes_on u.phase);
     rows = rw (g.grown, rows_append, u.rows);
     stored = rw (u.stored, u.rows, length_rows) g.rows;
+    area = u.area;
   }
 
-module _ {l d : ℕ} {m c : List ℕ} {s : State} {b : Book} {disk : Disk} {closed : List (List Record)} {tail : List Record} (u : Up l d m c s b disk closed tail) where
+module _ {l d a : ℕ} {m c : List ℕ} {s : State} {b : Book} {disk : Disk} {closed : List (List Record)} {tail : List Record} (u : Up l d a m c s b disk closed tail) where
   -- the slot answered is the version's row
   pub slot_row : s.slots ≡ length (versions b.rows)
   slot_row = u.state.slots
@@ -239,7 +246,7 @@ module _ {l d : ℕ} {m c : List ℕ} {s : State} {b : Book} {disk : Disk} {clos
 
   -- the record that the call takes is sound by the questions and the types
   pub taken : (width : Width) (n key kind i : ℕ) (v : List ℕ) → key < 256 ^ bytes_of width → key_form key ≡ true → kind < 2 → length v ≡ 16 → Bytes v → kind_form kind v ≡ true
-      → find_active s.places n ≡ At i → s.slots < 15 * d → Sound d (version_record (head_as width s c n key kind) v)
+      → find_active s.places n ≡ At i → s.slots < 15 * d → Sound d a (version_record (head_as width s c n key kind) v)
   unfolding record_form
   taken width n key kind i v hk low hd size bytes form f room = record {
     sized = record {
@@ -255,12 +262,13 @@ module _ {l d : ℕ} {m c : List ℕ} {s : State} {b : Book} {disk : Disk} {clos
     low = active_low u n i f;
     high = active_high u n i f;
     placeable = room;
+    signed = tt;
   }
 
   -- under either tag
   pub wrote_as : (width : Width) (n key kind i : ℕ) (v : List ℕ) → key < 256 ^ bytes_of width → key_form key ≡ true → kind < 2 → length v ≡ 16 → Bytes v → kind_form kind v ≡ true
       → find_active s.places n ≡ At i → not (held c s.places s.slots key n) ≡ true → ltb s.slots (15 * s.pages) ≡ true → may_log s m (32 + bytes_of width) ≡ true
-      → Inv l d (after (write_step s m c i (head_as width s c n key kind) v))
+      → Inv l d a (after (write_step s m c i (head_as width s c n key kind) v))
       (add b (version (record { number = n; key = key; kind = kind; value = v }))
       (log_changed l m (write_step s m c i (head_as width s c n key kind) v).medium) b.opened)
   unfolding write_step cell_for record_size me
@@ -272,7 +280,7 @@ module _ {l d : ℕ} {m c : List ℕ} {s : State} {b : Book} {disk : Disk} {clos
 
   pub wrote : (n key kind i : ℕ) (v : List ℕ) → kind < 2 → length v ≡ 16 → Bytes v → kind_form kind v ≡ true
       → Passed (write_asks s m c n key) → find_active s.places n ≡ At i
-      → Inv l d (after (write_step s m c i (new_head s c n key kind) v))
+      → Inv l d a (after (write_step s m c i (new_head s c n key kind) v))
       (add b (version (record { number = n; key = key; kind = kind; value = v }))
       (log_changed l m (write_step s m c i (new_head s c n key kind) v).medium) b.opened)
   unfolding new_head bytes_of

@@ -100,7 +100,7 @@ cache_more d c vs cs w y cache same room sized = record {
 
 -- ---- who may write a record
 
-module _ {l d : ℕ} {m c : List ℕ} {s : State} {b : Book} {disk : Disk} {closed : List (List Record)} {tail : List Record} (u : Up l d m c s b disk closed tail) where
+module _ {l d a : ℕ} {m c : List ℕ} {s : State} {b : Book} {disk : Disk} {closed : List (List Record)} {tail : List Record} (u : Up l d a m c s b disk closed tail) where
   -- the newest version of a record as the cache has it
   pub newest_is : (key : ℕ) → newest c key s.slots ≡ newest_of (versions_of (closed ++ (tail ∷ []))) key (length (versions_of (closed ++ (tail ∷ []))))
   newest_is key = ap (newest c key) u.state.slots ∙ newest_cached u.medium u.cache key (length (versions_of (closed ++ (tail ∷ [])))) (omega arith)

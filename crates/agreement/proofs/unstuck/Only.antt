@@ -2,7 +2,7 @@
 -- transaction that is begun, writes and commits later finds each of them left at the start.
 use Prim.Native.Nat.{ℕ, ◌+◌, ◌-◌, ◌*◌, ◌^◌, ◌≤◌, ◌<◌}
 use native.Mathlib.Omega.{arith}
-use mathlib.Core.Path.{◌≡◌, refl, subst}
+use mathlib.Core.Path.{◌≡◌, refl, ap, subst}
 use mathlib.Core.Bool.{true, false, ◌||◌}
 use mathlib.Core.Option.{Option}
 use mathlib.Core.List.{List, [], ◌∷◌}
@@ -10,13 +10,13 @@ use lib.ListN.{length}
 use lib.Dec.{eqb, ltb}
 use borrow.Author.Tests.{ltb-true}
 use Rattle.fields.specs.Block.{zeros, end_place}
-use Rattle.layout.specs.Item.{bytes_of}
+use Rattle.layout.specs.Item.{bytes_of, user_bytes_of}
+use Rattle.layout.proofs.RecordLaws.{user_few}
 use Rattle.layout.specs.Journal.{Record, record_size}
 use Rattle.layout.specs.Journal.{version as version_record, commit as commit_record}
 use Rattle.fields.proofs.Choose.{and_0, and_1}
 use Rattle.store.specs.declared.Found.{Found}
 use Rattle.store.specs.declared.Found.TheVariants.{At}
-use Rattle.store.specs.declared.Phase.TheVariants.{Idle, FirstStored, SecondStored}
 use Rattle.store.specs.declared.Refusal.{Refusal}
 use Rattle.store.specs.declared.State.{State}
 use Rattle.store.specs.Answer.{Outcome, answer_number}
@@ -25,10 +25,10 @@ use Rattle.store.specs.State.{with_place, with_phase}
 use Rattle.store.specs.Tail.{tail_end, Logged, logged}
 use Rattle.store.specs.Begin.{begin_asks, begun, begin_if, begin_of}
 use Rattle.store.specs.Write.{write_asks, new_head, write_step, written, write_at, write_if, add_of, write_of}
-use Rattle.store.specs.Commit.{commit_asks, commit_time, commit_step, committed, commit_at, commit_if, commit_of, no_versions}
+use Rattle.store.specs.Commit.{form_of, commit_asks, commit_time, new_commit, commit_step, committed, commit_at, commit_if, commit_of, no_versions}
 use Rattle.store.specs.StoreLog.{log_stored, store_log_if}
 use Rattle.store.specs.StorePage.{page_stored, store_page_if}
-use Rattle.store.specs.Checkpoint.{checkpoint_step}
+use Rattle.store.specs.Checkpoint.{store_table, lines_stored, checkpoint_step}
 use Rattle.store.proofs.FitLaws.{TailFit, fit_of}
 use Rattle.runs.specs.Event.{Call, call, begin, write, commit, call_typed, typed}
 use Rattle.runs.specs.Book.{Book, blank}
@@ -36,12 +36,12 @@ use Rattle.runs.specs.Machine.{World, up, called, seen_of, step, is_run, trace, 
 use Rattle.runs.specs.Moments.{world_after, book_at}
 use Rattle.runs.specs.Relief.{AllAccepted}
 use Rattle.runs.specs.Unstuck.{transaction, Left, events_of, OnlyThen}
-use Rattle.runs.proofs.Asks.{asked, found, Way, refused, begins, writes, erases, looks, commits, ends, aborts, logs, pages, checks, way}
+use Rattle.runs.proofs.Asks.{asked, found, Way, refused, begins, writes, erases, looks, commits, ends, aborts, logs, pages, lines, firsts, seconds, thirds, way}
 use Rattle.agreement.proofs.history.Ghost.{Disk}
 use Rattle.agreement.proofs.invariant.Invariant.{Up, Inv, running}
 use Rattle.agreement.proofs.transactions.ActiveLaws.{active_place}
 use Rattle.agreement.proofs.reads.ReadFacts.{positive}
-use Rattle.agreement.proofs.logging.GrowthLaws.{fits_up}
+use Rattle.agreement.proofs.logging.GrowthLaws.{area_blocks, fits_up}
 use Rattle.agreement.proofs.plain.Runs.{run_append, inv_after, started}
 use Rattle.agreement.proofs.unstuck.Log.{takes, takes_end, has_version}
 use Rattle.agreement.proofs.unstuck.Places.{Standing, stands, called_on}
@@ -56,7 +56,7 @@ pub record Onward (s t : State) : Type 0 where
 onward_then : (r s t : State) → Onward r s → Onward s t → Onward r t
 onward_then r s t a b = record { next = omega (arith, a.next, b.next); slots = omega (arith, a.slots, b.slots); last = omega (arith, a.last, b.last); log = omega (arith, a.log, b.log) }
 
-module _ {l d : ℕ} {m c : List ℕ} {s : State} {b : Book} {disk : Disk} {closed : List (List Record)} {tail : List Record} (u : Up l d m c s b disk closed tail) where
+module _ {l d a : ℕ} {m c : List ℕ} {s : State} {b : Book} {disk : Disk} {closed : List (List Record)} {tail : List Record} (u : Up l d a m c s b disk closed tail) where
   fit : TailFit s.tail
   fit = (fit_of s (length m) (length c) (fits_up u)).tail
 
@@ -68,25 +68,26 @@ module _ {l d : ℕ} {m c : List ℕ} {s : State} {b : Book} {disk : Disk} {clos
   still = record { next = omega arith; slots = omega arith; last = omega arith; log = omega arith }
 
   onward : {x : Call} {o : Outcome} → Way m c s x o → Onward s o.state
-  unfolding begun write_step written commit_step committed commit_time with_place with_phase store_log_if log_stored store_page_if page_stored checkpoint_step record_size new_head bytes_of
+  unfolding begun write_step written commit_step committed new_commit commit_time with_place with_phase store_log_if log_stored store_page_if page_stored lines_stored store_table checkpoint_step record_size new_head bytes_of
   onward (refused x r w) = still
   onward (begins clock i p w) = record { next = omega arith; slots = omega arith; last = omega arith; log = omega arith }
   onward (writes n key i v p w) = record { next = omega arith; slots = omega arith; last = omega arith; log = omega (arith, moves (version_record (new_head s c n key 0) v) (omega arith)) }
   onward (erases n key i p w) = record { next = omega arith; slots = omega arith; last = omega arith; log = omega (arith, moves (version_record (new_head s c n key 1) (zeros 16)) (omega arith)) }
   onward (looks x a v y r p n w) = still
-  onward (commits n clock i p w z) = record {
+  onward (commits n clock user i p w z) = record {
     next = omega arith;
     slots = omega arith;
     last = omega arith;
-    log = omega (arith, moves (commit_record (record { number = record { 0 = n }; time = commit_time s i clock })) (omega arith));
+    log = omega (arith, moves (commit_record (new_commit s n (commit_time s i clock) user)) (omega (arith, user_few (form_of s.area.blocks))));
   }
-  onward (ends n clock i p w z) = record { next = omega arith; slots = omega arith; last = omega arith; log = omega arith }
+  onward (ends n clock user i p w z) = record { next = omega arith; slots = omega arith; last = omega arith; log = omega arith }
   onward (aborts n i p w) = record { next = omega arith; slots = omega arith; last = omega arith; log = omega arith }
   onward (logs p) = record { next = omega arith; slots = omega arith; last = omega arith; log = omega arith }
   onward (pages n p) = record { next = omega arith; slots = omega arith; last = omega arith; log = omega arith }
-  onward (checks Idle p w) = record { next = omega arith; slots = omega arith; last = omega arith; log = omega arith }
-  onward (checks (FirstStored o t) p w) = record { next = omega arith; slots = omega arith; last = omega arith; log = omega arith }
-  onward (checks (SecondStored o t) p w) = record { next = omega arith; slots = omega arith; last = omega arith; log = omega arith }
+  onward (lines o t p w z) = record { next = omega arith; slots = omega arith; last = omega arith; log = omega arith }
+  onward (firsts o t p w z) = record { next = omega arith; slots = omega arith; last = omega arith; log = omega arith }
+  onward (seconds o t p w) = record { next = omega arith; slots = omega arith; last = omega arith; log = omega arith }
+  onward (thirds o t p w) = record { next = omega arith; slots = omega arith; last = omega arith; log = omega arith }
 
   -- ---- what a call that is done needs
 
@@ -113,21 +114,22 @@ module _ {l d : ℕ} {m c : List ℕ} {s : State} {b : Book} {disk : Disk} {clos
           (omega (arith, u.state.pages), moves (version_record (new_head s c n key 0) v) (omega arith), has_version s u.living.size n i f (active_place u n i f) g)
 
   abbrev Ended : Outcome → Type 0
-  Ended o = (s.last.0 < 2 ^ 64 - 1) × ((tail_end s.tail).0 + 19 ≤ (tail_end o.state.tail).0)
+  Ended o = (s.last.0 < 2 ^ 64 - 1) × ((tail_end s.tail).0 + (19 + user_bytes_of (form_of a)) ≤ (tail_end o.state.tail).0)
 
-  commit_needs : (n clock : ℕ) → no_versions (find_active s.places n) s ≡ false → answer_number (called m c s (commit n clock)).answer ≡ 0 → Ended (called m c s (commit n clock))
-  unfolding called commit_of commit_if commit_step committed answer_number record_size
-  commit_needs n clock waits =
-      asked (λ (a : Option Refusal). answer_number (commit_if a s m c n clock).answer ≡ 0 → Ended (commit_if a s m c n clock)) (commit_asks s m c n)
+  commit_needs : (n clock user : ℕ) → no_versions (find_active s.places n) s ≡ false → answer_number (called m c s (commit n clock user)).answer ≡ 0 → Ended (called m c s (commit n clock user))
+  unfolding called commit_of commit_if commit_step committed new_commit answer_number record_size
+  commit_needs n clock user waits =
+      asked (λ (y : Option Refusal). answer_number (commit_if y s m c n clock user).answer ≡ 0 → Ended (commit_if y s m c n clock user)) (commit_asks s m c n)
       (λ r e z. absurd (omega (arith, positive r)))
-      (λ p. found (λ (f : Found). answer_number (commit_at f s m c n clock).answer ≡ 0 → Ended (commit_at f s m c n clock)) (find_active s.places n) p.1.0
+      (λ p. found (λ (f : Found). answer_number (commit_at f s m c n clock user).answer ≡ 0 → Ended (commit_at f s m c n clock user)) (find_active s.places n) p.1.0
       (λ i f z. by i f p.1.1.0))
     where
-      by : (i : ℕ) → find_active s.places n ≡ At i → no_versions (find_active s.places n) s || ltb s.last.0 (2 ^ 64 - 1) ≡ true → Ended (commit_at (At i) s m c n clock)
+      by : (i : ℕ) → find_active s.places n ≡ At i → no_versions (find_active s.places n) s || ltb s.last.0 (2 ^ 64 - 1) ≡ true → Ended (commit_at (At i) s m c n clock user)
       by i f h =
           let g : eqb (place_at s.places i).waiting 0 ≡ false = rw f at waits in
           let t : ltb s.last.0 (2 ^ 64 - 1) ≡ true = rw waits at h in
-          rw g (ltb-true s.last.0 (2 ^ 64 - 1) t, moves (commit_record (record { number = record { 0 = n }; time = commit_time s i clock })) (omega arith))
+          let q : form_of s.area.blocks ≡ form_of a = ap form_of (area_blocks u) in
+          rw g (ltb-true s.last.0 (2 ^ 64 - 1) t, omega (arith, ap user_bytes_of q, moves (commit_record (new_commit s n (commit_time s i clock) user)) (omega (arith, user_few (form_of s.area.blocks)))))
 
   -- the log ends below 512 × 2^48
   log_high : (tail_end s.tail).0 ≤ 512 * 2 ^ 48
@@ -136,63 +138,63 @@ module _ {l d : ℕ} {m c : List ℕ} {s : State} {b : Book} {disk : Disk} {clos
 
 -- ---- calls one after the other
 
-module _ (l d : ℕ) (r : State) where
+module _ (l d a : ℕ) (r : State) where
   abbrev Later : World → Type 0
-  Later w = Standing l d (λ m s. Onward r s) w
+  Later w = Standing l d a (λ m s. Onward r s) w
 
-  went : (m c : List ℕ) (s : State) (b : Book) (disk : Disk) (closed : List (List Record)) (tail : List Record) → Up l d m c s b disk closed tail → Onward r s → (x : Call) → call_typed x ≡ true
-      → Later (step l d (up m c s) (call x)).world
+  went : (m c : List ℕ) (s : State) (b : Book) (disk : Disk) (closed : List (List Record)) (tail : List Record) → Up l d a m c s b disk closed tail → Onward r s → (x : Call) → call_typed x ≡ true
+      → Later (step l d a (up m c s) (call x)).world
   went m c s b disk closed tail u o x t =
-      called_on l d (λ m s. Onward r s) m c s b (running u) x t (called m c s x) refl (onward_then r s (called m c s x).state o (onward u (way m c s x)))
+      called_on l d a (λ m s. Onward r s) m c s b (running u) x t (called m c s x) refl (onward_then r s (called m c s x).state o (onward u (way m c s x)))
 
-  walks : (ks : List Call) (w : World) → is_run l d w (events_of ks) ≡ true → Later w → Later (world_after l d w (events_of ks))
+  walks : (ks : List Call) (w : World) → is_run l d a w (events_of ks) ≡ true → Later w → Later (world_after l d a w (events_of ks))
   unfolding is_run world_after events_of typed
   walks [] w h q = q
-  walks (x ∷ ks) w h (stands m c s b disk closed tail u o) = walks ks (step l d (up m c s) (call x)).world (and_1 (call_typed x) _ h) (went m c s b disk closed tail u o x (and_0 (call_typed x) _ h))
+  walks (x ∷ ks) w h (stands m c s b disk closed tail u o) = walks ks (step l d a (up m c s) (call x)).world (and_1 (call_typed x) _ h) (went m c s b disk closed tail u o x (and_0 (call_typed x) _ h))
 
   -- ---- the three calls
 
-  module _ (n clock key : ℕ) (value : List ℕ) (end : ℕ) where
+  module _ (n clock key : ℕ) (value : List ℕ) (end user : ℕ) where
     -- the version is logged
     record Waits (m : List ℕ) (s : State) : Type 0 where
       last : r.last.0 ≤ s.last.0
       log : (tail_end r.tail).0 + 34 ≤ (tail_end s.tail).0
       waits : no_versions (find_active s.places n) s ≡ false
 
-    after_commit : (w : World) → Standing l d (λ m s. (tail_end r.tail).0 + 53 ≤ (tail_end s.tail).0) w → (tail_end r.tail).0 + 53 ≤ 512 * 2 ^ 48
+    after_commit : (w : World) → Standing l d a (λ m s. (tail_end r.tail).0 + (53 + user_bytes_of (form_of a)) ≤ (tail_end s.tail).0) w → (tail_end r.tail).0 + (53 + user_bytes_of (form_of a)) ≤ 512 * 2 ^ 48
     after_commit w (stands m c s b disk closed tail u p) = omega (arith, p, log_high u)
 
-    third : (w : World) → Standing l d Waits w → is_run l d w (call (commit n end) ∷ []) ≡ true → AllAccepted (trace l d w (call (commit n end) ∷ []))
-        → (r.last.0 < 2 ^ 64 - 1) × ((tail_end r.tail).0 + 53 ≤ 512 * 2 ^ 48)
+    third : (w : World) → Standing l d a Waits w → is_run l d a w (call (commit n end user) ∷ []) ≡ true → AllAccepted (trace l d a w (call (commit n end user) ∷ []))
+        → (r.last.0 < 2 ^ 64 - 1) × ((tail_end r.tail).0 + (53 + user_bytes_of (form_of a)) ≤ 512 * 2 ^ 48)
     unfolding is_run trace typed step seen_of
-    third w (stands m c s b disk closed tail u p) h a =
-        let q = commit_needs u n end p.waits a.0 in (
+    third w (stands m c s b disk closed tail u p) h k =
+        let q = commit_needs u n end user p.waits k.0 in (
           omega (arith, p.last, q),
-          after_commit _ (called_on l d (λ m s. (tail_end r.tail).0 + 53 ≤ (tail_end s.tail).0) m c s b (running u) (commit n end) (and_0 (call_typed (commit n end)) _ h) (called m c s (commit n end)) refl (omega (arith, p.log, q))),
+          after_commit _ (called_on l d a (λ m s. (tail_end r.tail).0 + (53 + user_bytes_of (form_of a)) ≤ (tail_end s.tail).0) m c s b (running u) (commit n end user) (and_0 (call_typed (commit n end user)) _ h) (called m c s (commit n end user)) refl (omega (arith, p.log, q))),
         )
 
-    second : (w : World) → Later w → is_run l d w (call (write n key value) ∷ call (commit n end) ∷ []) ≡ true → AllAccepted (trace l d w (call (write n key value) ∷ call (commit n end) ∷ []))
-        → (r.slots < 15 * d) × (r.last.0 < 2 ^ 64 - 1) × ((tail_end r.tail).0 + 53 ≤ 512 * 2 ^ 48)
+    second : (w : World) → Later w → is_run l d a w (call (write n key value) ∷ call (commit n end user) ∷ []) ≡ true → AllAccepted (trace l d a w (call (write n key value) ∷ call (commit n end user) ∷ []))
+        → (r.slots < 15 * d) × (r.last.0 < 2 ^ 64 - 1) × ((tail_end r.tail).0 + (53 + user_bytes_of (form_of a)) ≤ 512 * 2 ^ 48)
     unfolding is_run trace typed step seen_of
-    second w (stands m c s b disk closed tail u o) h a =
-        let q = write_needs u n key value a.0 in
-        let t = third _ (called_on l d Waits m c s b (running u) (write n key value) (and_0 (call_typed (write n key value)) _ h) (called m c s (write n key value)) refl
-        (record { last = omega (arith, o.last, (onward u (way m c s (write n key value))).last); log = omega (arith, o.log, q); waits = q.2 })) (and_1 (call_typed (write n key value)) _ h) a.1 in
+    second w (stands m c s b disk closed tail u o) h k =
+        let q = write_needs u n key value k.0 in
+        let t = third _ (called_on l d a Waits m c s b (running u) (write n key value) (and_0 (call_typed (write n key value)) _ h) (called m c s (write n key value)) refl
+        (record { last = omega (arith, o.last, (onward u (way m c s (write n key value))).last); log = omega (arith, o.log, q); waits = q.2 })) (and_1 (call_typed (write n key value)) _ h) k.1 in
         (omega (arith, o.slots, q), t.0, t.1)
 
-    first : (w : World) → Later w → is_run l d w (transaction n clock key value end) ≡ true → AllAccepted (trace l d w (transaction n clock key value end)) → Left d r
+    first : (w : World) → Later w → is_run l d a w (transaction n clock key value end user) ≡ true → AllAccepted (trace l d a w (transaction n clock key value end user)) → Left d a r
     unfolding is_run trace typed step seen_of
-    first w (stands m c s b disk closed tail u o) h a =
-        let q = begin_needs u clock a.0 in
-        let t = second _ (went m c s b disk closed tail u o (begin clock) (and_0 (call_typed (begin clock)) _ h)) (and_1 (call_typed (begin clock)) _ h) a.1 in
+    first w (stands m c s b disk closed tail u o) h k =
+        let q = begin_needs u clock k.0 in
+        let t = second _ (went m c s b disk closed tail u o (begin clock) (and_0 (call_typed (begin clock)) _ h)) (and_1 (call_typed (begin clock)) _ h) k.1 in
         record { numbers = omega (arith, o.next, q); slots = t.0; times = t.1; log = t.2 }
 
 pub only_then : OnlyThen
 unfolding OnlyThen
-only_then l d es m c s r e ks n clock key value end q a =
-    go (subst (λ (w : World). Inv l d w (book_at l d es)) e (inv_after l d es (formatted l d) blank (started r) r.run))
+only_then l d a es m c s r e ks n clock key value end user q k =
+    go (subst (λ (w : World). Inv l d a w (book_at l d a es)) e (inv_after l d a es (formatted l d a) (blank a) (started r) r.run))
   where
-    go : {b : Book} → Inv l d (up m c s) b → Left d s
+    go : {b : Book} → Inv l d a (up m c s) b → Left d a s
     go (running {b = b} {disk = disk} {closed = closed} {tail = tail} u) =
-        let p = run_append l d (events_of ks) (transaction n clock key value end) (up m c s) q in
-        first l d s n clock key value end (world_after l d (up m c s) (events_of ks)) (walks l d s ks (up m c s) p.0 (stands m c s b disk closed tail u (still u))) p.1 a
+        let p = run_append l d a (events_of ks) (transaction n clock key value end user) (up m c s) q in
+        first l d a s n clock key value end user (world_after l d a (up m c s) (events_of ks)) (walks l d a s ks (up m c s) p.0 (stands m c s b disk closed tail u (still u))) p.1 k

@@ -29,15 +29,17 @@ use Rattle.runs.specs.Book.{Book}
 use Rattle.runs.specs.Machine.{World, up, called, seen_of, step}
 use Rattle.runs.specs.Unstuck.{aborts_of}
 use Rattle.runs.specs.Unstuck.{abort_of as end_of}
-use Rattle.agreement.proofs.history.Ghost.{commits_of, find, Disk}
+use Rattle.agreement.proofs.history.Ghost.{LoggedCommit, commits_of, find, Disk}
 use Rattle.agreement.proofs.history.ListLaws.{same?}
-use Rattle.agreement.proofs.invariant.Invariant.{life_num, life_time, Formed, num_at, time_at, Up, Inv, running}
+use Rattle.agreement.proofs.invariant.Invariant.{life_num, life_time, Formed, Unlined, num_at, time_at, Up, Inv, running}
 use Rattle.agreement.proofs.invariant.MediumFacts.{waiting_slot}
 use Rattle.agreement.proofs.invariant.PlaceFacts.{active_finds, life_low}
 use Rattle.agreement.proofs.transactions.ActiveLaws.{active_high}
 use Rattle.agreement.proofs.invariant.PlaceSet.{place_at_same, place_at_other}
 use Rattle.agreement.proofs.logging.GrowthLaws.{fits_up}
-use Rattle.agreement.proofs.relief.Calls.{Freed}
+use Rattle.agreement.proofs.relief.Calls.{Freed, Sealed}
+use Rattle.agreement.proofs.stores.LineStore.{cs, last_is, few_all, state_lines}
+use Rattle.agreement.proofs.invariant.AreaFacts.{find_at, line_below}
 use Rattle.agreement.proofs.relief.Again.{active_there}
 use Rattle.agreement.proofs.relief.Leads.{Leads, leads_none, leads_call}
 use Rattle.agreement.proofs.Main.{keeps}
@@ -50,15 +52,35 @@ left (Committed n t e) = Free
 
 -- ---- no committed one is live
 
-module _ {l d : ℕ} {m c n a : List ℕ} {s t : State} {b b' : Book} {disk disk' : Disk} {closed : List (List Record)} {tail : List Record}
-    (u : Up l d m c s b disk closed tail) (w : Up l d n a t b' disk' closed tail) (f : Freed l d closed tail s disk' n t) where
+module _ {l d a : ℕ} {m c n c' : List ℕ} {s t : State} {b b' : Book} {disk disk' : Disk} {closed : List (List Record)} {tail : List Record}
+    (u : Up l d a m c s b disk closed tail) (w : Up l d a n c' t b' disk' closed tail) (x : Sealed l d a closed tail s disk' n t) where
+  f : Freed l d closed tail s disk' n t
+  f = x.freed
+
+  -- every commit has its line
+  none_missing : (time : ℕ) → Unlined disk'.area time → (v : ℕ) → 0 < (find (cs w) v).time → (find (cs w) v).time ≡ time → ⊥
+  none_missing time y v z e =
+      let (i, h, q) = find_at v (cs w) z in
+      let g : disk'.area.lines ≡ length (cs w) = sym (state_lines w) ∙ x.lined (omega (arith, y.0, w.medium.area.blocks)) in
+      omega (
+        arith,
+        y.1,
+        last_is w,
+        line_below (cs w) w.medium.numbers.rising disk'.area.lines i (few_all w) (omega (arith, g)),
+        ap (λ (k : LoggedCommit). k.time) q,
+      )
+
   not_committed : (i : ℕ) → i < 64 → 0 < time_at t.places i → ⊥
-  not_committed i h z =
-      let x = w.living.each i h in
-      let low : 0 < num_at t.places i = life_low (place_at t.places i).life x.formed z in
-      let (y, lt, num, cell-is) = waiting_slot w.medium (num_at t.places i) (omega (arith, x.busy z, x.waits low)) in
-      let q : (find (commits_of (closed ++ (tail ∷ []))) (num_at t.places i)).time ≡ 0 = rw num at (f.clear.quiet y (omega (arith, w.medium.pages.slots.room)) _ (ap (λ (v : Cell). v.state) cell-is)) in
-      omega (arith, x.over z, q)
+  not_committed i h z = go ((w.living.each i h).busy z)
+    where
+      go : (0 < (place_at t.places i).waiting) ⊎ Unlined disk'.area (time_at t.places i) → ⊥
+      go (inr q) = none_missing (time_at t.places i) q (num_at t.places i) (rw ((w.living.each i h).over z) z) ((w.living.each i h).over z)
+      go (inl q) =
+          let x = w.living.each i h in
+          let low : 0 < num_at t.places i = life_low (place_at t.places i).life x.formed z in
+          let (y, lt, num, cell-is) = waiting_slot w.medium (num_at t.places i) (omega (arith, q, x.waits low)) in
+          let q : (find (commits_of (closed ++ (tail ∷ []))) (num_at t.places i)).time ≡ 0 = rw num at (f.clear.quiet y (omega (arith, w.medium.pages.slots.room)) _ (ap (λ (v : Cell). v.state) cell-is)) in
+          omega (arith, x.over z, q)
 
   -- a place that was not active is not now
   idle : (i : ℕ) → i < 64 → ((x : ℕ) → active_as (place_at s.places i).life x ≡ false) → (y : Life) → (place_at t.places i).life ≡ y → y ≡ Free
@@ -82,18 +104,18 @@ module _ {l d : ℕ} {m c n a : List ℕ} {s t : State} {b b' : Book} {disk disk
 
 -- ---- a running store, and what holds of its medium and state
 
-pub data Standing (l d : ℕ) (P : List ℕ → State → Type 0) : World → Type 0 where
-  stands : (m c : List ℕ) (s : State) (b : Book) (disk : Disk) (closed : List (List Record)) (tail : List Record) → Up l d m c s b disk closed tail → P m s → Standing l d P (up m c s)
+pub data Standing (l d a : ℕ) (P : List ℕ → State → Type 0) : World → Type 0 where
+  stands : (m c : List ℕ) (s : State) (b : Book) (disk : Disk) (closed : List (List Record)) (tail : List Record) → Up l d a m c s b disk closed tail → P m s → Standing l d a P (up m c s)
 
-pub standing : (l d : ℕ) (P : List ℕ → State → Type 0) (m c : List ℕ) (s : State) (b : Book) → Inv l d (up m c s) b → P m s → Standing l d P (up m c s)
-standing l d P m c s b (running u) p = stands m c s b _ _ _ u p
+pub standing : (l d a : ℕ) (P : List ℕ → State → Type 0) (m c : List ℕ) (s : State) (b : Book) → Inv l d a (up m c s) b → P m s → Standing l d a P (up m c s)
+standing l d a P m c s b (running u) p = stands m c s b _ _ _ u p
 
 -- a call with outcome o
-pub called_on : (l d : ℕ) (P : List ℕ → State → Type 0) (m c : List ℕ) (s : State) (b : Book) → Inv l d (up m c s) b → (x : Call) → call_typed x ≡ true
-    → (o : Outcome) → called m c s x ≡ o → P o.medium o.state → Standing l d P (step l d (up m c s) (call x)).world
+pub called_on : (l d a : ℕ) (P : List ℕ → State → Type 0) (m c : List ℕ) (s : State) (b : Book) → Inv l d a (up m c s) b → (x : Call) → call_typed x ≡ true
+    → (o : Outcome) → called m c s x ≡ o → P o.medium o.state → Standing l d a P (step l d a (up m c s) (call x)).world
 unfolding step typed
-called_on l d P m c s b i x t o e p =
-    standing l d P (called m c s x).medium (called m c s x).cache (called m c s x).state _ (keeps l d (up m c s) b (call x) i refl t).1 (rw e p)
+called_on l d a P m c s b i x t o e p =
+    standing l d a P (called m c s x).medium (called m c s x).cache (called m c s x).state _ (keeps l d a (up m c s) b (call x) i refl t).1 (rw e p)
 
 -- r is the state at the start: log, slots, times and numbers are as they were
 pub record Same (r : State) (m : List ℕ) (s : State) : Type 0 where
@@ -109,7 +131,7 @@ pub record Emptied (r : State) (i : ℕ) (m : List ℕ) (s : State) : Type 0 whe
   pub free : (j : ℕ) → j < i → (place_at s.places j).life ≡ Free
   pub rest : (j : ℕ) → i ≤ j → j < 64 → (place_at s.places j).life ≡ left (place_at r.places j).life
 
-module _ {l d : ℕ} {m c : List ℕ} {s : State} {b : Book} {disk : Disk} {closed : List (List Record)} {tail : List Record} (u : Up l d m c s b disk closed tail) where
+module _ {l d a : ℕ} {m c : List ℕ} {s : State} {b : Book} {disk : Disk} {closed : List (List Record)} {tail : List Record} (u : Up l d a m c s b disk closed tail) where
   abort_done : (x i : ℕ) → find_active s.places x ≡ At i → called m c s (abort x) ≡ leaves Done (with_place s i free_place) m c
   unfolding called abort_of abort_if
   abort_done x i e = rw (fits_up u, e) (rw e)
@@ -137,42 +159,42 @@ module _ {l d : ℕ} {m c : List ℕ} {s : State} {b : Book} {disk : Disk} {clos
 
 -- ---- the aborts
 
-module _ (l d : ℕ) (r : State) where
+module _ (l d a : ℕ) (r : State) where
   -- the place of a number that is left active
-  active_left : {m c : List ℕ} {s : State} {b : Book} {disk : Disk} {closed : List (List Record)} {tail : List Record} → Up l d m c s b disk closed tail → (i : ℕ) → i < 64 → Emptied r i m s
+  active_left : {m c : List ℕ} {s : State} {b : Book} {disk : Disk} {closed : List (List Record)} {tail : List Record} → Up l d a m c s b disk closed tail → (i : ℕ) → i < 64 → Emptied r i m s
       → (v : TxNumber) (o : ℕ) → (place_at r.places i).life ≡ Active v o → find_active s.places v.0 ≡ At i
-  active_left {s = s} u i h a v o e =
-      let q : (place_at s.places i).life ≡ Active v o = a.rest i (omega arith) h ∙ ap left e in
+  active_left {s = s} u i h x v o e =
+      let q : (place_at s.places i).life ≡ Active v o = x.rest i (omega arith) h ∙ ap left e in
       active_finds u.living v.0 i h (subst Formed q (u.living.each i h).formed) (ap life_num q) (ap life_time q)
 
-  number_typed : {m c : List ℕ} {s : State} {b : Book} {disk : Disk} {closed : List (List Record)} {tail : List Record} → Up l d m c s b disk closed tail → (v i : ℕ) → find_active s.places v ≡ At i
+  number_typed : {m c : List ℕ} {s : State} {b : Book} {disk : Disk} {closed : List (List Record)} {tail : List Record} → Up l d a m c s b disk closed tail → (v i : ℕ) → find_active s.places v ≡ At i
       → call_typed (abort v) ≡ true
   unfolding call_typed
   number_typed u v i e = lt-ltb v (2 ^ 64) (omega (arith, active_high u v i e))
 
-  abort_refusal : (m c : List ℕ) (s : State) (x : Call) (o : Outcome) → called m c s x ≡ o → (step l d (up m c s) (call x)).seen.refusal ≡ answer_number o.answer
+  abort_refusal : (m c : List ℕ) (s : State) (x : Call) (o : Outcome) → called m c s x ≡ o → (step l d a (up m c s) (call x)).seen.refusal ≡ answer_number o.answer
   unfolding step seen_of
   abort_refusal m c s x o e = rw e
 
   pub aborts_lead : (ps : List Place) (i : ℕ) → i + length ps ≡ 64 → ((j : ℕ) → place_at r.places (i + j) ≡ place_at ps j)
-      → (w : World) → Standing l d (Emptied r i) w → Leads l d w (aborts_of ps) (Standing l d (Emptied r 64))
+      → (w : World) → Standing l d a (Emptied r i) w → Leads l d a w (aborts_of ps) (Standing l d a (Emptied r 64))
   unfolding aborts_of place_at answer_number
   aborts_lead [] i e f w q =
       let z : i ≡ 64 = omega arith in
-      leads_none l d w (Standing l d (Emptied r 64)) (subst (λ (j : ℕ). Standing l d (Emptied r j) w) z q)
-  aborts_lead (p ∷ ps) i e f w (stands m c s b disk closed tail u a) = go p.life refl (aborts_lead ps (i + 1) (omega arith) (λ j. let z : i + 1 + j ≡ i + suc j = omega arith in ap (place_at r.places) z ∙ f (suc j)))
+      leads_none l d a w (Standing l d a (Emptied r 64)) (subst (λ (j : ℕ). Standing l d a (Emptied r j) w) z q)
+  aborts_lead (p ∷ ps) i e f w (stands m c s b disk closed tail u k) = go p.life refl (aborts_lead ps (i + 1) (omega arith) (λ j. let z : i + 1 + j ≡ i + suc j = omega arith in ap (place_at r.places) z ∙ f (suc j)))
     where
       here : (place_at r.places i).life ≡ p.life
       here = let z : i ≡ i + 0 = omega arith in ap (λ (x : Place). x.life) (ap (place_at r.places) z ∙ f 0)
 
-      go : (x : Life) → p.life ≡ x → ((v : World) → Standing l d (Emptied r (i + 1)) v → Leads l d v (aborts_of ps) (Standing l d (Emptied r 64)))
-          → Leads l d (up m c s) (end_of x ++ aborts_of ps) (Standing l d (Emptied r 64))
-      go Free z ih = ih (up m c s) (stands m c s b disk closed tail u (skipped u r i (omega arith) (ap left (here ∙ z)) a))
-      go (Committed v o y) z ih = ih (up m c s) (stands m c s b disk closed tail u (skipped u r i (omega arith) (ap left (here ∙ z)) a))
+      go : (x : Life) → p.life ≡ x → ((v : World) → Standing l d a (Emptied r (i + 1)) v → Leads l d a v (aborts_of ps) (Standing l d a (Emptied r 64)))
+          → Leads l d a (up m c s) (end_of x ++ aborts_of ps) (Standing l d a (Emptied r 64))
+      go Free z ih = ih (up m c s) (stands m c s b disk closed tail u (skipped u r i (omega arith) (ap left (here ∙ z)) k))
+      go (Committed v o y) z ih = ih (up m c s) (stands m c s b disk closed tail u (skipped u r i (omega arith) (ap left (here ∙ z)) k))
       go (Active v o) z ih =
           let h : i < 64 = omega arith in
-          let x = active_left u i h a v o (here ∙ z) in
+          let x = active_left u i h k v o (here ∙ z) in
           let y = abort_done u v.0 i x in
-          leads_call l d m c s (abort v.0) (aborts_of ps) (Standing l d (Emptied r 64)) (number_typed u v.0 i x) (abort_refusal m c s (abort v.0) _ y)
-          (ih (step l d (up m c s) (call (abort v.0))).world
-          (called_on l d (Emptied r (i + 1)) m c s b (running u) (abort v.0) (number_typed u v.0 i x) _ y (freed u r i h a)))
+          leads_call l d a m c s (abort v.0) (aborts_of ps) (Standing l d a (Emptied r 64)) (number_typed u v.0 i x) (abort_refusal m c s (abort v.0) _ y)
+          (ih (step l d a (up m c s) (call (abort v.0))).world
+          (called_on l d a (Emptied r (i + 1)) m c s b (running u) (abort v.0) (number_typed u v.0 i x) _ y (freed u r i h k)))

@@ -14,7 +14,8 @@ use borrow.Author.Tests.{eq-eqb, lt-ltb, le-leb}
 use Rattle.layout.specs.Journal.{Record, sequence_of, used_of, record_size}
 use Rattle.layout.specs.Journal.{version as version_record}
 use Rattle.fields.specs.Block.{end_place}
-use Rattle.layout.specs.Item.{bytes_of}
+use Rattle.layout.specs.Item.{bytes_of, user_bytes_of}
+use Rattle.layout.proofs.RecordLaws.{user_few}
 use Rattle.layout.specs.Master.{oldest_on}
 use Rattle.layout.specs.Slot.{key_form}
 use Rattle.layout.specs.declared.TxNumber.{TxNumber}
@@ -30,7 +31,7 @@ use Rattle.store.specs.Tail.{may_log, tail_fits, tail_end, logged, Logged}
 use Rattle.store.specs.Chain.{held}
 use Rattle.store.specs.Begin.{begun, begin_if, begin_of}
 use Rattle.store.specs.Write.{write_asks, new_head, write_step, written, write_if, add_of, write_of}
-use Rattle.store.specs.Commit.{commit_asks, no_versions}
+use Rattle.store.specs.Commit.{form_of, commit_asks, no_versions}
 use Rattle.store.proofs.AskLaws.{Passed, passes}
 use Rattle.store.proofs.FitLaws.{fit_of}
 use Rattle.runs.specs.Event.{Call, call, begin, write, commit, call_typed}
@@ -45,11 +46,11 @@ use Rattle.agreement.proofs.history.ListLaws.{split, same?}
 use Rattle.agreement.proofs.invariant.Invariant.{num_at, time_at, Up, Inv, running}
 use Rattle.agreement.proofs.invariant.PlaceFacts.{active_found, active_finds}
 use Rattle.agreement.proofs.invariant.PlaceSet.{place_at_same, place_at_other}
-use Rattle.agreement.proofs.logging.GrowthLaws.{fits_up}
+use Rattle.agreement.proofs.logging.GrowthLaws.{area_blocks, fits_up}
 use Rattle.agreement.proofs.relief.Calls.{runs}
 use Rattle.agreement.proofs.plain.Runs.{inv_after, started}
 use Rattle.agreement.proofs.relief.Again.{done_way, holder, vs, held_is}
-use Rattle.agreement.proofs.relief.Frees.{Free, relief_leads}
+use Rattle.agreement.proofs.relief.Frees.{Whole, relief_leads}
 use Rattle.agreement.proofs.relief.Leads.{Leads, leads_none, leads_call, leads_then}
 use Rattle.agreement.proofs.unstuck.Log.{Takes, behind, next, takes, still_active, has_version}
 use Rattle.agreement.proofs.unstuck.Places.{Emptied, Standing, stands, called_on, remains, aborts_lead}
@@ -69,8 +70,8 @@ pub record Alone (r : State) (m : List ℕ) (s : State) : Type 0 where
   pub active : time_at s.places place ≡ 0
   pub others : (j : ℕ) → j < 64 → j ≢ place → num_at s.places j ≡ 0
 
-module _ {l d : ℕ} {m c : List ℕ} {s : State} {b : Book} {disk : Disk} {closed : List (List Record)} {tail : List Record} (u : Up l d m c s b disk closed tail)
-    (r : State) (e : Emptied r 64 m s) (left : Left d r) where
+module _ {l d a : ℕ} {m c : List ℕ} {s : State} {b : Book} {disk : Disk} {closed : List (List Record)} {tail : List Record} (u : Up l d a m c s b disk closed tail)
+    (r : State) (e : Emptied r 64 m s) (left : Left d a r) where
   free_found : find_free s.places s.ring ≡ At 0
   unfolding find_free first ring_place
   free_found = rw (e.free ((s.ring + 0) % 64) (mod-lt (s.ring + 0) (omega arith)))
@@ -101,35 +102,35 @@ module _ {l d : ℕ} {m c : List ℕ} {s : State} {b : Book} {disk : Disk} {clos
       i = (s.ring + 0) % 64
 
       new : ℕ → Place
-      new clock = record { life = Active s.next clock; waiting = 0 }
+      new clock = record { life = Active s.next clock; waiting = 0; user = 0 }
 
       inside : (s.ring + 0) % 64 < 64
       inside = mod-lt (s.ring + 0) (omega arith)
 
 -- the number has a version, and its commit may be logged
-pub record Ready (n : ℕ) (m : List ℕ) (s : State) : Type 0 where
+pub record Ready (a n : ℕ) (m : List ℕ) (s : State) : Type 0 where
   pub active : is_at (find_active s.places n) ≡ true
   pub some : no_versions (find_active s.places n) s ≡ false
   pub times : s.last.0 < 2 ^ 64 - 1
-  pub log : may_log s m 19 ≡ true
+  pub log : may_log s m (19 + user_bytes_of (form_of a)) ≡ true
 
 -- ---- write
 
-module _ {l d : ℕ} {m c : List ℕ} {s : State} {b : Book} {disk : Disk} {closed : List (List Record)} {tail : List Record} (u : Up l d m c s b disk closed tail)
-    (r : State) (a : Alone r m s) (left : Left d r) where
+module _ {l d a : ℕ} {m c : List ℕ} {s : State} {b : Book} {disk : Disk} {closed : List (List Record)} {tail : List Record} (u : Up l d a m c s b disk closed tail)
+    (r : State) (k : Alone r m s) (left : Left d a r) where
   -- an active number is this one
   only : (x j : ℕ) → find_active s.places x ≡ At j → x ≡ r.next.0
-  only x j e = go (same? j a.place)
+  only x j e = go (same? j k.place)
     where
       f : (j < 64) × (0 < x) × (num_at s.places j ≡ x) × (time_at s.places j ≡ 0)
       f = active_found u.living x j e
 
-      go : (j ≡ a.place) ⊎ (j ≢ a.place) → x ≡ r.next.0
-      go (inl q) = sym f.2 ∙ ap (num_at s.places) q ∙ a.mine
-      go (inr q) = absurd (omega (arith, f, a.others j f.0 q))
+      go : (j ≡ k.place) ⊎ (j ≢ k.place) → x ≡ r.next.0
+      go (inl q) = sym f.2 ∙ ap (num_at s.places) q ∙ k.mine
+      go (inr q) = absurd (omega (arith, f, k.others j f.0 q))
 
-  mine_found : find_active s.places r.next.0 ≡ At a.place
-  mine_found = active_finds u.living r.next.0 a.place a.inside a.low a.mine a.active
+  mine_found : find_active s.places r.next.0 ≡ At k.place
+  mine_found = active_finds u.living r.next.0 k.place k.inside k.low k.mine k.active
 
   not_held : (key : ℕ) → held c s.places s.slots key r.next.0 ≡ false
   not_held key = held_is u key r.next.0 ∙ go (newest_of (vs u) key (length (vs u)))
@@ -148,7 +149,7 @@ module _ {l d : ℕ} {m c : List ℕ} {s : State} {b : Book} {disk : Disk} {clos
   may_log_law size (inl h) = rw (le-leb (used_of s.tail + size) 512 h)
   may_log_law size (inr h) =
       rw (
-        lt-ltb (sequence_of s.tail + 1) (oldest_on m + s.blocks) (omega (arith, a.oldest, u.state.blocks, u.medium.sizes.range.blocks_low)),
+        lt-ltb (sequence_of s.tail + 1) (oldest_on m + s.blocks) (omega (arith, k.oldest, u.state.blocks, u.medium.sizes.range.blocks_low)),
         lt-ltb (sequence_of s.tail + 1) (2 ^ 48) h,
       ) (or-true (leb (used_of s.tail + size) 512))
 
@@ -156,112 +157,112 @@ module _ {l d : ℕ} {m c : List ℕ} {s : State} {b : Book} {disk : Disk} {clos
   unfolding tail_end end_place
   room = go (split 512 (used_of s.tail + 34))
     where
-      end_is : 512 * sequence_of s.tail + used_of s.tail + 53 ≤ 512 * 2 ^ 48
-      end_is = rw a.tail left.log
+      end_is : 512 * sequence_of s.tail + used_of s.tail + (53 + user_bytes_of (form_of a)) ≤ 512 * 2 ^ 48
+      end_is = rw k.tail left.log
 
       go : (512 < used_of s.tail + 34) ⊎ (used_of s.tail + 34 ≤ 512) → (used_of s.tail + 34 ≤ 512) ⊎ (sequence_of s.tail + 1 < 2 ^ 48)
       go (inr h) = inl h
       go (inl h) = inr (omega (arith, end_is))
 
   write_passed : (key : ℕ) → key_form key ≡ true → Passed (write_asks s m c r.next.0 key)
-  write_passed key k = (
+  write_passed key form = (
     fits_up u,
-    (k, (rw mine_found, (rw (not_held key), (lt-ltb s.slots (15 * s.pages) (omega (arith, a.slots, left.slots, u.state.pages)), (may_log_law 34 room, tt))))),
+    (form, (rw mine_found, (rw (not_held key), (lt-ltb s.slots (15 * s.pages) (omega (arith, k.slots, left.slots, u.state.pages)), (may_log_law 34 room, tt))))),
   )
 
   -- the version's record, and what the log makes of it
   record_of : ℕ → List ℕ → Record
   record_of key value = version_record (new_head s c r.next.0 key 0) value
 
-  write_done : (key : ℕ) → key_form key ≡ true → (value : List ℕ) → called m c s (write r.next.0 key value) ≡ write_step s m c a.place (new_head s c r.next.0 key 0) value
+  write_done : (key : ℕ) → key_form key ≡ true → (value : List ℕ) → called m c s (write r.next.0 key value) ≡ write_step s m c k.place (new_head s c r.next.0 key 0) value
   unfolding called write_of add_of write_if
-  write_done key k value = rw (passes (write_asks s m c r.next.0 key) (write_passed key k)) (rw mine_found)
+  write_done key form value = rw (passes (write_asks s m c r.next.0 key) (write_passed key form)) (rw mine_found)
 
   -- ---- commit
 
-  log_then : (i : ℕ) (g : Logged) → Takes s m 34 g → may_log (written s i g) g.medium 19 ≡ true
+  log_then : (i : ℕ) (g : Logged) → Takes s m 34 g → may_log (written s i g) g.medium (19 + user_bytes_of (form_of a)) ≡ true
   unfolding may_log tail_fits written tail_end end_place
-  log_then i g (next x y z) = rw (le-leb (used_of g.tail + 19) 512 (omega arith))
-  log_then i g (behind x y z w) = go (split 512 (used_of g.tail + 19))
+  log_then i g (next x y z) = rw (le-leb (used_of g.tail + (19 + user_bytes_of (form_of a))) 512 (omega (arith, user_few (form_of a))))
+  log_then i g (behind x y z w) = go (split 512 (used_of g.tail + (19 + user_bytes_of (form_of a))))
     where
-      end_is : 512 * sequence_of s.tail + used_of s.tail + 53 ≤ 512 * 2 ^ 48
-      end_is = rw a.tail left.log
+      end_is : 512 * sequence_of s.tail + used_of s.tail + (53 + user_bytes_of (form_of a)) ≤ 512 * 2 ^ 48
+      end_is = rw k.tail left.log
 
-      go : (512 < used_of g.tail + 19) ⊎ (used_of g.tail + 19 ≤ 512)
-          → leb (used_of g.tail + 19) 512 || (ltb (sequence_of g.tail + 1) (oldest_on g.medium + s.blocks) && ltb (sequence_of g.tail + 1) (2 ^ 48)) ≡ true
-      go (inr h) = rw (le-leb (used_of g.tail + 19) 512 h)
+      go : (512 < used_of g.tail + (19 + user_bytes_of (form_of a))) ⊎ (used_of g.tail + (19 + user_bytes_of (form_of a)) ≤ 512)
+          → leb (used_of g.tail + (19 + user_bytes_of (form_of a))) 512 || (ltb (sequence_of g.tail + 1) (oldest_on g.medium + s.blocks) && ltb (sequence_of g.tail + 1) (2 ^ 48)) ≡ true
+      go (inr h) = rw (le-leb (used_of g.tail + (19 + user_bytes_of (form_of a))) 512 h)
       go (inl h) =
           rw (
-            lt-ltb (sequence_of g.tail + 1) (oldest_on g.medium + s.blocks) (omega (arith, ap oldest_on y, a.oldest, u.state.blocks, u.medium.sizes.range.blocks_low)),
+            lt-ltb (sequence_of g.tail + 1) (oldest_on g.medium + s.blocks) (omega (arith, ap oldest_on y, k.oldest, u.state.blocks, u.medium.sizes.range.blocks_low)),
             lt-ltb (sequence_of g.tail + 1) (2 ^ 48) (omega (arith, end_is)),
-          ) (or-true (leb (used_of g.tail + 19) 512))
+          ) (or-true (leb (used_of g.tail + (19 + user_bytes_of (form_of a))) 512))
 
   last_stays : (i : ℕ) (g : Logged) → (written s i g).last.0 ≡ s.last.0
   unfolding written
   last_stays i g = refl
 
-  written_ready : (key : ℕ) (value : List ℕ) → Ready r.next.0 (logged s m (record_of key value)).medium (written s a.place (logged s m (record_of key value)))
+  written_ready : (key : ℕ) (value : List ℕ) → Ready a r.next.0 (logged s m (record_of key value)).medium (written s k.place (logged s m (record_of key value)))
   unfolding record_size record_of new_head bytes_of
   written_ready key value =
       let g = logged s m (record_of key value) in
       record {
-        active = rw (still_active s u.living.size r.next.0 a.place mine_found a.inside g);
-        some = has_version s u.living.size r.next.0 a.place mine_found a.inside g;
-        times = omega (arith, last_stays a.place g, a.last, left.times);
-        log = log_then a.place g (takes s m (record_of key value) (fit_of s (length m) (length c) (fits_up u)).tail (omega arith));
+        active = rw (still_active s u.living.size r.next.0 k.place mine_found k.inside g);
+        some = has_version s u.living.size r.next.0 k.place mine_found k.inside g;
+        times = omega (arith, last_stays k.place g, k.last, left.times);
+        log = log_then k.place g (takes s m (record_of key value) (fit_of s (length m) (length c) (fits_up u)).tail (omega arith));
       }
 
 -- ---- begin, write, commit
 
-refusal_is : (l d : ℕ) (m c : List ℕ) (s : State) (x : Call) → answer_number (called m c s x).answer ≡ 0 → (step l d (up m c s) (call x)).seen.refusal ≡ 0
+refusal_is : (l d a : ℕ) (m c : List ℕ) (s : State) (x : Call) → answer_number (called m c s x).answer ≡ 0 → (step l d a (up m c s) (call x)).seen.refusal ≡ 0
 unfolding step seen_of
-refusal_is l d m c s x e = e
+refusal_is l d a m c s x e = e
 
 abbrev Anywhere : World → Type 0
 Anywhere w = Unit {0}
 
-module _ (l d : ℕ) (r : State) (left : Left d r) (clock key : ℕ) (form : key_form key ≡ true) (value : List ℕ) (end : ℕ) where
-  commit_leads : call_typed (commit r.next.0 end) ≡ true → (w : World) → Standing l d (Ready r.next.0) w → Leads l d w (call (commit r.next.0 end) ∷ []) Anywhere
-  commit_leads t w (stands m c s b disk closed tail u a) =
-      leads_call l d m c s (commit r.next.0 end) [] Anywhere t (refusal_is l d m c s (commit r.next.0 end) (done_way (way m c s (commit r.next.0 end)) passed))
-      (leads_none l d _ Anywhere tt)
+module _ (l d a : ℕ) (r : State) (left : Left d a r) (clock key : ℕ) (form : key_form key ≡ true) (value : List ℕ) (end user : ℕ) where
+  commit_leads : call_typed (commit r.next.0 end user) ≡ true → (w : World) → Standing l d a (Ready a r.next.0) w → Leads l d a w (call (commit r.next.0 end user) ∷ []) Anywhere
+  commit_leads t w (stands m c s b disk closed tail u k) =
+      leads_call l d a m c s (commit r.next.0 end user) [] Anywhere t (refusal_is l d a m c s (commit r.next.0 end user) (done_way (way m c s (commit r.next.0 end user)) passed))
+      (leads_none l d a _ Anywhere tt)
     where
       passed : Passed (commit_asks s m c r.next.0)
-      passed = (fits_up u, (a.active, (rw a.some (lt-ltb s.last.0 (2 ^ 64 - 1) a.times), (rw a.some a.log, tt))))
+      passed = (fits_up u, (k.active, (rw k.some (lt-ltb s.last.0 (2 ^ 64 - 1) k.times), (rw k.some (subst (λ (x : ℕ). may_log s m (19 + user_bytes_of (form_of x)) ≡ true) (sym (area_blocks u)) k.log), tt))))
 
-  write_leads : call_typed (write r.next.0 key value) ≡ true → call_typed (commit r.next.0 end) ≡ true → (w : World) → Standing l d (Alone r) w
-      → Leads l d w (call (write r.next.0 key value) ∷ call (commit r.next.0 end) ∷ []) Anywhere
+  write_leads : call_typed (write r.next.0 key value) ≡ true → call_typed (commit r.next.0 end user) ≡ true → (w : World) → Standing l d a (Alone r) w
+      → Leads l d a w (call (write r.next.0 key value) ∷ call (commit r.next.0 end user) ∷ []) Anywhere
   unfolding write_step record_of
-  write_leads t z w (stands m c s b disk closed tail u a) =
-      leads_call l d m c s (write r.next.0 key value) (call (commit r.next.0 end) ∷ []) Anywhere t
-      (refusal_is l d m c s (write r.next.0 key value) (done_way (way m c s (write r.next.0 key value)) (write_passed u r a left key form)))
-      (commit_leads z _ (called_on l d (Ready r.next.0) m c s b (running u) (write r.next.0 key value) t _ (write_done u r a left key form value) (written_ready u r a left key value)))
+  write_leads t z w (stands m c s b disk closed tail u k) =
+      leads_call l d a m c s (write r.next.0 key value) (call (commit r.next.0 end user) ∷ []) Anywhere t
+      (refusal_is l d a m c s (write r.next.0 key value) (done_way (way m c s (write r.next.0 key value)) (write_passed u r k left key form)))
+      (commit_leads z _ (called_on l d a (Ready a r.next.0) m c s b (running u) (write r.next.0 key value) t _ (write_done u r k left key form value) (written_ready u r k left key value)))
 
-  begin_leads : call_typed (begin clock) ≡ true → call_typed (write r.next.0 key value) ≡ true → call_typed (commit r.next.0 end) ≡ true → (w : World) → Standing l d (Emptied r 64) w
-      → Leads l d w (transaction r.next.0 clock key value end) Anywhere
+  begin_leads : call_typed (begin clock) ≡ true → call_typed (write r.next.0 key value) ≡ true → call_typed (commit r.next.0 end user) ≡ true → (w : World) → Standing l d a (Emptied r 64) w
+      → Leads l d a w (transaction r.next.0 clock key value end user) Anywhere
   unfolding answer_number
   begin_leads x y z w (stands m c s b disk closed tail u e) =
-      leads_call l d m c s (begin clock) (call (write r.next.0 key value) ∷ call (commit r.next.0 end) ∷ []) Anywhere x
-      (refusal_is l d m c s (begin clock) (ap (λ (o : Outcome). answer_number o.answer) (begin_done u r e left clock)))
-      (write_leads y z _ (called_on l d (Alone r) m c s b (running u) (begin clock) x _ (begin_done u r e left clock) (begun_alone u r e left clock)))
+      leads_call l d a m c s (begin clock) (call (write r.next.0 key value) ∷ call (commit r.next.0 end user) ∷ []) Anywhere x
+      (refusal_is l d a m c s (begin clock) (ap (λ (o : Outcome). answer_number o.answer) (begin_done u r e left clock)))
+      (write_leads y z _ (called_on l d a (Alone r) m c s b (running u) (begin clock) x _ (begin_done u r e left clock) (begun_alone u r e left clock)))
 
 -- begin answers the next number
-begin_number : (l d : ℕ) (r : State) → Left d r → (clock : ℕ) (w : World) → Standing l d (Emptied r 64) w → (step l d w (call (begin clock))).seen.result ≡ r.next.0
+begin_number : (l d a : ℕ) (r : State) → Left d a r → (clock : ℕ) (w : World) → Standing l d a (Emptied r 64) w → (step l d a w (call (begin clock))).seen.result ≡ r.next.0
 unfolding step seen_of answer_value
-begin_number l d r left clock w (stands m c s b disk closed tail u e) =
+begin_number l d a r left clock w (stands m c s b disk closed tail u e) =
     ap (λ (o : Outcome). answer_value o.answer) (begin_done u r e left clock) ∙ next_is u r e left
 
 -- ---- all of them
 
-emptying : {l d : ℕ} {m c : List ℕ} {s : State} {b : Book} {disk : Disk} {closed : List (List Record)} {tail : List Record} → Up l d m c s b disk closed tail → (w : World)
-    → Free l d closed tail s w → Standing l d (Emptied s 0) w
-emptying u w (runs n a t b' disk' x f) = stands n a t b' disk' _ _ x (record {
+emptying : {l d a : ℕ} {m c : List ℕ} {s : State} {b : Book} {disk : Disk} {closed : List (List Record)} {tail : List Record} → Up l d a m c s b disk closed tail → (w : World)
+    → Whole l d a closed tail s w → Standing l d a (Emptied s 0) w
+emptying u w (runs n c' t b' disk' x f) = stands n c' t b' disk' _ _ x (record {
   same = record {
-    oldest = f.oldest;
+    oldest = f.freed.oldest;
     tail = x.state.tail_block ∙ sym u.state.tail_block;
     slots = x.state.slots ∙ sym u.state.slots;
     last = x.state.last ∙ sym u.state.last;
-    next = f.clear.alike.next;
+    next = f.freed.clear.alike.next;
   };
   free = λ i h. absurd (omega arith);
   rest = λ i h z. remains u x f i z;
@@ -269,15 +270,15 @@ emptying u w (runs n a t b' disk' x f) = stands n a t b' disk' _ _ x (record {
 
 pub unstuck : Unstuck
 unfolding Unstuck fresh_start
-unstuck l d es m c s r e left clock key value end k x y z =
-    go (subst (λ (w : World). Inv l d w (book_at l d es)) e (inv_after l d es (formatted l d) blank (started r) r.run))
+unstuck l d a es m c s r e left space clock key value end user k x y z =
+    go (subst (λ (w : World). Inv l d a w (book_at l d a es)) e (inv_after l d a es (formatted l d a) (blank a) (started r) r.run))
   where
-    go : {b : Book} → Inv l d (up m c s) b → Restarts l d (up m c s) s.next.0 clock key value end
+    go : {b : Book} → Inv l d a (up m c s) b → Restarts l d a (up m c s) s.next.0 clock key value end user
     go (running {closed = closed} {tail = tail} u) =
-        let p : Leads l d (up m c s) (relief l d (up m c s) ++ aborts_of s.places) (Standing l d (Emptied s 64)) =
-        leads_then l d (up m c s) (relief l d (up m c s)) (aborts_of s.places) (Free l d closed tail s) (Standing l d (Emptied s 64)) (relief_leads u)
-        (λ v a. aborts_lead l d s s.places 0 (omega (arith, u.living.size)) (λ j. ap (place_at s.places) (zero-add j)) v (emptying u v a)) in
-        let q : Leads l d (up m c s) ((relief l d (up m c s) ++ aborts_of s.places) ++ transaction s.next.0 clock key value end) Anywhere =
-        leads_then l d (up m c s) (relief l d (up m c s) ++ aborts_of s.places) (transaction s.next.0 clock key value end) (Standing l d (Emptied s 64)) Anywhere p
-        (begin_leads l d s left clock key k value end x y z) in
-        record { goes_on = q.run; accepted = q.accepted; number = begin_number l d s left clock (world_after l d (up m c s) (relief l d (up m c s) ++ aborts_of s.places)) p.there }
+        let p : Leads l d a (up m c s) (relief l d a (up m c s) ++ aborts_of s.places) (Standing l d a (Emptied s 64)) =
+        leads_then l d a (up m c s) (relief l d a (up m c s)) (aborts_of s.places) (Whole l d a closed tail s) (Standing l d a (Emptied s 64)) (relief_leads u space)
+        (λ v g. aborts_lead l d a s s.places 0 (omega (arith, u.living.size)) (λ j. ap (place_at s.places) (zero-add j)) v (emptying u v g)) in
+        let q : Leads l d a (up m c s) ((relief l d a (up m c s) ++ aborts_of s.places) ++ transaction s.next.0 clock key value end user) Anywhere =
+        leads_then l d a (up m c s) (relief l d a (up m c s) ++ aborts_of s.places) (transaction s.next.0 clock key value end user) (Standing l d a (Emptied s 64)) Anywhere p
+        (begin_leads l d a s left clock key k value end user x y z) in
+        record { goes_on = q.run; accepted = q.accepted; number = begin_number l d a s left clock (world_after l d a (up m c s) (relief l d a (up m c s) ++ aborts_of s.places)) p.there }

@@ -78,7 +78,7 @@ module _ (o : Outcome) (n : ℕ) (h : Transfer) (a : Abortable o n) where
   pub commit_abortable : (r : Refusal) → refusal_in (commits o n h).answer ≡ some r → Abortable (commits o n h) n
   unfolding called
   commit_abortable r e =
-      let u = refusal_leaves o.medium o.cache o.state (commit n h.ended) r (in_refusal (commits o n h).answer r e) in
+      let u = refusal_leaves o.medium o.cache o.state (commit n h.ended h.user) r (in_refusal (commits o n h).answer r e) in
       kept o (commits o n h) n u.state u.medium u.cache a
 
 pub aborts_done : (s : State) (m c : List ℕ) (h : Transfer) → AbortsDone s m c h

@@ -41,11 +41,11 @@ module _ (l : ℕ) (o : Outcome) (b : Book) where
   fed_read n key = same_book (seen_of l o.medium (next o (current_read n key)) []).refusal b
 
 -- the lemma for an event, of a call
-pub goes : (l d : ℕ) (o : Outcome) (b : Book) (k : Call) → Inv l d (after o) b → call_typed k ≡ true
-    → Fits d b (call k) (seen_of l o.medium (next o k) []) × Inv l d (after (next o k)) (fed l o b k)
-goes l d o b k i t = unfold step in keeps l d (after o) b (call k) i refl (unfold typed in t)
+pub goes : (l d area : ℕ) (o : Outcome) (b : Book) (k : Call) → Inv l d area (after o) b → call_typed k ≡ true
+    → Fits d b (call k) (seen_of l o.medium (next o k) []) × Inv l d area (after (next o k)) (fed l o b k)
+goes l d area o b k i t = unfold step in keeps l d area (after o) b (call k) i refl (unfold typed in t)
 
 -- an open store with the invariant is a running one
-pub with_up : {A : Type 0} {l d : ℕ} {m c : List ℕ} {s : State} {b : Book} → Inv l d (up m c s) b
-    → ((disk : Disk) (closed : List (List Record)) (tail : List Record) → Up l d m c s b disk closed tail → A) → A
+pub with_up : {A : Type 0} {l d area : ℕ} {m c : List ℕ} {s : State} {b : Book} → Inv l d area (up m c s) b
+    → ((disk : Disk) (closed : List (List Record)) (tail : List Record) → Up l d area m c s b disk closed tail → A) → A
 with_up (running u) f = f _ _ _ u

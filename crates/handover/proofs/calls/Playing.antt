@@ -16,10 +16,10 @@ use Rattle.handover.specs.Hand.{HandOutcome, refusal_in, may_hand, begins, reads
 use Rattle.handover.specs.Calls.{commit_calls, write_calls, check_calls, read_calls, begin_calls, hand_calls, hand_events}
 use Rattle.handover.specs.EveryInput.{Plays}
 
-module _ (l d : ℕ) where
+module _ (l d area : ℕ) where
   -- the calls ks on what o left lead to what is left in the end
   abbrev Lead : Outcome → List Call → HandOutcome → Type 0
-  Lead o ks end = world_after l d (after o) (events_of ks) ≡ up end.medium end.cache end.state
+  Lead o ks end = world_after l d area (after o) (events_of ks) ≡ up end.medium end.cache end.state
 
   commit_plays : (a : Option Refusal) (o : Outcome) (n : ℕ) → Lead o (commit_calls a n) (after_commit a o n)
   unfolding world_after events_of step called after_commit
@@ -47,6 +47,6 @@ module _ (l d : ℕ) where
   begin_plays none o h =
       let n = answer_value o.answer in read_plays (refusal_in (reads o n h).answer) (reads o n h) n h
 
-  pub plays : (s : State) (m c : List ℕ) (h : Transfer) → Plays l d s m c h
+  pub plays : (s : State) (m c : List ℕ) (h : Transfer) → Plays l d area s m c h
   unfolding Plays hand_events hand_calls hand_of world_after events_of step called
   plays s m c h = begin_plays (refusal_in (begins s m c h).answer) (begins s m c h) h

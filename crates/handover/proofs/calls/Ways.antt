@@ -92,14 +92,14 @@ module _ {m c : List ℕ} {s : State} (low : s.saved.0 ≤ s.last.0) where
   pub write_beside : {x key : ℕ} {v : List ℕ} {o : Outcome} → Way m c s (write x key v) o → Beside x s o.state
   write_beside w = record { others = λ n z. ap is_at (written_active w n); stored = write_saved w }
 
-  pub commit_beside : {x clock : ℕ} {o : Outcome} → Way m c s (commit x clock) o → Beside x s o.state
+  pub commit_beside : {x clock user : ℕ} {o : Outcome} → Way m c s (commit x clock user) o → Beside x s o.state
   unfolding commit_step committed with_place
   commit_beside {x = x} (refused y r w) = beside_same x s s refl
-  commit_beside (commits x clock i p w q) = record {
+  commit_beside (commits x clock user i p w q) = record {
     others = λ n z. ap is_at (active_others s.places x i _ (fit_of s _ _ p.0).places w (λ k. refl) n z);
     stored = logged_saved s m _ low;
   }
-  commit_beside (ends x clock i p w q) = record {
+  commit_beside (ends x clock user i p w q) = record {
     others = λ n z. ap is_at (active_others s.places x i free_place (fit_of s _ _ p.0).places w (λ k. refl) n z);
     stored = omega arith;
   }
@@ -116,12 +116,12 @@ abort_beside {s = s} {x} (looks y a v b h p n w) = beside_same x s s refl
 
 -- ---- commit and abort end the number's activity, for in a run it has one place
 
-module _ {l d : ℕ} {m c : List ℕ} {s : State} {b : Book} {disk : Disk} {closed : List (List Record)} {tail : List Record} (u : Up l d m c s b disk closed tail) where
-  pub commit_own : {x clock : ℕ} {o : Outcome} → Way m c s (commit x clock) o → refusal_in o.answer ≡ none → is_at (find_active o.state.places x) ≡ false
+module _ {l d area : ℕ} {m c : List ℕ} {s : State} {b : Book} {disk : Disk} {closed : List (List Record)} {tail : List Record} (u : Up l d area m c s b disk closed tail) where
+  pub commit_own : {x clock user : ℕ} {o : Outcome} → Way m c s (commit x clock user) o → refusal_in o.answer ≡ none → is_at (find_active o.state.places x) ≡ false
   unfolding commit_step committed with_place
   commit_own (refused y r w) e = none_some (sym e)
-  commit_own (commits x clock i p w q) e = active_gone s.places i _ u.living.size (active_place u x i w) x refl (elsewhere u x i w)
-  commit_own (ends x clock i p w q) e = active_gone s.places i free_place u.living.size (active_place u x i w) x refl (elsewhere u x i w)
+  commit_own (commits x clock user i p w q) e = active_gone s.places i _ u.living.size (active_place u x i w) x refl (elsewhere u x i w)
+  commit_own (ends x clock user i p w q) e = active_gone s.places i free_place u.living.size (active_place u x i w) x refl (elsewhere u x i w)
   commit_own (looks y a v b h p n w) e = absurd (false≢true h)
 
   pub abort_own : {x : ℕ} {o : Outcome} → Way m c s (abort x) o → refusal_in o.answer ≡ none → is_at (find_active o.state.places x) ≡ false

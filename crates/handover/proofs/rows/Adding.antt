@@ -82,19 +82,19 @@ module _ (rs : List Row) (v : Version) (new : has_row rs v.number ≡ false) whe
 
   -- ---- committed at t
 
-  module _ (t : ℕ) where
+  module _ (t user : ℕ) where
     abbrev pub handed_rows : List Row
-    handed_rows = written_rows ++ (committed v.number t ∷ [])
+    handed_rows = written_rows ++ (committed v.number t user ∷ [])
 
     last_is : versions handed_rows ≡ versions rs ++ (v ∷ [])
-    last_is = versions_commit written_rows v.number t ∙ versions_version rs v
+    last_is = versions_commit written_rows v.number t user ∙ versions_version rs v
 
     times : (w : Version) → Among w (versions rs) → time_of handed_rows w.number ≡ time_of rs w.number
-    times w a = time_other written_rows v.number t w.number (foreign rs v.number new w a) ∙ time_version rs v w.number
+    times w a = time_other written_rows v.number t user w.number (foreign rs v.number new w a) ∙ time_version rs v w.number
 
     timed : time_of handed_rows v.number ≡ some t
     unfolding time_of
-    timed = time_none written_rows (committed v.number t ∷ []) v.number untimed ∙ rw (eq-eqb v.number v.number refl)
+    timed = time_none written_rows (committed v.number t user ∷ []) v.number untimed ∙ rw (eq-eqb v.number v.number refl)
 
     handed_current : (n key : ℕ) → current_of handed_rows n key missing (versions handed_rows)
         ≡ cond (eqb v.key key) (strip_of v.kind v.value) (current_of rs n key missing (versions rs))

@@ -11,7 +11,7 @@ use Rattle.layout.specs.Slot.{key_form}
 use Rattle.store.specs.declared.State.{State}
 use Rattle.store.specs.Places.{is_at, find_active}
 use Rattle.runs.specs.Event.{present}
-use Rattle.runs.specs.Book.{Book, Row, Version, version, committed, versions, last_time, has_row, is_open}
+use Rattle.runs.specs.Book.{Book, Row, Version, version, committed, versions, last_time, has_row, is_open, user_given}
 use Rattle.runs.specs.Machine.{up}
 use Rattle.agreement.proofs.invariant.Invariant.{Inv}
 use Rattle.handover.specs.declared.Transfer.{Transfer}
@@ -50,11 +50,11 @@ pub data RowsEnd (b : Book) (s : State) (h : Transfer) (rows : List Row) : HandA
   aborted : (a : HandAnswer) (x : ℕ) (v : List ℕ) → 0 < hand_number a → New b s x → Checked b s h x v
       → rows ≡ b.rows ++ (new_row h x v ∷ []) → RowsEnd b s h rows a
   handed : (x : ℕ) (v : List ℕ) (t : ℕ) → New b s x → Checked b s h x v → t ≡ max h.began (max h.ended (last_time b.rows + 1))
-      → rows ≡ (b.rows ++ (new_row h x v ∷ [])) ++ (committed x t ∷ []) → RowsEnd b s h rows (Handed (record { 0 = t }))
+      → rows ≡ (b.rows ++ (new_row h x v ∷ [])) ++ (committed x t (user_given b.area h.user) ∷ []) → RowsEnd b s h rows (Handed (record { 0 = t }))
 
 -- the invariant goes on, the same numbers are active, what is stored stays so, and the rows stand as said
-pub record Ended (l d : ℕ) (b : Book) (s : State) (h : Transfer) (o : HandOutcome) (after : Book) : Type 0 where
-  pub inv : Inv l d (up o.medium o.cache o.state) after
+pub record Ended (l d area : ℕ) (b : Book) (s : State) (h : Transfer) (o : HandOutcome) (after : Book) : Type 0 where
+  pub inv : Inv l d area (up o.medium o.cache o.state) after
   pub active : (n : ℕ) → is_at (find_active o.state.places n) ≡ is_at (find_active s.places n)
   pub stored : s.saved.0 ≤ o.state.saved.0
   pub rows : RowsEnd b s h after.rows o.answer

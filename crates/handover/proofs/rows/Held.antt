@@ -78,7 +78,7 @@ newest_logged vs key (suc j) h =
     go true ih = refl
     go false ih = ih
 
-module _ {l d : ℕ} {m c : List ℕ} {s : State} {b : Book} {disk : Disk} {closed : List (List Record)} {tail : List Record} (u : Up l d m c s b disk closed tail) where
+module _ {l d area : ℕ} {m c : List ℕ} {s : State} {b : Book} {disk : Disk} {closed : List (List Record)} {tail : List Record} (u : Up l d area m c s b disk closed tail) where
   pub held_is : (key n : ℕ) → held c s.places s.slots key n ≡ held_row (newest_under key none (versions b.rows)) s.places n
   held_is key n =
       held_logged u key n

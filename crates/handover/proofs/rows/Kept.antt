@@ -10,7 +10,7 @@ use lib.ListN.{length}
 use lib.Seq.{get_or-set_same, drop-set-lt}
 use Rattle.store.specs.declared.State.{State}
 use Rattle.runs.specs.Event.{Strip, missing}
-use Rattle.runs.specs.Book.{Book, Row, committed, versions, last_time, has_row, is_open, strip_of, current_of, strip_as_of}
+use Rattle.runs.specs.Book.{Book, Row, committed, versions, last_time, has_row, is_open, strip_of, current_of, strip_as_of, user_given}
 use Rattle.agreement.proofs.history.ListLaws.{same?}
 use Rattle.agreement.proofs.plain.Laws.{rowless_left}
 use Rattle.handover.specs.declared.Transfer.{Transfer}
@@ -36,13 +36,13 @@ pub rowless_before : {b : Book} {s : State} {h : Transfer} {rs : List Row} {a : 
 rowless_before (unwritten a q e) n f = rw e at f
 rowless_before {b} {s} {h} (aborted a x v q new checked e) n f = rowless_left b.rows (new_row h x v ∷ []) n (rw e at f)
 rowless_before {b} {s} {h} (handed x v t new checked time e) n f =
-    rowless_left b.rows (new_row h x v ∷ []) n (rowless_left (b.rows ++ (new_row h x v ∷ [])) (committed x t ∷ []) n (rw e at f))
+    rowless_left b.rows (new_row h x v ∷ []) n (rowless_left (b.rows ++ (new_row h x v ∷ [])) (committed x t (user_given b.area h.user) ∷ []) n (rw e at f))
 
 module _ (b : Book) (s : State) (h : Transfer) where
   pub past_same : {rs : List Row} {a : HandAnswer} → RowsEnd b s h rs a → (key t : ℕ) → t ≤ last_time b.rows → strip_as_of rs key t ≡ strip_as_of b.rows key t
   past_same (unwritten a q e) key t low = rw e
   past_same (aborted a x v q new checked e) key t low = rw e (written_past b.rows (new_version h x v) new.rowless key t)
-  past_same (handed x v t new checked time e) key u low = rw e (handed_earlier b.rows (new_version h x v) new.rowless t key u (omega arith))
+  past_same (handed x v t new checked time e) key u low = rw e (handed_earlier b.rows (new_version h x v) new.rowless t (user_given b.area h.user) key u (omega arith))
 
   -- the strip written has an owner
   owned : (x : ℕ) (v : List ℕ) → Checked b s h x v → Owned (strip_of 0 (with_owner v h.to))
@@ -63,9 +63,9 @@ module _ (b : Book) (s : State) (h : Transfer) where
   owner_same (handed x v t new checked time e) n key p = rw e (go (same? key h.flight))
     where
       go : (key ≡ h.flight) ⊎ (key ≢ h.flight)
-          → Owned (current_of ((b.rows ++ (new_row h x v ∷ [])) ++ (committed x t ∷ [])) n key missing (versions ((b.rows ++ (new_row h x v ∷ [])) ++ (committed x t ∷ []))))
-      go (inl f) = rw f (owned_as (sym (handed_key b.rows (new_version h x v) new.rowless t n)) (owned x v checked))
-      go (inr f) = owned_as (sym (handed_others b.rows (new_version h x v) new.rowless t n key f)) p
+          → Owned (current_of ((b.rows ++ (new_row h x v ∷ [])) ++ (committed x t (user_given b.area h.user) ∷ [])) n key missing (versions ((b.rows ++ (new_row h x v ∷ [])) ++ (committed x t (user_given b.area h.user) ∷ []))))
+      go (inl f) = rw f (owned_as (sym (handed_key b.rows (new_version h x v) new.rowless t (user_given b.area h.user) n)) (owned x v checked))
+      go (inr f) = owned_as (sym (handed_others b.rows (new_version h x v) new.rowless t (user_given b.area h.user) n key f)) p
 
   -- ---- refused
 
@@ -115,10 +115,10 @@ module _ (b : Book) (s : State) (h : Transfer) where
     unused = new.rowless;
     rows = e;
     time = time;
-    last = rw e (last_commit (b.rows ++ (new_row h x v ∷ [])) x t);
-    current = λ n. rw e (handed_key b.rows (new_version h x v) new.rowless t n);
-    past = rw e (handed_past b.rows (new_version h x v) new.rowless t);
-    earlier = λ u f. rw e (handed_earlier b.rows (new_version h x v) new.rowless t h.flight u f);
-    others = λ n key f. rw e (handed_others b.rows (new_version h x v) new.rowless t n key f);
-    others_past = λ key u f. rw e (handed_past_others b.rows (new_version h x v) new.rowless t key u f);
+    last = rw e (last_commit (b.rows ++ (new_row h x v ∷ [])) x t (user_given b.area h.user));
+    current = λ n. rw e (handed_key b.rows (new_version h x v) new.rowless t (user_given b.area h.user) n);
+    past = rw e (handed_past b.rows (new_version h x v) new.rowless t (user_given b.area h.user));
+    earlier = λ u f. rw e (handed_earlier b.rows (new_version h x v) new.rowless t (user_given b.area h.user) h.flight u f);
+    others = λ n key f. rw e (handed_others b.rows (new_version h x v) new.rowless t (user_given b.area h.user) n key f);
+    others_past = λ key u f. rw e (handed_past_others b.rows (new_version h x v) new.rowless t (user_given b.area h.user) key u f);
   }

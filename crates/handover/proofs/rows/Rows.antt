@@ -19,24 +19,24 @@ pub versions_version : (rs : List Row) (v : Version) → versions (rs ++ (versio
 unfolding versions
 versions_version rs v = versions_append rs (version v ∷ [])
 
-pub versions_commit : (rs : List Row) (n t : ℕ) → versions (rs ++ (committed n t ∷ [])) ≡ versions rs
+pub versions_commit : (rs : List Row) (n t u : ℕ) → versions (rs ++ (committed n t u ∷ [])) ≡ versions rs
 unfolding versions
-versions_commit rs n t = versions_append rs (committed n t ∷ []) ∙ append-nil (versions rs)
+versions_commit rs n t u = versions_append rs (committed n t u ∷ []) ∙ append-nil (versions rs)
 
 -- behind rows, others begin with the last time of these; u is the time of a commit row before both
-last_append : (m u : ℕ) (rs ss : List Row) → last_time (committed m u ∷ (rs ++ ss)) ≡ last_time (committed m (last_time (committed m u ∷ rs)) ∷ ss)
+last_append : (m u w : ℕ) (rs ss : List Row) → last_time (committed m u w ∷ (rs ++ ss)) ≡ last_time (committed m (last_time (committed m u w ∷ rs)) w ∷ ss)
 unfolding last_time
-last_append m u [] ss = refl
-last_append m u (version v ∷ rs) ss = last_append m u rs ss
-last_append m u (committed k t ∷ rs) ss = last_append m t rs ss
+last_append m u w [] ss = refl
+last_append m u w (version v ∷ rs) ss = last_append m u w rs ss
+last_append m u w (committed k t z ∷ rs) ss = last_append m t w rs ss
 
 pub last_version : (rs : List Row) (v : Version) → last_time (rs ++ (version v ∷ [])) ≡ last_time rs
 unfolding last_time
-last_version rs v = last_append 0 0 rs (version v ∷ [])
+last_version rs v = last_append 0 0 0 rs (version v ∷ [])
 
-pub last_commit : (rs : List Row) (n t : ℕ) → last_time (rs ++ (committed n t ∷ [])) ≡ t
+pub last_commit : (rs : List Row) (n t u : ℕ) → last_time (rs ++ (committed n t u ∷ [])) ≡ t
 unfolding last_time
-last_commit rs n t = last_append 0 0 rs (committed n t ∷ [])
+last_commit rs n t u = last_append 0 0 0 rs (committed n t u ∷ [])
 
 -- the number of the last row has one
 pub row_last : (rs : List Row) (v : Version) → has_row (rs ++ (version v ∷ [])) v.number ≡ true

@@ -61,10 +61,10 @@ may a v h q =
       taker = eqb-false h.to 0 (not-true (eqb h.to 0) (and_1 (not (eqb h.from 0)) _ both));
     }
 
-module _ (l d : ℕ) (b : Book) (s : State) (h : Transfer) (sizes : Sizes h) where
+module _ (l d area : ℕ) (b : Book) (s : State) (h : Transfer) (sizes : Sizes h) where
   -- ---- the read: refused, or its strip is checked
 
-  module _ {x : ℕ} {o : Outcome} {book : Book} (under : Under l d b s h x o book) (rows : book.rows ≡ b.rows) where
+  module _ {x : ℕ} {o : Outcome} {book : Book} (under : Under l d area b s h x o book) (rows : book.rows ≡ b.rows) where
     read_typed : call_typed (current_read x h.flight) ≡ true
     unfolding call_typed
     read_typed = rw (under.word, sizes.flight)
@@ -72,16 +72,17 @@ module _ (l d : ℕ) (b : Book) (s : State) (h : Transfer) (sizes : Sizes h) whe
     same_rows : (fed l o book (current_read x h.flight)).rows ≡ b.rows
     same_rows = ap (λ (y : Book). y.rows) (fed_read l o book x h.flight) ∙ rows
 
-    under_read : Under l d b s h x (reads o x h) (fed l o book (current_read x h.flight))
+    under_read : Under l d area b s h x (reads o x h) (fed l o book (current_read x h.flight))
     unfolding called
     under_read =
         let same = reading_leaves o.medium o.cache o.state (current_read x h.flight) refl in
         record {
-          inv = (goes l d o book (current_read x h.flight) under.inv read_typed).1;
+          inv = (goes l d area o book (current_read x h.flight) under.inv read_typed).1;
           active = rw same under.active;
           beside = rw same under.beside;
           clock = rw (fed_read l o book x h.flight) under.clock;
           word = under.word;
+          same = rw (fed_read l o book x h.flight) under.same;
           new = under.new;
         }
 
@@ -89,7 +90,7 @@ module _ (l d : ℕ) (b : Book) (s : State) (h : Transfer) (sizes : Sizes h) whe
       strip_read : read_by book x h.flight ≡ present (reads o x h).value
       unfolding called seen_of read_by
       strip_read =
-          sym ((goes l d o book (current_read x h.flight) under.inv read_typed).0 (number_none (reads o x h).answer e))
+          sym ((goes l d area o book (current_read x h.flight) under.inv read_typed).0 (number_none (reads o x h).answer e))
           ∙ present_strip (reads o x h).answer (reads o x h).value ok.present
 
       sixteen : Sixteen (reads o x h).value
@@ -111,38 +112,38 @@ module _ (l d : ℕ) (b : Book) (s : State) (h : Transfer) (sizes : Sizes h) whe
             taker = ok.taker;
           }
 
-    read_stage : Stage l d b s h (current_read x h.flight ∷ read_calls (refusal_in (reads o x h).answer) (reads o x h) x h) o book
+    read_stage : Stage l d area b s h (current_read x h.flight ∷ read_calls (refusal_in (reads o x h).answer) (reads o x h) x h) o book
         (after_read (refusal_in (reads o x h).answer) (reads o x h) x h)
     unfolding after_read after_check called hand_number
-    read_stage = stage_call l d b s h (current_read x h.flight) read_typed (go (refusal_in (reads o x h).answer) refl)
+    read_stage = stage_call l d area b s h (current_read x h.flight) read_typed (go (refusal_in (reads o x h).answer) refl)
       where
         by : refusal_in (reads o x h).answer ≡ none → (a : Bool) → may_hand (reads o x h).answer (reads o x h).value h ≡ a
-            → Stage l d b s h (check_calls a (reads o x h) x h) (reads o x h) (fed l o book (current_read x h.flight)) (after_check a (reads o x h) x h)
-        by e false q = abort_stage l d b s h NotOwner under_read (unwritten NotOwner (omega arith) same_rows)
+            → Stage l d area b s h (check_calls a (reads o x h) x h) (reads o x h) (fed l o book (current_read x h.flight)) (after_check a (reads o x h) x h)
+        by e false q = abort_stage l d area b s h NotOwner under_read (unwritten NotOwner (omega arith) same_rows)
         by e true q =
             let ok = may (reads o x h).answer (reads o x h).value h q in
-            write_stage l d b s h sizes under_read (checked e ok) (sixteen e ok).bytes same_rows
+            write_stage l d area b s h sizes under_read (checked e ok) (sixteen e ok).bytes same_rows
 
         go : (a : Option Refusal) → refusal_in (reads o x h).answer ≡ a
-            → Stage l d b s h (read_calls a (reads o x h) x h) (reads o x h) (fed l o book (current_read x h.flight)) (after_read a (reads o x h) x h)
-        go (some r) e = abort_stage l d b s h (Denied r) under_read (unwritten (Denied r) (positive r) same_rows)
+            → Stage l d area b s h (read_calls a (reads o x h) x h) (reads o x h) (fed l o book (current_read x h.flight)) (after_read a (reads o x h) x h)
+        go (some r) e = abort_stage l d area b s h (Denied r) under_read (unwritten (Denied r) (positive r) same_rows)
         go none e = by e (may_hand (reads o x h).answer (reads o x h).value h) refl
 
 -- ---- begin; what stands before the handover is taken as if a call had left it
 
-module _ {l d : ℕ} {m c : List ℕ} {s : State} {b : Book} {disk : Disk} {closed : List (List Record)} {tail : List Record} (u : Up l d m c s b disk closed tail)
+module _ {l d area : ℕ} {m c : List ℕ} {s : State} {b : Book} {disk : Disk} {closed : List (List Record)} {tail : List Record} (u : Up l d area m c s b disk closed tail)
     (h : Transfer) (sizes : Sizes h) where
   begin_typed : call_typed (begin h.began) ≡ true
   unfolding call_typed
   begin_typed = sizes.began
 
   begun : refusal_in (begins s m c h).answer ≡ none
-      → Under l d b s h (answer_value (begins s m c h).answer) (begins s m c h) (fed l (leaves Done s m c) b (begin h.began))
+      → Under l d area b s h (answer_value (begins s m c h).answer) (begins s m c h) (fed l (leaves Done s m c) b (begin h.began))
       × ((fed l (leaves Done s m c) b (begin h.began)).rows ≡ b.rows)
   unfolding called seen_of entered clock_of
   begun e =
       let x = answer_value (begins s m c h).answer in
-      let f = goes l d (leaves Done s m c) b (begin h.began) (running u) begin_typed in
+      let f = goes l d area (leaves Done s m c) b (begin h.began) (running u) begin_typed in
       let w = begin_way (way m c s (begin h.began)) e in
       let entry = fed_none l (leaves Done s m c) b (begin h.began) e in
       let unused = f.0 (number_none (begins s m c h).answer e) in
@@ -153,23 +154,24 @@ module _ {l d : ℕ} {m c : List ℕ} {s : State} {b : Book} {disk : Disk} {clos
           beside = w.beside;
           clock = ap (λ (y : Book). clock_of y.opened x) entry ∙ rw (eq-eqb x x refl);
           word = lt-ltb x (2 ^ 64) low;
+          same = ap (λ (y : Book). y.area) entry;
           new = record { rowless = unused.1; shut = unused.0; idle = ap (λ (n : ℕ). is_at (find_active s.places n)) w.number ∙ idle_next u };
         },
         ap (λ (y : Book). y.rows) entry,
       )
 
-  pub hand_stage : Stage l d b s h (hand_calls s m c h) (leaves Done s m c) b (hand_of s m c h)
+  pub hand_stage : Stage l d area b s h (hand_calls s m c h) (leaves Done s m c) b (hand_of s m c h)
   unfolding hand_calls hand_of after_begin called hand_number
-  hand_stage = stage_call l d b s h (begin h.began) begin_typed (go (refusal_in (begins s m c h).answer) refl)
+  hand_stage = stage_call l d area b s h (begin h.began) begin_typed (go (refusal_in (begins s m c h).answer) refl)
     where
       go : (a : Option Refusal) → refusal_in (begins s m c h).answer ≡ a
-          → Stage l d b s h (begin_calls a (begins s m c h) h) (begins s m c h) (fed l (leaves Done s m c) b (begin h.began)) (after_begin a (begins s m c h) h)
+          → Stage l d area b s h (begin_calls a (begins s m c h) h) (begins s m c h) (fed l (leaves Done s m c) b (begin h.began)) (after_begin a (begins s m c h) h)
       go (some r) e =
           let same = (refusal_leaves m c s (begin h.began) r (in_refusal (begins s m c h).answer r e)).state in
-          stage_none l d b s h (record {
-            inv = (goes l d (leaves Done s m c) b (begin h.began) (running u) begin_typed).1;
+          stage_none l d area b s h (record {
+            inv = (goes l d area (leaves Done s m c) b (begin h.began) (running u) begin_typed).1;
             active = λ n. ap (λ (t : State). is_at (find_active t.places n)) same;
             stored = omega (arith, ap (λ (t : State). t.saved.0) same);
             rows = unwritten (Denied r) (positive r) (ap (λ (y : Book). y.rows) (fed_some l (leaves Done s m c) b (begin h.began) r e));
           })
-      go none e = let (under, rows) = begun e in read_stage l d b s h sizes under rows
+      go none e = let (under, rows) = begun e in read_stage l d area b s h sizes under rows

@@ -91,13 +91,13 @@ read_asks true true false = refl
 read_asks true false taken = refl
 read_asks false active taken = refl
 
-module _ {l d : ℕ} {m c : List ℕ} {s : State} {b : Book} {disk : Disk} {closed : List (List Record)} {tail : List Record} (u : Up l d m c s b disk closed tail) where
+module _ {l d area : ℕ} {m c : List ℕ} {s : State} {b : Book} {disk : Disk} {closed : List (List Record)} {tail : List Record} (u : Up l d area m c s b disk closed tail) where
   -- is the key held against n?
   abbrev pub taken : ℕ → ℕ → Bool
   taken n key = held_row (newest_under key none (versions b.rows)) s.places n
 
   pub current_shows : (n key : ℕ)
-      → Shows (read_number (key_form key) (is_at (find_active s.places n)) (taken n key)) (read_by b n key) (look l d (up m c s) (current_read n key))
+      → Shows (read_number (key_form key) (is_at (find_active s.places n)) (taken n key)) (read_by b n key) (look l d area (up m c s) (current_read n key))
   unfolding look step seen_of read_by
   current_shows n key = record {
     number = number;
@@ -109,21 +109,21 @@ module _ {l d : ℕ} {m c : List ℕ} {s : State} {b : Book} {disk : Disk} {clos
       number = asked_number m c s (current_read n key) ∙ rw (fits_up u, held_is u key n) (read_asks (key_form key) (is_at (find_active s.places n)) (taken n key))
 
   -- one that is not refused: there is such a record, its number is active and its key not held against it
-  pub current_passed : (n key : ℕ) → (look l d (up m c s) (current_read n key)).refusal ≡ 0
+  pub current_passed : (n key : ℕ) → (look l d area (up m c s) (current_read n key)).refusal ≡ 0
       → (key_form key ≡ true) × (is_at (find_active s.places n) ≡ true) × (taken n key ≡ false)
   current_passed n key e = number_zero (key_form key) (is_at (find_active s.places n)) (taken n key) (sym (current_shows n key).number ∙ e)
 
   -- ---- a read as of a time
 
-  as_of_number : (key t : ℕ) → (look l d (up m c s) (as_of key t)).refusal ≡ cond (key_form key) (cond (leb t s.saved.0) 0 10) 18
+  as_of_number : (key t : ℕ) → (look l d area (up m c s) (as_of key t)).refusal ≡ cond (key_form key) (cond (leb t s.saved.0) 0 10) 18
   unfolding look step seen_of called
   as_of_number key t = read_refusal u key t ∙ ap (λ (n : ℕ). cond (key_form key) (cond (leb t n) 0 10) 18) (sym (saved_is u))
 
-  pub as_of_strip : (key t : ℕ) → (look l d (up m c s) (as_of key t)).refusal ≡ 0 → (look l d (up m c s) (as_of key t)).strip ≡ strip_as_of b.rows key t
+  pub as_of_strip : (key t : ℕ) → (look l d area (up m c s) (as_of key t)).refusal ≡ 0 → (look l d area (up m c s) (as_of key t)).strip ≡ strip_as_of b.rows key t
   unfolding look step seen_of called
   as_of_strip key t e = as_of_answers u key t e
 
-  pub as_of_reached : (key t : ℕ) → (look l d (up m c s) (as_of key t)).refusal ≡ 0 → (key_form key ≡ true) × (t ≤ s.saved.0)
+  pub as_of_reached : (key t : ℕ) → (look l d area (up m c s) (as_of key t)).refusal ≡ 0 → (key_form key ≡ true) × (t ≤ s.saved.0)
   as_of_reached key t e = go (key_form key) refl (leb t s.saved.0) refl (sym (as_of_number key t) ∙ e)
     where
       go : (form : Bool) → key_form key ≡ form → (a : Bool) → leb t s.saved.0 ≡ a → ◌≡◌ {A = ℕ} (cond form (cond a 0 10) 18) 0
@@ -132,7 +132,7 @@ module _ {l d : ℕ} {m c : List ℕ} {s : State} {b : Book} {disk : Disk} {clos
       go true p false q z = absurd (omega arith)
       go false p a q z = absurd (omega arith)
 
-  pub as_of_answered : (key t : ℕ) → key_form key ≡ true → t ≤ s.saved.0 → (look l d (up m c s) (as_of key t)).refusal ≡ 0
+  pub as_of_answered : (key t : ℕ) → key_form key ≡ true → t ≤ s.saved.0 → (look l d area (up m c s) (as_of key t)).refusal ≡ 0
   as_of_answered key t k h = as_of_number key t ∙ rw (k, le-leb t s.saved.0 h)
 
   -- what is stored is no later than what is given

@@ -58,8 +58,8 @@ newest_of_others b n key e = newest_another n key none (versions b.rows) (foreig
 
 -- ---- a number begun at a clock
 
-module _ {l d : ℕ} {m c : List ℕ} {s : State} {b : Book} {disk : Disk} {closed : List (List Record)} {tail : List Record} (u : Up l d m c s b disk closed tail)
-    (clock : ℕ) (can : CanBegin l d (up m c s) clock) where
+module _ {l d area : ℕ} {m c : List ℕ} {s : State} {b : Book} {disk : Disk} {closed : List (List Record)} {tail : List Record} (u : Up l d area m c s b disk closed tail)
+    (clock : ℕ) (can : CanBegin l d area (up m c s) clock) where
   given : refusal_in (begin_of s m c clock).answer ≡ none
   unfolding look step seen_of called
   given = zero_none (begin_of s m c clock).answer can.1
@@ -82,17 +82,17 @@ module _ {l d : ℕ} {m c : List ℕ} {s : State} {b : Book} {disk : Disk} {clos
   unfolding entered called
   same_rows = ap (λ (y : Book). y.rows) (fed_none l (leaves Done s m c) b (begin clock) given)
 
-  inv : Inv l d (after (next (leaves Done s m c) (begin clock))) book
+  inv : Inv l d area (after (next (leaves Done s m c) (begin clock))) book
   unfolding call_typed
-  inv = (goes l d (leaves Done s m c) b (begin clock) (running u) (lt-ltb clock (2 ^ 64) can.0)).1
+  inv = (goes l d area (leaves Done s m c) b (begin clock) (running u) (lt-ltb clock (2 ^ 64) can.0)).1
 
   same_held : (key : ℕ) → held_row (newest_under key none (versions b.rows)) (begin_of s m c clock).state.places number ≡ taken u number key
   same_held key = held_others (begin_of s m c clock).state.places s.places (newest_of_others b number key rowless) begun.beside.others
 
-  begun_shows : (key : ℕ) → Shows (read_number (key_form key) true (taken u number key)) (read_by b number key) (look l d (after (begin_of s m c clock)) (current_read number key))
+  begun_shows : (key : ℕ) → Shows (read_number (key_form key) true (taken u number key)) (read_by b number key) (look l d area (after (begin_of s m c clock)) (current_read number key))
   unfolding called read_by
   begun_shows key = with_up inv (λ disk' closed' tail' u'. rw (begun.active, same_rows, same_held key) at (current_shows u' number key))
 
-  pub new_shows : (key : ℕ) → Shows (read_number (key_form key) true (taken u number key)) (read_by b number key) (new_read l d (up m c s) clock key)
+  pub new_shows : (key : ℕ) → Shows (read_number (key_form key) true (taken u number key)) (read_by b number key) (new_read l d area (up m c s) clock key)
   unfolding new_read look step seen_of called
   new_shows key = unfold look step seen_of called in begun_shows key

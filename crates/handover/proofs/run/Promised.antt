@@ -77,21 +77,21 @@ handed_form (handed x v t new checked time e) z = checked.form
 
 -- ---- a running store before the handover, and after it
 
-module _ {l d : ℕ} {m c : List ℕ} {s : State} {b : Book} {disk : Disk} {closed : List (List Record)} {tail : List Record} (u : Up l d m c s b disk closed tail)
-    (h : Transfer) (o : HandOutcome) (book : Book) (end : Ended l d b s h o book)
-    {disk' : Disk} {closed' : List (List Record)} {tail' : List Record} (u' : Up l d o.medium o.cache o.state book disk' closed' tail') where
+module _ {l d area : ℕ} {m c : List ℕ} {s : State} {b : Book} {disk : Disk} {closed : List (List Record)} {tail : List Record} (u : Up l d area m c s b disk closed tail)
+    (h : Transfer) (o : HandOutcome) (book : Book) (end : Ended l d area b s h o book)
+    {disk' : Disk} {closed' : List (List Record)} {tail' : List Record} (u' : Up l d area o.medium o.cache o.state book disk' closed' tail') where
   -- ---- reads by number
 
   -- a read is refused after the handover as before it
-  later_shows : (n key : ℕ) → Shows (read_number (key_form key) (is_at (find_active s.places n)) (taken u n key)) (read_by book n key) (look l d (led o) (current_read n key))
+  later_shows : (n key : ℕ) → Shows (read_number (key_form key) (is_at (find_active s.places n)) (taken u n key)) (read_by book n key) (look l d area (led o) (current_read n key))
   later_shows n key = rw (end.active n, same_held b s h o.state.places end.active end.rows key n) at (current_shows u' n key)
 
   same_strip : (n key : ℕ) → (is_at (find_active s.places n) ≡ true → read_by book n key ≡ read_by b n key)
-      → (look l d (led o) (current_read n key)).strip ≡ (look l d (up m c s) (current_read n key)).strip
+      → (look l d area (led o) (current_read n key)).strip ≡ (look l d area (up m c s) (current_read n key)).strip
   same_strip n key f =
       shows_same (current_shows u n key) (later_shows n key) (λ e. f (current_passed u n key ((current_shows u n key).number ∙ e)).1)
 
-  any_reads : AnyReads l d (up m c s) (led o)
+  any_reads : AnyReads l d area (up m c s) (led o)
   unfolding read_by
   any_reads = record {
     refusal = λ n key. (later_shows n key).number ∙ sym (current_shows u n key).number;
@@ -104,12 +104,12 @@ module _ {l d : ℕ} {m c : List ℕ} {s : State} {b : Book} {disk : Disk} {clos
 
   -- ---- new numbers, one begun before and one after
 
-  module _ (i j : ℕ) (p : CanBegin l d (up m c s) i) (q : CanBegin l d (led o) j) where
+  module _ (i j : ℕ) (p : CanBegin l d area (up m c s) i) (q : CanBegin l d area (led o) j) where
     -- the later number had no row before
     unused : has_row b.rows (number u' j q) ≡ false
     unused = rowless_before end.rows (number u' j q) (rowless u' j q)
 
-    later_new : (key : ℕ) → Shows (read_number (key_form key) true (taken u (number u i p) key)) (read_by book (number u' j q) key) (new_read l d (led o) j key)
+    later_new : (key : ℕ) → Shows (read_number (key_form key) true (taken u (number u i p) key)) (read_by book (number u' j q) key) (new_read l d area (led o) j key)
     later_new key =
         rw (
           same_held b s h o.state.places end.active end.rows key (number u' j q),
@@ -123,10 +123,10 @@ module _ {l d : ℕ} {m c : List ℕ} {s : State} {b : Book} {disk : Disk} {clos
         current_fresh b.rows (number u' j q) (number u i p) key missing (versions b.rows) (foreign b.rows (number u' j q) unused)
         (foreign b.rows (number u i p) (rowless u i p))
 
-    new_strip : (key : ℕ) → read_by book (number u' j q) key ≡ read_by b (number u' j q) key → (new_read l d (led o) j key).strip ≡ (new_read l d (up m c s) i key).strip
+    new_strip : (key : ℕ) → read_by book (number u' j q) key ≡ read_by b (number u' j q) key → (new_read l d area (led o) j key).strip ≡ (new_read l d area (up m c s) i key).strip
     new_strip key f = shows_same (new_shows u i p key) (later_new key) (λ e. f ∙ alike key)
 
-    any_new_reads : AnyNewReads l d (up m c s) (led o) i j
+    any_new_reads : AnyNewReads l d area (up m c s) (led o) i j
     unfolding read_by
     any_new_reads = record {
       refusal = λ key. (later_new key).number ∙ sym (new_shows u i p key).number;
@@ -137,8 +137,8 @@ module _ {l d : ℕ} {m c : List ℕ} {s : State} {b : Book} {disk : Disk} {clos
 
   -- ---- handed over
 
-  new_handed : hand_number o.answer ≡ 0 → (t : ℕ) (k : HandedBook h t b book) (j : ℕ) → CanBegin l d (led o) j
-      → ((new_read l d (led o) j h.flight).refusal ≡ 0) × ((new_read l d (led o) j h.flight).strip ≡ present (with_owner k.strip h.to))
+  new_handed : hand_number o.answer ≡ 0 → (t : ℕ) (k : HandedBook h t b book) (j : ℕ) → CanBegin l d area (led o) j
+      → ((new_read l d area (led o) j h.flight).refusal ≡ 0) × ((new_read l d area (led o) j h.flight).strip ≡ present (with_owner k.strip h.to))
   new_handed z t k j q =
       let n = number u' j q in
       let free : taken u' n h.flight ≡ false = same_held b s h o.state.places end.active end.rows h.flight n ∙ handed_free end.rows z n in
@@ -146,7 +146,7 @@ module _ {l d : ℕ} {m c : List ℕ} {s : State} {b : Book} {disk : Disk} {clos
       let e : read_number (key_form h.flight) true (taken u' n h.flight) ≡ 0 = rw (handed_form end.rows z, free) in
       (x.number ∙ e, x.answered e ∙ k.current n)
 
-  handed_reads : hand_number o.answer ≡ 0 → (t : ℕ) (k : HandedBook h t b book) → HandedReads l d h t k.strip (up m c s) (led o)
+  handed_reads : hand_number o.answer ≡ 0 → (t : ℕ) (k : HandedBook h t b book) → HandedReads l d area h t k.strip (up m c s) (led o)
   handed_reads z t k = record {
     current = λ n e. (current_shows u' n h.flight).answered (sym (current_shows u' n h.flight).number ∙ e) ∙ k.current n;
     past = λ e. as_of_strip u' h.flight t e ∙ k.past;
@@ -157,7 +157,7 @@ module _ {l d : ℕ} {m c : List ℕ} {s : State} {b : Book} {disk : Disk} {clos
 
   -- ---- all of it
 
-  promised_up : Keeps l d h (up m c s) (led o) b book o
+  promised_up : Keeps l d area h (up m c s) (led o) b book o
   unfolding read_by
   promised_up = record {
     reads = any_reads;
@@ -171,6 +171,6 @@ module _ {l d : ℕ} {m c : List ℕ} {s : State} {b : Book} {disk : Disk} {clos
     handed = λ z. let k = handed_book b s h book o.answer end.rows z in (k, handed_reads z (hand_value o.answer) k);
   }
 
-module _ {l d : ℕ} {m c : List ℕ} {s : State} {b : Book} {disk : Disk} {closed : List (List Record)} {tail : List Record} (u : Up l d m c s b disk closed tail) where
-  pub promised : (h : Transfer) (o : HandOutcome) (book : Book) → Ended l d b s h o book → Keeps l d h (up m c s) (up o.medium o.cache o.state) b book o
+module _ {l d area : ℕ} {m c : List ℕ} {s : State} {b : Book} {disk : Disk} {closed : List (List Record)} {tail : List Record} (u : Up l d area m c s b disk closed tail) where
+  pub promised : (h : Transfer) (o : HandOutcome) (book : Book) → Ended l d area b s h o book → Keeps l d area h (up m c s) (up o.medium o.cache o.state) b book o
   promised h o book end = with_up end.inv (λ disk' closed' tail' u'. promised_up u h o book end u')

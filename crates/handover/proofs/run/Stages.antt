@@ -14,8 +14,8 @@ use Rattle.store.specs.declared.Refusal.{Refusal}
 use Rattle.store.specs.declared.State.{State}
 use Rattle.store.specs.Answer.{Outcome, answer_value}
 use Rattle.store.specs.Places.{is_at, find_active}
-use Rattle.runs.specs.Event.{Call, write, commit, abort, call_typed, typed, are_bytes, is_word, is_record}
-use Rattle.runs.specs.Book.{Book, Row, committed, last_time, has_row, clock_of, add, commit_time, entered}
+use Rattle.runs.specs.Event.{Call, write, commit, abort, call_typed, typed, are_bytes, is_word, is_record, is_user}
+use Rattle.runs.specs.Book.{Book, Row, committed, last_time, has_row, clock_of, add, commit_time, entered, user_given}
 use Rattle.runs.specs.Machine.{called, seen_of, after, step, is_run}
 use Rattle.runs.specs.Moments.{book_after}
 use Rattle.runs.specs.Unstuck.{events_of}
@@ -40,18 +40,19 @@ use Rattle.handover.proofs.run.Looks.{saved_low}
 use Rattle.handover.proofs.run.Typed.{owner_bytes}
 
 -- b and s are the book and the state before the handover, o and book what its last call left and the book then
-pub record Under (l d : ℕ) (b : Book) (s : State) (h : Transfer) (x : ℕ) (o : Outcome) (book : Book) : Type 0 where
-  pub inv : Inv l d (after o) book
+pub record Under (l d area : ℕ) (b : Book) (s : State) (h : Transfer) (x : ℕ) (o : Outcome) (book : Book) : Type 0 where
+  pub inv : Inv l d area (after o) book
   pub active : is_at (find_active o.state.places x) ≡ true
   pub beside : Beside x s o.state
   pub clock : clock_of book.opened x ≡ h.began
   pub word : is_word x ≡ true
+  pub same : book.area ≡ b.area
   pub new : New b s x
 
 -- the calls ks go on with the run, and after them the handover has ended as it leaves things
-pub record Stage (l d : ℕ) (b : Book) (s : State) (h : Transfer) (ks : List Call) (o : Outcome) (book : Book) (end : HandOutcome) : Type 0 where
-  pub run : is_run l d (after o) (events_of ks) ≡ true
-  pub ended : Ended l d b s h end (book_after l d (after o) book (events_of ks))
+pub record Stage (l d area : ℕ) (b : Book) (s : State) (h : Transfer) (ks : List Call) (o : Outcome) (book : Book) (end : HandOutcome) : Type 0 where
+  pub run : is_run l d area (after o) (events_of ks) ≡ true
+  pub ended : Ended l d area b s h end (book_after l d area (after o) book (events_of ks))
 
 -- what is asked for has the right sizes
 pub record Sizes (h : Transfer) : Type 0 where
@@ -59,6 +60,7 @@ pub record Sizes (h : Transfer) : Type 0 where
   pub to : ltb h.to 256 ≡ true
   pub began : is_word h.began ≡ true
   pub ended : is_word h.ended ≡ true
+  pub user : is_user h.user ≡ true
 
 pub sizes_of : (h : Transfer) → hand_typed h ≡ true → Sizes h
 unfolding hand_typed
@@ -66,11 +68,13 @@ sizes_of h t =
     let behind-flight = and_1 (is_record h.flight) _ t in
     let behind-from = and_1 (ltb h.from 256) _ behind-flight in
     let clocks = and_1 (ltb h.to 256) _ behind-from in
+    let behind-began = and_1 (is_word h.began) _ clocks in
     record {
       flight = and_0 (is_record h.flight) _ t;
       to = and_0 (ltb h.to 256) _ behind-from;
-      began = and_0 (is_word h.began) (is_word h.ended) clocks;
-      ended = and_1 (is_word h.began) (is_word h.ended) clocks;
+      began = and_0 (is_word h.began) _ clocks;
+      ended = and_0 (is_word h.ended) (is_user h.user) behind-began;
+      user = and_1 (is_word h.ended) (is_user h.user) behind-began;
     }
 
 -- its write, after the read o
@@ -83,27 +87,28 @@ commit_time_law : (book : Book) (x : ℕ) (h : Transfer) {last : ℕ} → clock_
 unfolding commit_time
 commit_time_law book x h e f = rw (e, f)
 
-module _ (l d : ℕ) (b : Book) (s : State) (h : Transfer) where
-  pub stage_none : {o : Outcome} {book : Book} {end : HandOutcome} → Ended l d b s h end book → Stage l d b s h [] o book end
+module _ (l d area : ℕ) (b : Book) (s : State) (h : Transfer) where
+  pub stage_none : {o : Outcome} {book : Book} {end : HandOutcome} → Ended l d area b s h end book → Stage l d area b s h [] o book end
   unfolding is_run book_after events_of
   stage_none e = record { run = refl; ended = e }
 
   pub stage_call : {o : Outcome} {book : Book} {ks : List Call} {end : HandOutcome} (k : Call) → call_typed k ≡ true
-      → Stage l d b s h ks (next o k) (fed l o book k) end → Stage l d b s h (k ∷ ks) o book end
+      → Stage l d area b s h ks (next o k) (fed l o book k) end → Stage l d area b s h (k ∷ ks) o book end
   unfolding is_run typed book_after events_of step
   stage_call k t rest = record { run = rw t rest.run; ended = rest.ended }
 
   -- a refused call changes nothing
   under_refused : {x : ℕ} {o : Outcome} {book : Book} (k : Call) (r : Refusal) → call_typed k ≡ true → refusal_in (next o k).answer ≡ some r
-      → Under l d b s h x o book → Under l d b s h x (next o k) (fed l o book k)
+      → Under l d area b s h x o book → Under l d area b s h x (next o k) (fed l o book k)
   under_refused {o = o} {book = book} k r t e under =
       let same = (refusal_leaves o.medium o.cache o.state k r (in_refusal (next o k).answer r e)).state in
       record {
-        inv = (goes l d o book k under.inv t).1;
+        inv = (goes l d area o book k under.inv t).1;
         active = rw same under.active;
         beside = rw same under.beside;
         clock = rw (fed_some l o book k r e) under.clock;
         word = under.word;
+        same = rw (fed_some l o book k r e) under.same;
         new = under.new;
       }
 
@@ -118,11 +123,11 @@ module _ (l d : ℕ) (b : Book) (s : State) (h : Transfer) where
 
   -- ---- the abort
 
-  pub abort_stage : {x : ℕ} {o : Outcome} {book : Book} (a : HandAnswer) → Under l d b s h x o book → RowsEnd b s h book.rows a
-      → Stage l d b s h (abort x ∷ []) o book (gives_up a o x)
+  pub abort_stage : {x : ℕ} {o : Outcome} {book : Book} (a : HandAnswer) → Under l d area b s h x o book → RowsEnd b s h book.rows a
+      → Stage l d area b s h (abort x ∷ []) o book (gives_up a o x)
   unfolding called call_typed entered
   abort_stage {x = x} {o = o} {book = book} a under rows = stage_call (abort x) under.word (stage_none (record {
-    inv = (goes l d o book (abort x) under.inv under.word).1;
+    inv = (goes l d area o book (abort x) under.inv under.word).1;
     active = none_active under.new (with_up under.inv (λ disk closed tail u. abort_own u w done)) beside;
     stored = beside.stored;
     rows = rw (ap (λ (y : Book). y.rows) (fed_none l o book (abort x) done)) rows;
@@ -139,14 +144,14 @@ module _ (l d : ℕ) (b : Book) (s : State) (h : Transfer) where
 
   -- ---- the commit: refused, or its row is there
 
-  commit_stage : {x : ℕ} {o : Outcome} {book : Book} (v : List ℕ) → Sizes h → Under l d b s h x o book → Checked b s h x v → book.rows ≡ b.rows ++ (new_row h x v ∷ [])
-      → Stage l d b s h (commit x h.ended ∷ commit_calls (refusal_in (commits o x h).answer) x) o book
+  commit_stage : {x : ℕ} {o : Outcome} {book : Book} (v : List ℕ) → Sizes h → Under l d area b s h x o book → Checked b s h x v → book.rows ≡ b.rows ++ (new_row h x v ∷ [])
+      → Stage l d area b s h (commit x h.ended h.user ∷ commit_calls (refusal_in (commits o x h).answer) x) o book
       (after_commit (refusal_in (commits o x h).answer) (commits o x h) x)
   unfolding after_commit called call_typed entered seen_of add hand_number
-  commit_stage {x = x} {o = o} {book = book} v sizes under checked rows = stage_call (commit x h.ended) t (go (refusal_in (commits o x h).answer) refl)
+  commit_stage {x = x} {o = o} {book = book} v sizes under checked rows = stage_call (commit x h.ended h.user) t (go (refusal_in (commits o x h).answer) refl)
     where
-      t : call_typed (commit x h.ended) ≡ true
-      t = rw (under.word, sizes.ended)
+      t : call_typed (commit x h.ended h.user) ≡ true
+      t = rw (under.word, sizes.ended, sizes.user)
 
       has : has_row book.rows x ≡ true
       has = ap (λ (rs : List Row). has_row rs x) rows ∙ row_last b.rows (new_version h x v)
@@ -154,22 +159,22 @@ module _ (l d : ℕ) (b : Book) (s : State) (h : Transfer) where
       last : last_time book.rows ≡ last_time b.rows
       last = ap last_time rows ∙ last_version b.rows (new_version h x v)
 
-      w : Way o.medium o.cache o.state (commit x h.ended) (commits o x h)
-      w = way o.medium o.cache o.state (commit x h.ended)
+      w : Way o.medium o.cache o.state (commit x h.ended h.user) (commits o x h)
+      w = way o.medium o.cache o.state (commit x h.ended h.user)
 
       beside : Beside x s (commits o x h).state
       beside = beside_then x s o.state (commits o x h).state under.beside (with_up under.inv (λ disk closed tail u. commit_beside (saved_low u) w))
 
       go : (a : Option Refusal) → refusal_in (commits o x h).answer ≡ a
-          → Stage l d b s h (commit_calls a x) (next o (commit x h.ended)) (fed l o book (commit x h.ended)) (after_commit a (commits o x h) x)
+          → Stage l d area b s h (commit_calls a x) (next o (commit x h.ended h.user)) (fed l o book (commit x h.ended h.user)) (after_commit a (commits o x h) x)
       go (some r) e =
-          abort_stage (Denied r) (under_refused (commit x h.ended) r t e under)
-          (aborted (Denied r) x v (positive r) under.new checked (ap (λ (y : Book). y.rows) (fed_some l o book (commit x h.ended) r e) ∙ rows))
+          abort_stage (Denied r) (under_refused (commit x h.ended h.user) r t e under)
+          (aborted (Denied r) x v (positive r) under.new checked (ap (λ (y : Book). y.rows) (fed_some l o book (commit x h.ended h.user) r e) ∙ rows))
       go none e =
-          let f = goes l d o book (commit x h.ended) under.inv t in
+          let f = goes l d area o book (commit x h.ended h.user) under.inv t in
           let time : answer_value (commits o x h).answer ≡ commit_time book x h.ended = f.0 (number_none (commits o x h).answer e) ∙ rw has in
-          let more : (fed l o book (commit x h.ended)).rows ≡ book.rows ++ (committed x (commit_time book x h.ended) ∷ []) =
-          ap (λ (y : Book). y.rows) (fed_none l o book (commit x h.ended) e) ∙ rw has in
+          let more : (fed l o book (commit x h.ended h.user)).rows ≡ book.rows ++ (committed x (commit_time book x h.ended) (user_given b.area h.user) ∷ []) =
+          ap (λ (y : Book). y.rows) (fed_none l o book (commit x h.ended h.user) e) ∙ rw (has, under.same) in
           stage_none (record {
             inv = f.1;
             active = none_active under.new (with_up under.inv (λ disk closed tail u. commit_own u w e)) beside;
@@ -179,9 +184,9 @@ module _ (l d : ℕ) (b : Book) (s : State) (h : Transfer) where
 
   -- ---- the write: refused, or its row is there
 
-  pub write_stage : {x : ℕ} {o : Outcome} {book : Book} → Sizes h → Under l d b s h x o book → Checked b s h x o.value → are_bytes o.value ≡ true
+  pub write_stage : {x : ℕ} {o : Outcome} {book : Book} → Sizes h → Under l d area b s h x o book → Checked b s h x o.value → are_bytes o.value ≡ true
       → book.rows ≡ b.rows
-      → Stage l d b s h (write_call x o h ∷ write_calls (refusal_in (writes o x h).answer) (writes o x h) x h) o book
+      → Stage l d area b s h (write_call x o h ∷ write_calls (refusal_in (writes o x h).answer) (writes o x h) x h) o book
       (after_write (refusal_in (writes o x h).answer) (writes o x h) x h)
   unfolding after_write called call_typed entered add hand_number
   write_stage {x = x} {o = o} {book = book} sizes under checked bytes rows = stage_call (write_call x o h) t (go (refusal_in (writes o x h).answer) refl)
@@ -199,7 +204,7 @@ module _ (l d : ℕ) (b : Book) (s : State) (h : Transfer) where
       w = way o.medium o.cache o.state (write_call x o h)
 
       go : (a : Option Refusal) → refusal_in (writes o x h).answer ≡ a
-          → Stage l d b s h (write_calls a (writes o x h) x h) (next o (write_call x o h)) (fed l o book (write_call x o h)) (after_write a (writes o x h) x h)
+          → Stage l d area b s h (write_calls a (writes o x h) x h) (next o (write_call x o h)) (fed l o book (write_call x o h)) (after_write a (writes o x h) x h)
       go (some r) e =
           abort_stage (Denied r) (under_refused (write_call x o h) r t e under)
           (unwritten (Denied r) (positive r) (ap (λ (y : Book). y.rows) (fed_some l o book (write_call x o h) r e) ∙ rows))
@@ -207,11 +212,12 @@ module _ (l d : ℕ) (b : Book) (s : State) (h : Transfer) where
           let entry = fed_none l o book (write_call x o h) e in
           commit_stage o.value sizes
           (record {
-            inv = (goes l d o book (write_call x o h) under.inv t).1;
+            inv = (goes l d area o book (write_call x o h) under.inv t).1;
             active = ap is_at (written_active w x) ∙ under.active;
             beside = beside_then x s o.state (writes o x h).state under.beside (with_up under.inv (λ disk closed tail u. write_beside (saved_low u) w));
             clock = ap (λ (y : Book). clock_of y.opened x) entry ∙ under.clock;
             word = under.word;
+            same = ap (λ (y : Book). y.area) entry ∙ under.same;
             new = under.new;
           })
           checked

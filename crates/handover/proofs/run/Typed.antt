@@ -67,7 +67,7 @@ current_sized rs n key before (v ∷ vs) f z =
     go true false = f.0
     go false gone = z
 
-module _ {l d : ℕ} {m c : List ℕ} {s : State} {b : Book} {disk : Disk} {closed : List (List Record)} {tail : List Record} (u : Up l d m c s b disk closed tail) where
+module _ {l d area : ℕ} {m c : List ℕ} {s : State} {b : Book} {disk : Disk} {closed : List (List Record)} {tail : List Record} (u : Up l d area m c s b disk closed tail) where
   pub strip_sixteen : (n key : ℕ) (v : List ℕ) → read_by b n key ≡ present v → Sixteen v
   unfolding read_by
   strip_sixteen n key v e = subst Sized e (current_sized b.rows n key missing (versions b.rows) all tt)
@@ -75,4 +75,4 @@ module _ {l d : ℕ} {m c : List ℕ} {s : State} {b : Book} {disk : Disk} {clos
       all : Each (λ (v : Version). Sixteen v.value) (versions b.rows)
       all =
           rw (u.rows, versions_are (records (closed ++ (tail ∷ []))))
-          (rows_sixteen d (versions_of (closed ++ (tail ∷ []))) (versions_sound d (closed ++ (tail ∷ [])) u.medium.log.shape.sound))
+          (rows_sixteen d (versions_of (closed ++ (tail ∷ []))) (versions_sound d area (closed ++ (tail ∷ [])) u.medium.log.shape.sound))

@@ -7,13 +7,13 @@ use Rattle.fields.proofs.PrefixLaws.{prefix_step, prefix_done}
 use Rattle.memory.specs.Memory.{blank}
 use Rattle.memory.proofs.clear.Goals as goal
 
-length-blank : length blank ≡ 448
+length-blank : length blank ≡ 512
 unfolding blank
-length-blank = length-replicate {A = ℕ} 448 0
+length-blank = length-replicate {A = ℕ} 512 0
 
 zero-at : (i : ℕ) → get_or blank i 0 ≡ 0
 unfolding blank
-zero-at i = go 448 i
+zero-at i = go 512 i
   where
     go : (n i : ℕ) → ◌≡◌ {A = ℕ} (get_or (replicate n 0) i 0) 0
     go zero i = refl

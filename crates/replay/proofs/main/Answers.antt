@@ -5,4 +5,4 @@ use Rattle.replay.proofs.main.Goals as goal
 
 pub loop-turns-init : goal.loop-turns-init
 loop-turns-init c =
-    (length-replicate {A = ℕ} 50688 0, length-replicate {A = ℕ} 32768 0, length-replicate {A = ℕ} 40000 0, length-replicate {A = ℕ} 200000 0)
+    (length-replicate {A = ℕ} 58880 0, length-replicate {A = ℕ} 32768 0, length-replicate {A = ℕ} 40000 0, length-replicate {A = ℕ} 200000 0)

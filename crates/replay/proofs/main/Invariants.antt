@@ -4,7 +4,7 @@ use lib.ListN.{length}
 use Rattle.replay.proofs.main.Given as goal
 
 abbrev pub invariant-loop-turns : goal.invariant-loop-turns
-invariant-loop-turns l = (length l.medium ≡ 50688) × (length l.cache ≡ 32768) × (length l.buffer ≡ 40000) × (length l.out ≡ 200000)
+invariant-loop-turns l = (length l.medium ≡ 58880) × (length l.cache ≡ 32768) × (length l.buffer ≡ 40000) × (length l.out ≡ 200000)
 
 abbrev pub decreases-loop-turns : goal.decreases-loop-turns
 decreases-loop-turns l = l.turns

@@ -8,7 +8,7 @@ use Rattle.striproom.proofs.play_all.Statement.{statement}
 use Rattle.striproom.proofs.play_all.Tie as tie
 
 abbrev invariant-loop : tie.invariant-loop
-invariant-loop name to bytes words₀ tail₀ medium₀ cache₀ buffer₀ out₀ r₀ i₀ words tail medium cache buffer out r i = (length medium ≡ 50688) × (length cache ≡ 32768) × (length buffer ≡ 40000) × (length out ≡ 94000) × (i ≤ length bytes)
+invariant-loop name to bytes words₀ tail₀ medium₀ cache₀ buffer₀ out₀ r₀ i₀ words tail medium cache buffer out r i = (length medium ≡ 58880) × (length cache ≡ 32768) × (length buffer ≡ 40000) × (length out ≡ 94000) × (i ≤ length bytes)
 
 abbrev decreases-loop : tie.decreases-loop
 decreases-loop name to bytes words₀ tail₀ medium₀ cache₀ buffer₀ out₀ r₀ i₀ words tail medium cache buffer out r i = length bytes - i

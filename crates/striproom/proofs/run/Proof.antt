@@ -7,7 +7,7 @@ use Rattle.striproom.proofs.run.Statement.{statement}
 use Rattle.striproom.proofs.run.Tie as tie
 
 abbrev invariant-loop : tie.invariant-loop
-invariant-loop name to words₀ tail₀ medium₀ cache₀ buffer₀ out₀ r₀ turns₀ words tail medium cache buffer out r turns = (length medium ≡ 50688) × (length cache ≡ 32768) × (length buffer ≡ 40000) × (length out ≡ 94000)
+invariant-loop name to words₀ tail₀ medium₀ cache₀ buffer₀ out₀ r₀ turns₀ words tail medium cache buffer out r turns = (length medium ≡ 58880) × (length cache ≡ 32768) × (length buffer ≡ 40000) × (length out ≡ 94000)
 
 abbrev decreases-loop : tie.decreases-loop
 decreases-loop name to words₀ tail₀ medium₀ cache₀ buffer₀ out₀ r₀ turns₀ words tail medium cache buffer out r turns = turns
@@ -34,7 +34,7 @@ starts-requires : tie.Need-starts-requires invariant-loop decreases-loop
 starts-requires c κs = search rules
 
 loop-holds : tie.Need-loop-init invariant-loop decreases-loop
-loop-holds c = (c.before.before.before.before.before.before.before.before.before.«open».auto.1.1.0 ∙ length-replicate {A = ℕ} 50688 0, length-replicate {A = ℕ} 32768 0, length-replicate {A = ℕ} 40000 0, length-replicate {A = ℕ} 94000 0)
+loop-holds c = (c.before.before.before.before.before.before.before.before.before.«open».auto.1.1.0 ∙ length-replicate {A = ℕ} 58880 0, length-replicate {A = ℕ} 32768 0, length-replicate {A = ℕ} 40000 0, length-replicate {A = ℕ} 94000 0)
 
 returns-2 : tie.Need-returns-2 invariant-loop decreases-loop
 returns-2 c = search rules

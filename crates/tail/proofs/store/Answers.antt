@@ -17,7 +17,7 @@ store-requires c =
     let w = c.args.words.now in
     let r = ready_words _ _ _ c.requires in
     let n : length c.args.tail.now ≡ 512 = search rules in
-    let h = log_in_medium (get_or w 0 0) (get_or w 1 0) c.sequence.result (omega arith) in
+    let h = log_in_medium (get_or w 0 0) (get_or w 1 0) (get_or w 11 0) c.sequence.result (omega arith) in
     record {
       k_in_bounds = omega arith;
       block_len = n;

@@ -1,36 +1,63 @@
 -- With room the record goes into the tail; without it the tail is stored, and the record goes into the empty block behind it.
 -- Assumes nothing.
-use mathlib.Core.Path.{◌≡◌, sym, ◌∙◌}
+use mathlib.Core.Path.{◌≡◌, sym, ap, ◌∙◌}
 use mathlib.Core.Bool.{true, false}
+use Prim.Native.Nat.{ℕ, ◌+◌, ◌≤◌}
 use native.Mathlib.Omega.{arith}
+use Rattle.layout.specs.Item.{user_bytes_of}
 use Rattle.layout.specs.Journal.{record_size}
+use Rattle.layout.proofs.RecordLaws.{user_few}
 use Rattle.store.specs.Tail.{tail_fits}
 use Rattle.memory.specs.Memory.{state_by, state_of}
 use Rattle.tail.proofs.TailLaws.{room_for, may_begin, begun_used, took_here, took_behind, ready_words}
 use borrow.Author.Rules.{rules}
 use Rattle.tail.proofs.take_commit.Goals as goal
 
+-- a user has at most four bytes
+small : (c : goal.After-user_bytes) → c.user_bytes.result ≤ 4
+small c = rw c.user_bytes.ensures (user_few c.args.head.form)
+
+pub overflow_add-size : goal.overflow_add-size
+overflow_add-size c = omega (arith, small c)
+
+-- a user has at most four bytes
+small_at_has_room_requires : (c : goal.After-has_room-arg-2-1) → c.user_bytes.result ≤ 4
+small_at_has_room_requires c = rw c.user_bytes.ensures (user_few c.args.head.form)
+
+pub has_room-requires : goal.has_room-requires
+has_room-requires c =
+    record {
+      tail_len = search rules;
+      size_bound = omega (arith, small_at_has_room_requires c);
+    }
+
 -- whether there is room
-full : (c : goal.After-begin_block-arg-then-not-has_room-1) → tail_fits c.args.tail.now 19 ≡ false
-full c = sym c.has_room.ensures ∙ c.if-not-has_room.true
+full : (c : goal.After-begin_block-arg-then-not-has_room-1) → let a = c.args in tail_fits a.tail.now (19 + user_bytes_of a.head.form) ≡ false
+full c =
+    let a = c.args in
+    ap (λ (n : ℕ). tail_fits a.tail.now (19 + n)) (sym c.user_bytes.ensures) ∙ sym c.has_room.ensures
+    ∙ c.if-not-has_room.true
 
 pub begin_block-requires : goal.begin_block-requires
 unfolding state_of state_by
 begin_block-requires c =
-    may_begin (state_of c.args.words.now c.args.tail.now) c.args.medium.now 19 c.requires.medium_value (full c)
+    may_begin (state_of c.args.words.now c.args.tail.now) c.args.medium.now _ c.requires.form_value (full c)
 
 pub add_commit-requires : goal.add_commit-requires
 add_commit-requires c =
-    let k = c.args in
-    let u = begun_used k.words.now k.tail.now _ _ c.begin_block.ensures in
+    let u = begun_used c.args.words.now c.args.tail.now _ _ c.begin_block.ensures in
+    let n = user_few c.args.head.form in
     record {
       block_len = search rules;
       bound = (omega arith, omega arith);
     }
 
 -- whether there is room
-full_at_returns_then_not_has_room : (c : goal.After-add_commit) → tail_fits c.args.tail.now 19 ≡ false
-full_at_returns_then_not_has_room c = sym c.has_room.ensures ∙ c.if-not-has_room.true
+full_at_returns_then_not_has_room : (c : goal.After-add_commit) → let a = c.args in tail_fits a.tail.now (19 + user_bytes_of a.head.form) ≡ false
+full_at_returns_then_not_has_room c =
+    let a = c.args in
+    ap (λ (n : ℕ). tail_fits a.tail.now (19 + n)) (sym c.user_bytes.ensures) ∙ sym c.has_room.ensures
+    ∙ c.if-not-has_room.true
 
 pub returns-then-not-has_room : goal.returns-then-not-has_room
 unfolding record_size
@@ -38,8 +65,11 @@ returns-then-not-has_room c =
     let a = c.args in
     took_behind a.words.now a.tail.now _ _ a.medium.now _ _ _ (full_at_returns_then_not_has_room c) c.begin_block.ensures c.store.ensures c.add_commit.ensures
 
-fitting : (c : goal.After-add_commit-arg-2-1) → tail_fits c.args.tail.now 19 ≡ true
-fitting c = sym c.has_room.ensures ∙ c.if-not-has_room.false
+fitting : (c : goal.After-add_commit-arg-2-1) → let a = c.args in tail_fits a.tail.now (19 + user_bytes_of a.head.form) ≡ true
+fitting c =
+    let a = c.args in
+    ap (λ (n : ℕ). tail_fits a.tail.now (19 + n)) (sym c.user_bytes.ensures) ∙ sym c.has_room.ensures
+    ∙ c.if-not-has_room.false
 
 pub add_commit-requires-2 : goal.add_commit-requires-2
 add_commit-requires-2 c =
@@ -50,8 +80,11 @@ add_commit-requires-2 c =
       bound = (omega arith, omega arith);
     }
 
-fitting_at_returns : (c : goal.After-add_commit-2) → tail_fits c.args.tail.now 19 ≡ true
-fitting_at_returns c = sym c.has_room.ensures ∙ c.if-not-has_room.false
+fitting_at_returns : (c : goal.After-add_commit-2) → let a = c.args in tail_fits a.tail.now (19 + user_bytes_of a.head.form) ≡ true
+fitting_at_returns c =
+    let a = c.args in
+    ap (λ (n : ℕ). tail_fits a.tail.now (19 + n)) (sym c.user_bytes.ensures) ∙ sym c.has_room.ensures
+    ∙ c.if-not-has_room.false
 
 pub returns : goal.returns
 unfolding record_size

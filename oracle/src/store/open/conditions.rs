@@ -1,7 +1,7 @@
-//! The ten conditions of a well-formed medium.
+//! The eleven conditions of a well-formed medium.
 //!
 //! Each answers the block of the first item that breaks it: master, table, log by sequence, pages
-//! by slot; of two that clash, the later.
+//! by slot, user lines; of two that clash, the later.
 
 use super::pairs::Pairs;
 use super::survey::{table_block, Logged, Survey};
@@ -21,7 +21,7 @@ fn require(holds: bool, block: usize) -> Judged {
 /// 1. Fields as laid out, the sizes as given. Pages are judged as they lie on the medium.
 pub fn fields_as_laid_out<R: Rules>(survey: &Survey<R>) -> Judged {
     let expected = master(
-        (survey.log_blocks, survey.pages),
+        survey.sizes,
         survey.oldest,
         survey.master_number(),
         get64(survey.medium, MASTER_TIME),
@@ -202,7 +202,7 @@ pub fn numbers_and_times_from_one<R: Rules>(survey: &Survey<R>, cache: &[u8]) ->
     for logged in survey.records() {
         let holds = match logged.record {
             Record::Version(version) => version.number >= 1,
-            Record::Commit { number, time } => number >= 1 && time >= 1,
+            Record::Commit { number, time, .. } => number >= 1 && time >= 1,
         };
         require(holds, logged.block)?;
     }
@@ -239,7 +239,27 @@ pub fn one_pair_to_a_number(pairs: &Pairs) -> Judged {
     }
 }
 
-/// 10. At most 64 waiting committed. No block stands for the count but the master's.
-pub fn live_pairs_fit(pairs: &Pairs) -> Judged {
-    require(pairs.live().count() <= TABLE_PLACES, 0)
+/// 10. At most 64 waiting committed, or with a missing line. No block stands for the count but the master's.
+pub fn live_pairs_fit<R: Rules>(pairs: &Pairs) -> Judged {
+    require(pairs.live::<R>().count() <= TABLE_PLACES, 0)
+}
+
+/// 11. No tag 4 record where no user is recorded, and user lines as laid out.
+pub fn users_as_laid_out<R: Rules>(survey: &Survey<R>) -> Judged {
+    for logged in survey.records() {
+        let with_user = matches!(logged.record, Record::Commit { user: Some(_), .. });
+        require(!with_user || survey.sizes.user_blocks > 0, logged.block)?;
+    }
+    let (mut before, mut ended) = (0, false);
+    for (i, line) in survey.user_lines().enumerate() {
+        if all_zero(line) {
+            ended = true;
+            continue;
+        }
+        let time = get64(line, 0);
+        let holds = !ended && time > before && time <= survey.last_time && get32(line, 12) == 0;
+        require(holds, survey.sizes.line_block(i))?;
+        before = time;
+    }
+    Ok(())
 }

@@ -1,4 +1,4 @@
-//! Opening: reads the medium, judges it by ten conditions, and finds the state.
+//! Opening: reads the medium, judges it by eleven conditions, and finds the state.
 
 pub mod conditions;
 pub mod pairs;
@@ -11,7 +11,7 @@ use crate::store::state::*;
 use pairs::Pairs;
 use survey::Survey;
 
-/// Why an opening is refused. A broken condition (1 to 10) names the first block at fault.
+/// Why an opening is refused. A broken condition (1 to 11) names the first block at fault.
 #[derive(Clone, Copy, PartialEq, Eq, Debug)]
 pub enum Fault {
     Sizes,
@@ -30,21 +30,14 @@ impl Fault {
 }
 
 /// Opens the medium: fills the cache and answers the state, or says why not.
-pub fn open<R: Rules>(
-    medium: &[u8],
-    cache: &mut [u8],
-    log_blocks: u64,
-    pages: u64,
-) -> Result<State, Fault> {
-    if !sizes_in_range(log_blocks, pages)
-        || medium.len() != medium_bytes(log_blocks as usize, pages as usize)
-    {
+pub fn open<R: Rules>(medium: &[u8], cache: &mut [u8], sizes: Sizes) -> Result<State, Fault> {
+    if !sizes.fit(medium) {
         return Err(Fault::Sizes);
     }
-    if cache.len() != BLOCK * pages as usize {
+    if cache.len() != sizes.cache_bytes() {
         return Err(Fault::CacheLength);
     }
-    let survey = Survey::<R>::of(medium, log_blocks as usize, pages as usize);
+    let survey = Survey::<R>::of(medium, sizes);
     let mut first_changed = [0; MAX_PAGES];
     match judge(&survey, cache, &mut first_changed) {
         Ok(pairs) => Ok(found_state(&survey, cache, first_changed, &pairs)),
@@ -55,7 +48,7 @@ pub fn open<R: Rules>(
     }
 }
 
-/// The ten conditions in their order; the fifth is judged as the log is applied.
+/// The eleven conditions in their order; the fifth is judged as the log is applied.
 fn judge<R: Rules>(
     survey: &Survey<R>,
     cache: &mut [u8],
@@ -70,11 +63,13 @@ fn judge<R: Rules>(
     conditions::applied_in_next_slot(survey, cache, first_changed).map_err(broken(5))?;
     let mut pairs = Pairs::of(survey);
     pairs.count_waiting(cache);
+    pairs.find_missing(survey);
     conditions::history_true(survey, cache, &pairs).map_err(broken(6))?;
     conditions::numbers_and_times_from_one(survey, cache).map_err(broken(7))?;
     conditions::logged_numbers_leave_a_next(survey).map_err(broken(8))?;
     conditions::one_pair_to_a_number(&pairs).map_err(broken(9))?;
-    conditions::live_pairs_fit(&pairs).map_err(broken(10))?;
+    conditions::live_pairs_fit::<R>(&pairs).map_err(broken(10))?;
+    conditions::users_as_laid_out(survey).map_err(broken(11))?;
     Ok(pairs)
 }
 
@@ -103,6 +98,9 @@ fn found_state<R: Rules>(
     State {
         log_blocks: survey.log_blocks,
         pages: survey.pages,
+        user_blocks: survey.sizes.user_blocks as usize,
+        lines: survey.lines,
+        last_line: survey.last_line,
         next_slot: used.sum(),
         next_number,
         last_time: survey.last_time,
@@ -111,7 +109,7 @@ fn found_state<R: Rules>(
         tail_sequence,
         tail_used: get16(&tail, 8) as usize,
         tail,
-        places: pairs.places(),
+        places: pairs.places::<R>(),
         search_from: 0,
         first_changed,
         checkpoint: Checkpoint::None,

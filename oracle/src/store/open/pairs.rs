@@ -2,6 +2,7 @@
 
 use super::survey::{table_block, Survey};
 use crate::store::layout::*;
+use crate::store::lines;
 use crate::store::rules::Rules;
 use crate::store::state::*;
 
@@ -19,6 +20,9 @@ pub struct Pair {
     pub block: u16,
     /// Waiting versions under the number, counted on its first pair.
     waiting: u64,
+    /// The line of its commit record is missing, noted there too, with the record's user.
+    missing: bool,
+    user: User,
 }
 
 impl Pair {
@@ -35,6 +39,8 @@ const NO_PAIR: Pair = Pair {
     source: 0,
     block: 0,
     waiting: 0,
+    missing: false,
+    user: 0,
 };
 
 /// All pairs by rising number, a table place before commit records.
@@ -52,13 +58,27 @@ impl Pairs {
         for place in 0..TABLE_PLACES {
             let (number, time) = survey.table_pair(place);
             if number != 0 {
-                pairs.push(number, time, 0, place, table_block(place));
+                pairs.push(Pair {
+                    number,
+                    time,
+                    source: place as u16,
+                    block: table_block(place) as u16,
+                    ..NO_PAIR
+                });
             }
         }
-        let mut source = TABLE_PLACES;
+        let mut source = TABLE_PLACES as u16;
         for logged in survey.records() {
-            if let Record::Commit { number, time } = logged.record {
-                pairs.push(number, time, logged.end, source, logged.block);
+            if let Record::Commit { number, time, user } = logged.record {
+                pairs.push(Pair {
+                    number,
+                    time,
+                    end: logged.end,
+                    source,
+                    block: logged.block as u16,
+                    user: user.unwrap_or(0),
+                    ..NO_PAIR
+                });
                 source += 1;
             }
         }
@@ -66,16 +86,27 @@ impl Pairs {
         pairs
     }
 
-    fn push(&mut self, number: u64, time: u64, end: u64, source: usize, block: usize) {
-        self.all[self.count] = Pair {
-            number,
-            time,
-            end,
-            source: source as u16,
-            block: block as u16,
-            waiting: 0,
-        };
+    fn push(&mut self, pair: Pair) {
+        self.all[self.count] = pair;
         self.count += 1;
+    }
+
+    /// "missing are the lines of commits in the log with times above the last line's"
+    pub fn find_missing<R: Rules>(&mut self, survey: &Survey<R>) {
+        if survey.sizes.user_blocks == 0 {
+            return;
+        }
+        for i in 0..self.count {
+            let Pair {
+                number, time, user, ..
+            } = self.all[i];
+            let logged = self.all[i].table_place().is_none();
+            if logged && lines::is_above::<R>(time, survey.last_line) {
+                if let Some(first) = self.index(number) {
+                    (self.all[first].missing, self.all[first].user) = (true, user);
+                }
+            }
+        }
     }
 
     pub fn all(&self) -> &[Pair] {
@@ -112,18 +143,17 @@ impl Pairs {
         }
     }
 
-    /// The first pair of each number that has waiting versions, by rising number.
-    pub fn live(&self) -> impl Iterator<Item = (usize, &Pair)> {
-        self.all()
-            .iter()
-            .enumerate()
-            .filter(|(_, pair)| pair.waiting > 0)
+    /// The first pair of each number that has waiting versions or a missing line, by rising number.
+    pub fn live<R: Rules>(&self) -> impl Iterator<Item = (usize, &Pair)> {
+        let by_line = !(R::LIVE_BY_VERSIONS || R::FOUND_BY_VERSIONS);
+        let pairs = self.all().iter().enumerate();
+        pairs.filter(move |(_, pair)| pair.waiting > 0 || (pair.missing && by_line))
     }
 
     /// Live table pairs retain their places; live log pairs without one take free ones.
-    pub fn places(&self) -> [Place; TABLE_PLACES] {
+    pub fn places<R: Rules>(&self) -> [Place; TABLE_PLACES] {
         let mut places = [FREE; TABLE_PLACES];
-        for (i, pair) in self.live() {
+        for (i, pair) in self.live::<R>() {
             if let Some(place) = pair.table_place() {
                 // Found in both, the pair has the record's position.
                 let logged = self.all().get(i + 1);
@@ -138,7 +168,7 @@ impl Pairs {
             }
         }
         let mut place = 0;
-        for (_, pair) in self.live() {
+        for (_, pair) in self.live::<R>() {
             if pair.table_place().is_none() {
                 while places[place].life != Life::Free {
                     place += 1;
@@ -158,5 +188,6 @@ fn committed(pair: &Pair, end: u64) -> Place {
             end,
         },
         waiting: pair.waiting,
+        user: pair.user,
     }
 }

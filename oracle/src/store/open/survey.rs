@@ -6,6 +6,7 @@ use std::marker::PhantomData;
 
 pub struct Survey<'a, R: Rules> {
     pub medium: &'a [u8],
+    pub sizes: Sizes,
     pub log_blocks: usize,
     pub pages: usize,
     pub oldest: u64,
@@ -15,11 +16,15 @@ pub struct Survey<'a, R: Rules> {
     pub log_end: u64,
     pub highest_logged: Option<u64>,
     pub last_time: u64,
+    /// How many user lines there are, up to the last one that is not empty, and that one's time.
+    pub lines: usize,
+    pub last_line: u64,
     rules: PhantomData<R>,
 }
 
 impl<'a, R: Rules> Survey<'a, R> {
-    pub fn of(medium: &'a [u8], log_blocks: usize, pages: usize) -> Self {
+    pub fn of(medium: &'a [u8], sizes: Sizes) -> Self {
+        let (log_blocks, pages) = (sizes.log_blocks as usize, sizes.pages as usize);
         let oldest = get64(medium, MASTER_OLDEST);
         let matches = |&i: &usize| {
             oldest.checked_add(i as u64).is_some_and(|sequence| {
@@ -28,6 +33,7 @@ impl<'a, R: Rules> Survey<'a, R> {
         };
         let mut survey = Survey {
             medium,
+            sizes,
             log_blocks,
             pages,
             oldest,
@@ -35,12 +41,21 @@ impl<'a, R: Rules> Survey<'a, R> {
             log_end: 0,
             highest_logged: None,
             last_time: get64(medium, MASTER_TIME),
+            lines: 0,
+            last_line: 0,
             rules: PhantomData,
         };
         survey.log_end = match survey.read {
             0 => end_place(oldest, LOG_HEADER),
             read => end_place(survey.tail_sequence(), survey.used(read - 1)),
         };
+        if let Some(last) = survey.user_lines().rposition(|line| !all_zero(line)) {
+            survey.lines = last + 1;
+            survey.last_line = survey
+                .user_lines()
+                .nth(last)
+                .map_or(0, |line| get64(line, 0));
+        }
         for logged in survey.records() {
             let number = logged.record.number();
             let highest = survey.highest_logged.unwrap_or(number).max(number);
@@ -112,7 +127,12 @@ impl<'a, R: Rules> Survey<'a, R> {
     }
 
     pub fn pages_on_medium(&self) -> &'a [u8] {
-        &self.medium[page_block(0, self.log_blocks) * BLOCK..]
+        self.sizes.pages_of(self.medium)
+    }
+
+    /// The lines of the area for users, empty ones too.
+    pub fn user_lines(&self) -> std::slice::ChunksExact<'a, u8> {
+        self.sizes.area_of(self.medium).chunks_exact(LINE_BYTES)
     }
 }
 

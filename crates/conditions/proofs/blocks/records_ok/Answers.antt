@@ -3,8 +3,9 @@ use mathlib.Core.Path.{◌≡◌}
 use Prim.Native.Nat.{◌+◌, ◌≤◌}
 use native.Mathlib.Omega.{arith}
 use Rattle.fields.proofs.Choose.{no}
-use Rattle.layout.specs.Item.{bytes_of}
+use Rattle.layout.specs.Item.{bytes_of, user_bytes_of}
 use Rattle.layout.specs.declared.item.VersionHead.{VersionHead}
+use Rattle.layout.specs.declared.item.CommitHead.{CommitHead}
 use Rattle.conditions.proofs.BlockPasses.{left_end, left_number, left_damaged, version_in, commit_in, same_begin, same_end, same_cut, version_turn, version_stop, commit_turn, commit_stop}
 use Rattle.conditions.proofs.blocks.records_ok.Goals as goal
 
@@ -105,21 +106,37 @@ returns-then-not-rises c =
       no,
     )
 
-pub loop-h-smaller : goal.loop-h-smaller
-loop-h-smaller c =
+-- the commit that was read, where it ends, and that this lies within the block
+abbrev signed : (c : goal.After-user_bytes) → CommitHead
+signed c = c.in-Commit.p
+
+commit-end-is : (c : goal.After-user_bytes) → let at = c.loop-h.at in
+    at + 19 + c.user_bytes.result ≡ at + (19 + user_bytes_of (signed c).form)
+commit-end-is c =
+    let e : c.user_bytes.result ≡ user_bytes_of (signed c).form = c.user_bytes.ensures in omega arith
+
+commit-ends : (c : goal.After-user_bytes) → c.loop-h.at + 19 + c.user_bytes.result ≤ 512
+commit-ends c =
     omega (
       arith,
-      commit_in c.args.block.now c.loop-h.at c.loop-h.invariant.0 _ c.item_at-item.ensures _ (omega arith)
+      commit-end-is c,
+      commit_in c.args.block.now c.loop-h.at c.loop-h.invariant.0 _ c.item_at-item.ensures (signed c) (omega arith)
           c.in-Commit.is,
     )
+
+pub overflow_add-at-in-Commit : goal.overflow_add-at-in-Commit
+overflow_add-at-in-Commit c = omega (arith, commit-ends c)
+
+pub loop-h-smaller : goal.loop-h-smaller
+loop-h-smaller c = omega (arith, commit-ends c)
 
 pub loop-h-preserved : goal.loop-h-preserved
 loop-h-preserved c =
     (
       omega arith,
-      commit_in c.args.block.now c.loop-h.at c.loop-h.invariant.0 _ c.item_at-item.ensures _ (omega arith) c.in-Commit.is,
-      commit_turn c.args.block.now c.loop-h.at c.loop-h.invariant.0 _ c.item_at-item.ensures c.loop-h.invariant.2 _ _ c.in-Commit.is
-          c.rises.ensures (c.if-not-rises.false),
+      commit-ends c,
+      commit_turn c.args.block.now c.loop-h.at c.loop-h.invariant.0 _ c.item_at-item.ensures c.loop-h.invariant.2 _ _ _ c.in-Commit.is
+          (commit-end-is c) c.rises.ensures (c.if-not-rises.false),
     )
 
 pub returns-in-Number : goal.returns-in-Number

@@ -6,7 +6,7 @@ use native.Mathlib.Omega.{arith}
 use Rattle.fields.proofs.PartLaws.{lent_length}
 use Rattle.fields.specs.Block.{log_block_at}
 use Rattle.layout.proofs.PlaceLaws.{log_block_high}
-use Rattle.layout.proofs.RecordLaws.{bytes_few}
+use Rattle.layout.proofs.RecordLaws.{bytes_few, user_few}
 use Rattle.conditions.proofs.CursorLaws.{block_in, step_none, makes_skip, makes_written, makes_committed}
 use borrow.Author.Rules.{rules}
 use Rattle.conditions.proofs.cursor.next.Goals as goal
@@ -37,7 +37,7 @@ item_at-item-requires c =
       le_at = c.requires.valid.from;
     }
 
--- the bytes of a record number are few, and the block begins low
+-- the bytes of a record number and of a user are few, and the block begins low
 few : (c : goal.After-bytes) → c.bytes.result ≤ 2
 few c = rw c.bytes.ensures (bytes_few _)
 
@@ -59,12 +59,30 @@ overflow_add-at c = omega (arith, few c)
 pub end_behind-requires : goal.end_behind-requires
 end_behind-requires c = (search rules, omega (arith, few c))
 
--- the bytes of a record number are few, and the block begins low
+-- the bytes of a record number and of a user are few, and the block begins low
 few_at_overflow_add_result_in_Version_2 : (c : goal.After-end_behind) → c.bytes.result ≤ 2
 few_at_overflow_add_result_in_Version_2 c = rw c.bytes.ensures (bytes_few _)
 
 pub overflow_add-result-in-Version-2 : goal.overflow_add-result-in-Version-2
 overflow_add-result-in-Version-2 c = omega (arith, few_at_overflow_add_result_in_Version_2 c)
+
+fewer : (c : goal.After-user_bytes) → c.user_bytes.result ≤ 4
+fewer c = rw c.user_bytes.ensures (user_few _)
+
+pub overflow_add-n-in-Commit : goal.overflow_add-n-in-Commit
+overflow_add-n-in-Commit c = omega (arith, fewer c)
+
+pub overflow_add-at-in-Commit : goal.overflow_add-at-in-Commit
+overflow_add-at-in-Commit c = omega (arith, fewer c)
+
+pub end_behind-requires-in-Commit : goal.end_behind-requires-in-Commit
+end_behind-requires-in-Commit c = (search rules, omega (arith, fewer c))
+
+fewer_at_overflow_add_result_in_Commit : (c : goal.After-end_behind-in-Commit) → c.user_bytes.result ≤ 4
+fewer_at_overflow_add_result_in_Commit c = rw c.user_bytes.ensures (user_few _)
+
+pub overflow_add-result-in-Commit : goal.overflow_add-result-in-Commit
+overflow_add-result-in-Commit c = omega (arith, fewer_at_overflow_add_result_in_Commit c)
 
 pub returns-in-End : goal.returns-in-End
 returns-in-End c =
@@ -79,7 +97,7 @@ returns-in-Version c =
 pub returns-in-Commit : goal.returns-in-Commit
 returns-in-Commit c =
     makes_committed c.args.medium.now c.args.blocks c.args.c c.block_start-start.result c.item_at-item.result c.if-left-eq0.false c.block_start-start.ensures
-    c.item_at-item.ensures _ _ c.in-Commit.is c.end_behind-in-Commit.ensures
+    c.item_at-item.ensures _ _ _ c.in-Commit.is c.user_bytes.ensures c.end_behind-in-Commit.ensures
 
 pub returns-in-Number : goal.returns-in-Number
 returns-in-Number c =

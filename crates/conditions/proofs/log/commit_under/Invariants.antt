@@ -1,4 +1,4 @@
--- Until the number is met, the first commit under it is the first from the next three numbers on.
+-- Until the number is met, the first commit under it is the first from the next four numbers on.
 use mathlib.Core.Path.{◌≡◌}
 use Prim.Native.Nat.{◌-◌, ◌≤◌}
 use lib.ListN.{length, drop}

@@ -44,18 +44,18 @@ loop-d-preserved-in-Written c =
     let w = step_written _ _ c.requires.ready c.loop-d.c _ _ _ _ _ c.loop-d.invariant.valid c.next-step.ensures c.in-Written.is in
     gather_written _ _ _ c.loop-d.c _ _ c.loop-d.invariant _ _ _ _ _ w.0
 
--- the record lies in the log, so that its three numbers have room
+-- the record lies in the log, so that its four numbers have room
 far : (c : goal.In-Committed) → measure c.in-Committed.d + 19 ≤ measure c.loop-d.c
 far c =
     committed_far _ _ c.requires.ready c.loop-d.c _ _ _ _ c.loop-d.invariant.valid c.next-step.ensures c.in-Committed.is
 
-room : (c : goal.In-Committed) → c.loop-d.n + 3 ≤ 2592
+room : (c : goal.In-Committed) → c.loop-d.n + 4 ≤ 3456
 room c = gather_room _ _ _ c.loop-d.c _ _ c.loop-d.invariant c.in-Committed.d (far c)
 
 pub offset_bounds-commits-n : goal.offset_bounds-commits-n
 offset_bounds-commits-n c = omega (arith, room c)
 
-sized : (c : goal.In-Committed) → length c.loop-d.commits ≡ 2592
+sized : (c : goal.In-Committed) → length c.loop-d.commits ≡ 3456
 sized c = c.loop-d.invariant.size
 
 pub bounds-commits-n : goal.bounds-commits-n
@@ -79,8 +79,30 @@ offset_bounds-commits-n-in-Committed-2 c = omega (arith, room c)
 pub bounds-commits-n-in-Committed-2 : goal.bounds-commits-n-in-Committed-2
 bounds-commits-n-in-Committed-2 c = simp length-set (omega (arith, room c, sized c))
 
+-- the record lies in the log, so that its four numbers have room
+far_at_overflow_add_commits_in_Committed_2 : (c : goal.After-struct_known-1) → measure c.in-Committed.d + 19 ≤ measure c.loop-d.c
+far_at_overflow_add_commits_in_Committed_2 c =
+    committed_far _ _ c.requires.ready c.loop-d.c _ _ _ _ c.loop-d.invariant.valid c.next-step.ensures c.in-Committed.is
+
+room_at_overflow_add_commits_in_Committed_2 : (c : goal.After-struct_known-1) → c.loop-d.n + 4 ≤ 3456
+room_at_overflow_add_commits_in_Committed_2 c =
+    gather_room _ _ _ c.loop-d.c _ _ c.loop-d.invariant c.in-Committed.d (far_at_overflow_add_commits_in_Committed_2 c)
+
+pub overflow_add-commits-in-Committed-2 : goal.overflow_add-commits-in-Committed-2
+overflow_add-commits-in-Committed-2 c = omega (arith, room_at_overflow_add_commits_in_Committed_2 c)
+
+pub offset_bounds-commits-n-in-Committed-3 : goal.offset_bounds-commits-n-in-Committed-3
+offset_bounds-commits-n-in-Committed-3 c = omega (arith, room_at_overflow_add_commits_in_Committed_2 c)
+
+sized_at_bounds_commits_n_in_Committed_3 : (c : goal.After-struct_known-1) → length c.loop-d.commits ≡ 3456
+sized_at_bounds_commits_n_in_Committed_3 c = c.loop-d.invariant.size
+
+pub bounds-commits-n-in-Committed-3 : goal.bounds-commits-n-in-Committed-3
+bounds-commits-n-in-Committed-3 c =
+    simp length-set (omega (arith, room_at_overflow_add_commits_in_Committed_2 c, sized_at_bounds_commits_n_in_Committed_3 c))
+
 pub overflow_add-n : goal.overflow_add-n
-overflow_add-n c = omega (arith, room c)
+overflow_add-n c = omega (arith, room_at_overflow_add_commits_in_Committed_2 c)
 
 pub loop-d-smaller : goal.loop-d-smaller
 loop-d-smaller c =
@@ -89,4 +111,4 @@ loop-d-smaller c =
 
 pub loop-d-preserved : goal.loop-d-preserved
 loop-d-preserved c =
-    gather_committed _ _ _ c.loop-d.c _ _ c.loop-d.invariant _ (far c) _ _ _ (step_committed _ _ c.requires.ready c.loop-d.c _ _ _ _ c.loop-d.invariant.valid c.next-step.ensures c.in-Committed.is)
+    gather_committed _ _ _ c.loop-d.c _ _ c.loop-d.invariant _ (far_at_overflow_add_commits_in_Committed_2 c) _ _ _ (step_committed _ _ c.requires.ready c.loop-d.c _ _ _ _ c.loop-d.invariant.valid c.next-step.ensures c.in-Committed.is)

@@ -5,7 +5,7 @@ use Rattle.conditions.proofs.RecordsLaws.{Judged}
 use Rattle.conditions.proofs.records.all_ok.Given as goal
 
 abbrev pub invariant-loop-d : goal.invariant-loop-d
-invariant-loop-d l = Valid l.c × Judged l.medium (rest_of l.medium l.blocks l.initial.c) l.above l.latest (rest_of l.medium l.blocks l.c)
+invariant-loop-d l = Valid l.c × Judged l.area l.medium (rest_of l.medium l.blocks l.initial.c) l.above l.latest (rest_of l.medium l.blocks l.c)
 
 abbrev pub decreases-loop-d : goal.decreases-loop-d
 decreases-loop-d l = measure l.c

@@ -8,7 +8,7 @@ use Rattle.conditions.proofs.records.is_first.Goals as goal
 pub returns-in-Found : goal.returns-in-Found
 returns-in-Found c =
     let a = c.args in
-    simp (match_some (commit_among a.commits.now a.n) _ _ (sym c.in-Found.is ∙ c.commit_under-c.ensures))
+    simp (match_some (commit_among a.commits.now a.n) _ _ _ (sym c.in-Found.is ∙ c.commit_under-c.ensures))
 
 pub returns-in-Absent : goal.returns-in-Absent
 returns-in-Absent c =

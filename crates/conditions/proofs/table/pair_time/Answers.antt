@@ -30,7 +30,7 @@ logged c = c.commit_under-c.ensures ∙ ap match_of (known_commit _ _ _ _ c.requ
 
 pub returns-in-Found : goal.returns-in-Found
 returns-in-Found c =
-    time_logged _ _ _ c.find-f.result c.find-f.ensures _ _ c.commit_under-c.result c.in-Nothing.is (logged c) c.in-Found.is
+    time_logged _ _ _ c.find-f.result c.find-f.ensures _ _ _ c.commit_under-c.result c.in-Nothing.is (logged c) c.in-Found.is
 
 -- what was found among the commits, as the log has it
 logged_at_returns_in_Absent : (c : goal.In-Absent) → c.commit_under-c.result ≡ match_of (commit_under (read_log c.args.medium.now c.args.blocks) c.args.n)

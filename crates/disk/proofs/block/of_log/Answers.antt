@@ -8,7 +8,7 @@ use Rattle.disk.proofs.block.of_log.Goals as goal
 
 pub log_block-requires : goal.log_block-requires
 log_block-requires c =
-    let g = range_of _ _ (sym c.in_range.ensures ∙ c.if-in_range.true) in (omega arith, g.blocks_high)
+    let g = range_of _ _ _ (sym c.in_range.ensures ∙ c.if-in_range.true) in (omega arith, g.blocks_high)
 
 pub returns-then-in_range : goal.returns-then-in_range
 unfolding log_block state_of state_by

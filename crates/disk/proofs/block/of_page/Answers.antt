@@ -9,7 +9,7 @@ use Rattle.disk.proofs.block.of_page.Goals as goal
 
 pub page_block-requires : goal.page_block-requires
 page_block-requires c =
-    let g = range_of _ _ (sym c.in_range.ensures ∙ c.if-in_range.true) in (g.blocks_high, omega arith)
+    let g = range_of _ _ _ (sym c.in_range.ensures ∙ c.if-in_range.true) in (g.blocks_high, omega arith)
 
 pub returns-then-page-pages : goal.returns-then-page-pages
 unfolding page_block state_of state_by

@@ -12,6 +12,12 @@ pub returns-then-kind-eq2 : goal.returns-then-kind-eq2
 unfolding phase_block state_of state_by phase_by
 returns-then-kind-eq2 c = simp (ne_eqb _ _ c.if-kind-eq1.false, eq-eqb _ _ c.if-kind-eq2.true)
 
+pub returns-then-kind-eq3 : goal.returns-then-kind-eq3
+unfolding phase_block state_of state_by phase_by
+returns-then-kind-eq3 c =
+    simp (ne_eqb _ _ c.if-kind-eq1.false, ne_eqb _ _ c.if-kind-eq2.false, eq-eqb _ _ c.if-kind-eq3.true) c.of_lines.ensures
+
 pub returns : goal.returns
 unfolding phase_block state_of state_by phase_by
-returns c = simp (ne_eqb _ _ c.if-kind-eq1.false, ne_eqb _ _ c.if-kind-eq2.false)
+returns c =
+    simp (ne_eqb _ _ c.if-kind-eq1.false, ne_eqb _ _ c.if-kind-eq2.false, ne_eqb _ _ c.if-kind-eq3.false) c.of_lines-2.ensures

@@ -5,12 +5,12 @@ use borrow.Author.Tests.{lt-ltb, le-ltb}
 use Rattle.disk.specs.Block.{start_of}
 use Rattle.disk.proofs.block.start.Goals as goal
 
-pub returns-then-block-gt98 : goal.returns-then-block-gt98
+pub returns-then-block-gt114 : goal.returns-then-block-gt114
 unfolding start_of
-returns-then-block-gt98 c =
+returns-then-block-gt114 c =
     let k = c.args in
     record {
-      value = simp (le-ltb (512 * k.block) k.n (omega (arith, c.if-block-gt98.true)));
+      value = simp (le-ltb (512 * k.block) k.n (omega (arith, c.if-block-gt114.true)));
       upper_bound = omega arith;
     }
 

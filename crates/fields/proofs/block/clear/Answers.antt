@@ -18,6 +18,9 @@ loop-i-preserved c =
       prefix_step _ (replicate n 0) c.loop-i.i _ c.loop-i-test.true (simp length-replicate (omega arith)) (sym (get_or-replicate n c.loop-i.i 0 0 (omega arith))) c.loop-i.invariant.1,
     )
 
+pub shape_of-dst : goal.shape_of-dst
+shape_of-dst c = c.loop-i.invariant.0
+
 pub returns : goal.returns
 returns c =
     prefix_done _ _ c.loop-i.i (simp length-replicate c.loop-i.invariant.0) (simp length-replicate (omega arith)) c.loop-i.invariant.1

@@ -17,5 +17,8 @@ pub loop-i-preserved : goal.loop-i-preserved
 loop-i-preserved c =
     (simp length-set c.loop-i.invariant.0, simp length-set (enc_turn c.loop-i.s c.loop-i.i c.loop-i.v c.loop-i-test.true ∙ c.loop-i.invariant.1))
 
+pub shape_of-s : goal.shape_of-s
+shape_of-s c = c.loop-i.invariant.0
+
 pub returns : goal.returns
 returns c = enc_end _ _ _ _ c.loop-i-test.false c.loop-i.invariant.1

@@ -75,13 +75,14 @@ returns-in-Master-area-2 c =
     sym (enter_at_returns_in_Master_area_2 c ∙ simp (c.in-3.is, c.in-Master-area-2.is, c.number_item-in-Master-area-2.ensures))
 
 -- past the tests of the length
-enter_at_returns_in_Journal_area_3 : (c : goal.In-Journal-area-3) → let a = c.args in
+enter_at_returns_in_Journal_area_3 : (c : goal.After-commit_item-in-Journal-area-3) → let a = c.args in
     item_of a.area a.bytes.now ≡ by_tag a.area (get_or a.bytes.now 0 0) c.get2-len.result (take (length a.bytes.now - 3) (drop 3 a.bytes.now))
 enter_at_returns_in_Journal_area_3 c = item_at _ _ _ c.if-bytes-eq0.false c.if-bytes-lt3.false c.get2-len.ensures
 
 pub returns-in-Journal-area-3 : goal.returns-in-Journal-area-3
 unfolding by_tag
-returns-in-Journal-area-3 c = sym (enter_at_returns_in_Journal_area_3 c ∙ simp (c.in-4.is, c.in-Journal-area-3.is))
+returns-in-Journal-area-3 c =
+    sym (enter_at_returns_in_Journal_area_3 c ∙ simp (c.in-4.is, c.in-Journal-area-3.is, c.commit_item-in-Journal-area-3.ensures))
 
 -- past the tests of the length
 enter_at_returns_in_Master_area_3 : (c : goal.After-number_item-in-Master-area-3) → let a = c.args in
@@ -113,6 +114,25 @@ returns-in-Master-area-4 c =
     sym (enter_at_returns_in_Master_area_4 c ∙ simp (c.in-5.is, c.in-Master-area-4.is, c.number_item-in-Master-area-4.ensures))
 
 -- past the tests of the length
+enter_at_returns_in_Journal_area_5 : (c : goal.In-Journal-area-5) → let a = c.args in
+    item_of a.area a.bytes.now ≡ by_tag a.area (get_or a.bytes.now 0 0) c.get2-len.result (take (length a.bytes.now - 3) (drop 3 a.bytes.now))
+enter_at_returns_in_Journal_area_5 c = item_at _ _ _ c.if-bytes-eq0.false c.if-bytes-lt3.false c.get2-len.ensures
+
+pub returns-in-Journal-area-5 : goal.returns-in-Journal-area-5
+unfolding by_tag
+returns-in-Journal-area-5 c = sym (enter_at_returns_in_Journal_area_5 c ∙ simp (c.in-6.is, c.in-Journal-area-5.is))
+
+-- past the tests of the length
+enter_at_returns_in_Master_area_5 : (c : goal.After-number_item-in-Master-area-5) → let a = c.args in
+    item_of a.area a.bytes.now ≡ by_tag a.area (get_or a.bytes.now 0 0) c.get2-len.result (take (length a.bytes.now - 3) (drop 3 a.bytes.now))
+enter_at_returns_in_Master_area_5 c = item_at _ _ _ c.if-bytes-eq0.false c.if-bytes-lt3.false c.get2-len.ensures
+
+pub returns-in-Master-area-5 : goal.returns-in-Master-area-5
+unfolding by_tag
+returns-in-Master-area-5 c =
+    sym (enter_at_returns_in_Master_area_5 c ∙ simp (c.in-6.is, c.in-Master-area-5.is, c.number_item-in-Master-area-5.ensures))
+
+-- past the tests of the length
 enter_at_returns_in_default : (c : goal.In_default) → let a = c.args in
     item_of a.area a.bytes.now ≡ by_tag a.area (get_or a.bytes.now 0 0) c.get2-len.result (take (length a.bytes.now - 3) (drop 3 a.bytes.now))
 enter_at_returns_in_default c = item_at _ _ _ c.if-bytes-eq0.false c.if-bytes-lt3.false c.get2-len.ensures
@@ -120,4 +140,4 @@ enter_at_returns_in_default c = item_at _ _ _ c.if-bytes-eq0.false c.if-bytes-lt
 pub returns-in_default : goal.returns-in_default
 unfolding by_tag
 returns-in_default c =
-    sym (enter_at_returns_in_default c ∙ simp (ne_eqb _ _ c.in_default.in_default-own.rest.1, ne_eqb _ _ c.in_default.in_default-own.rest.0.1, ne_eqb _ _ c.in_default.in_default-own.rest.0.0.1, ne_eqb _ _ c.in_default.in_default-own.rest.0.0.0.1, ne_eqb _ _ c.in_default.in_default-own.rest.0.0.0.0.1))
+    sym (enter_at_returns_in_default c ∙ simp (ne_eqb _ _ c.in_default.in_default-own.rest.1, ne_eqb _ _ c.in_default.in_default-own.rest.0.1, ne_eqb _ _ c.in_default.in_default-own.rest.0.0.1, ne_eqb _ _ c.in_default.in_default-own.rest.0.0.0.1, ne_eqb _ _ c.in_default.in_default-own.rest.0.0.0.0.1, ne_eqb _ _ c.in_default.in_default-own.rest.0.0.0.0.0.1))

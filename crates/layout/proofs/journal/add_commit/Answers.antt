@@ -26,6 +26,7 @@ pub returns : goal.returns
 returns c =
     let h = simp length-set at c.put2.auto.s in
     let at = c.used-at.result in
+    let n = 16 + c.user_bytes-size.result in
     c.put2-2.ensures
-    ∙ ap (λ (l : List ℕ). splice l 8 (enc 2 (at + 19))) (lent_back _ _ (at + 3) 16 (omega arith) c.write_commit.auto.body)
-    ∙ commit_added _ _ _ _ _ c.used-at.ensures c.put2.ensures c.write_commit.ensures
+    ∙ ap (λ (l : List ℕ). splice l 8 (enc 2 (at + 3 + n))) (lent_back _ _ (at + 3) n (omega arith) c.write_commit.auto.body)
+    ∙ commit_added _ _ _ _ at n (ap (λ (k : ℕ). 16 + k) c.user_bytes-size.ensures) c.used-at.ensures (rw (← c.commit_tag.ensures) c.put2.ensures) c.write_commit.ensures

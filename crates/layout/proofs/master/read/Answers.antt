@@ -5,9 +5,9 @@ use Prim.Native.Nat.{ℕ}
 use mathlib.Core.List.{List}
 use lib.ListN.{drop}
 use Rattle.fields.specs.Equal.{all_zero}
-use Rattle.layout.specs.Master.{field_of, master_of}
+use Rattle.layout.specs.Master.{field_of, area_of, master_of}
 use Rattle.layout.specs.declared.master.Value.TheVariants.{Of}
-use Rattle.layout.proofs.MasterLaws.{rest_field, rest_zero}
+use Rattle.layout.proofs.MasterLaws.{rest_field, rest_area, rest_zero}
 use Rattle.layout.proofs.master.read.Goals as goal
 
 -- the block at each field, what the field read is, and the number that it holds
@@ -158,6 +158,63 @@ returns-in_default-field-4 c =
     simp (k1_at_returns_in_default_field_4 c, k2_at_returns_in_default_field_4 c, k3_at_returns_in_default_field_4 c, k4 c, r5 c, c.in_default-field-4.is)
 
 -- the block at each field, what the field read is, and the number that it holds
+abbrev b1_at_returns_in_default_area : (c : goal.In_default-area) → List ℕ
+b1_at_returns_in_default_area c = c.args.block.now
+
+r1_at_returns_in_default_area : (c : goal.In_default-area) → field_of 1 (b1_at_returns_in_default_area c) ≡ c.field.result
+r1_at_returns_in_default_area c = sym c.field.ensures
+
+k1_at_returns_in_default_area : (c : goal.In_default-area) → field_of 1 (b1_at_returns_in_default_area c) ≡ Of c.in-Of.l
+k1_at_returns_in_default_area c = r1_at_returns_in_default_area c ∙ c.in-Of.is
+
+abbrev b2_at_returns_in_default_area : (c : goal.In_default-area) → List ℕ
+b2_at_returns_in_default_area c = b1_at_returns_in_default_area c
+
+r2_at_returns_in_default_area : (c : goal.In_default-area) → field_of 2 (drop 5 (b2_at_returns_in_default_area c)) ≡ c.field-2.result
+r2_at_returns_in_default_area c = rest_field 2 5 (b2_at_returns_in_default_area c) _ c.field-2.ensures
+
+k2_at_returns_in_default_area : (c : goal.In_default-area) → field_of 2 (drop 5 (b2_at_returns_in_default_area c)) ≡ Of c.in-Of-field.d
+k2_at_returns_in_default_area c = r2_at_returns_in_default_area c ∙ c.in-Of-field.is
+
+abbrev b3_at_returns_in_default_area : (c : goal.In_default-area) → List ℕ
+b3_at_returns_in_default_area c = b2_at_returns_in_default_area c
+
+r3_at_returns_in_default_area : (c : goal.In_default-area) → field_of 3 (drop 10 (b3_at_returns_in_default_area c)) ≡ c.field-3.result
+r3_at_returns_in_default_area c = rest_field 3 10 (b3_at_returns_in_default_area c) _ c.field-3.ensures
+
+k3_at_returns_in_default_area : (c : goal.In_default-area) → field_of 3 (drop 10 (b3_at_returns_in_default_area c)) ≡ Of c.in-Of-field-2.o
+k3_at_returns_in_default_area c = r3_at_returns_in_default_area c ∙ c.in-Of-field-2.is
+
+abbrev b4_at_returns_in_default_area : (c : goal.In_default-area) → List ℕ
+b4_at_returns_in_default_area c = b3_at_returns_in_default_area c
+
+r4_at_returns_in_default_area : (c : goal.In_default-area) → field_of 4 (drop 21 (b4_at_returns_in_default_area c)) ≡ c.field-4.result
+r4_at_returns_in_default_area c = rest_field 4 21 (b4_at_returns_in_default_area c) _ c.field-4.ensures
+
+k4_at_returns_in_default_area : (c : goal.In_default-area) → field_of 4 (drop 21 (b4_at_returns_in_default_area c)) ≡ Of c.in-Of-field-3.n
+k4_at_returns_in_default_area c = r4_at_returns_in_default_area c ∙ c.in-Of-field-3.is
+
+abbrev b5_at_returns_in_default_area : (c : goal.In_default-area) → List ℕ
+b5_at_returns_in_default_area c = b4_at_returns_in_default_area c
+
+r5_at_returns_in_default_area : (c : goal.In_default-area) → field_of 5 (drop 32 (b5_at_returns_in_default_area c)) ≡ c.field-5.result
+r5_at_returns_in_default_area c = rest_field 5 32 (b5_at_returns_in_default_area c) _ c.field-5.ensures
+
+k5 : (c : goal.In_default-area) → field_of 5 (drop 32 (b5_at_returns_in_default_area c)) ≡ Of c.in-Of-field-4.t
+k5 c = r5_at_returns_in_default_area c ∙ c.in-Of-field-4.is
+
+abbrev b6 : (c : goal.In_default-area) → List ℕ
+b6 c = b5_at_returns_in_default_area c
+
+r6 : (c : goal.In_default-area) → area_of (drop 43 (b6 c)) ≡ c.area.result
+r6 c = rest_area 43 (b6 c) _ c.area.ensures
+
+pub returns-in_default-area : goal.returns-in_default-area
+unfolding master_of
+returns-in_default-area c =
+    simp (k1_at_returns_in_default_area c, k2_at_returns_in_default_area c, k3_at_returns_in_default_area c, k4_at_returns_in_default_area c, k5 c, r6 c, c.in_default-area.is)
+
+-- the block at each field, what the field read is, and the number that it holds
 abbrev b1_at_returns_then_not_all_zero : (c : goal.Then-not-all_zero) → List ℕ
 b1_at_returns_then_not_all_zero c = c.args.block.now
 
@@ -200,16 +257,25 @@ b5_at_returns_then_not_all_zero c = b4_at_returns_then_not_all_zero c
 r5_at_returns_then_not_all_zero : (c : goal.Then-not-all_zero) → field_of 5 (drop 32 (b5_at_returns_then_not_all_zero c)) ≡ c.field-5.result
 r5_at_returns_then_not_all_zero c = rest_field 5 32 (b5_at_returns_then_not_all_zero c) _ c.field-5.ensures
 
-k5 : (c : goal.Then-not-all_zero) → field_of 5 (drop 32 (b5_at_returns_then_not_all_zero c)) ≡ Of c.in-Of-field-4.t
-k5 c = r5_at_returns_then_not_all_zero c ∙ c.in-Of-field-4.is
+k5_at_returns_then_not_all_zero : (c : goal.Then-not-all_zero) → field_of 5 (drop 32 (b5_at_returns_then_not_all_zero c)) ≡ Of c.in-Of-field-4.t
+k5_at_returns_then_not_all_zero c = r5_at_returns_then_not_all_zero c ∙ c.in-Of-field-4.is
 
-z : (c : goal.Then-not-all_zero) → all_zero (drop 43 (b5_at_returns_then_not_all_zero c)) ≡ c.all_zero.result
-z c = rest_zero 43 (b5_at_returns_then_not_all_zero c) _ c.all_zero.ensures
+abbrev b6_at_returns_then_not_all_zero : (c : goal.Then-not-all_zero) → List ℕ
+b6_at_returns_then_not_all_zero c = b5_at_returns_then_not_all_zero c
+
+r6_at_returns_then_not_all_zero : (c : goal.Then-not-all_zero) → area_of (drop 43 (b6_at_returns_then_not_all_zero c)) ≡ c.area.result
+r6_at_returns_then_not_all_zero c = rest_area 43 (b6_at_returns_then_not_all_zero c) _ c.area.ensures
+
+k6 : (c : goal.Then-not-all_zero) → area_of (drop 43 (b6_at_returns_then_not_all_zero c)) ≡ Of c.in-Of-area.a
+k6 c = r6_at_returns_then_not_all_zero c ∙ c.in-Of-area.is
+
+z : (c : goal.Then-not-all_zero) → all_zero (drop 48 (b6_at_returns_then_not_all_zero c)) ≡ c.all_zero.result
+z c = rest_zero 48 (b6_at_returns_then_not_all_zero c) _ c.all_zero.ensures
 
 pub returns-then-not-all_zero : goal.returns-then-not-all_zero
 unfolding master_of
 returns-then-not-all_zero c =
-    simp (k1_at_returns_then_not_all_zero c, k2_at_returns_then_not_all_zero c, k3_at_returns_then_not_all_zero c, k4_at_returns_then_not_all_zero c, k5 c, z c, c.if-not-all_zero.true)
+    simp (k1_at_returns_then_not_all_zero c, k2_at_returns_then_not_all_zero c, k3_at_returns_then_not_all_zero c, k4_at_returns_then_not_all_zero c, k5_at_returns_then_not_all_zero c, k6 c, z c, c.if-not-all_zero.true)
 
 -- the block at each field, what the field read is, and the number that it holds
 abbrev b1_at_returns : (c : goal.Else-not-all_zero) → List ℕ
@@ -257,10 +323,19 @@ r5_at_returns c = rest_field 5 32 (b5_at_returns c) _ c.field-5.ensures
 k5_at_returns : (c : goal.Else-not-all_zero) → field_of 5 (drop 32 (b5_at_returns c)) ≡ Of c.in-Of-field-4.t
 k5_at_returns c = r5_at_returns c ∙ c.in-Of-field-4.is
 
-z_at_returns : (c : goal.Else-not-all_zero) → all_zero (drop 43 (b5_at_returns c)) ≡ c.all_zero.result
-z_at_returns c = rest_zero 43 (b5_at_returns c) _ c.all_zero.ensures
+abbrev b6_at_returns : (c : goal.Else-not-all_zero) → List ℕ
+b6_at_returns c = b5_at_returns c
+
+r6_at_returns : (c : goal.Else-not-all_zero) → area_of (drop 43 (b6_at_returns c)) ≡ c.area.result
+r6_at_returns c = rest_area 43 (b6_at_returns c) _ c.area.ensures
+
+k6_at_returns : (c : goal.Else-not-all_zero) → area_of (drop 43 (b6_at_returns c)) ≡ Of c.in-Of-area.a
+k6_at_returns c = r6_at_returns c ∙ c.in-Of-area.is
+
+z_at_returns : (c : goal.Else-not-all_zero) → all_zero (drop 48 (b6_at_returns c)) ≡ c.all_zero.result
+z_at_returns c = rest_zero 48 (b6_at_returns c) _ c.all_zero.ensures
 
 pub returns : goal.returns
 unfolding master_of
 returns c =
-    simp (k1_at_returns c, k2_at_returns c, k3_at_returns c, k4_at_returns c, k5_at_returns c, z_at_returns c, c.if-not-all_zero.false)
+    simp (k1_at_returns c, k2_at_returns c, k3_at_returns c, k4_at_returns c, k5_at_returns c, k6_at_returns c, z_at_returns c, c.if-not-all_zero.false)

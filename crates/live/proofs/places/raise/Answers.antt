@@ -13,7 +13,7 @@ use Rattle.live.proofs.SetLaws.{state_count}
 use Rattle.live.proofs.places.raise.Goals as goal
 
 raised-to : (w : List ℕ) (i k : ℕ) → i < 64 → k ≡ min (get_or w (384 + i) 0 + 1) (2 ^ 64 - 1)
-    → record { life = (place_at (places_of w) i).life; waiting = k } ≡ raised (place_at (places_of w) i)
+    → record { life = (place_at (places_of w) i).life; waiting = k; user = (place_at (places_of w) i).user } ≡ raised (place_at (places_of w) i)
 unfolding raised
 raised-to w i k h e = simp (e, waiting_is w i h)
 

@@ -15,14 +15,14 @@ unfolding format_of format_if
 returns-then-not-sizes_fit c = simp (← c.sizes_fit.ensures, c.if-not-sizes_fit.true)
 
 q1 : (c : goal.After-lay-arg-1) → let a = c.args in
-    in_range a.blocks a.pages && eqb (length a.medium.now) (medium_length a.blocks a.pages) ≡ true
+    in_range a.blocks a.pages a.area && eqb (length a.medium.now) (medium_length a.blocks a.pages a.area) ≡ true
 q1 c = sym c.sizes_fit.ensures ∙ c.if-not-sizes_fit.false
 
 pub lay-requires : goal.lay-requires
-lay-requires c = let a = c.args in eqb-true _ _ (and_1 (in_range a.blocks a.pages) _ (q1 c))
+lay-requires c = let a = c.args in eqb-true _ _ (and_1 (in_range a.blocks a.pages a.area) _ (q1 c))
 
 q1_at_returns : (c : goal.After-slice_known-2-1) → let a = c.args in
-    in_range a.blocks a.pages && eqb (length a.medium.now) (medium_length a.blocks a.pages) ≡ true
+    in_range a.blocks a.pages a.area && eqb (length a.medium.now) (medium_length a.blocks a.pages a.area) ≡ true
 q1_at_returns c = sym c.sizes_fit.ensures ∙ c.if-not-sizes_fit.false
 
 pub returns : goal.returns

@@ -14,15 +14,15 @@ use Rattle.fields.proofs.PartLaws.{lent_back}
 use Rattle.store.specs.Format.{fresh_medium}
 use Rattle.media.proofs.format.lay.Goals as goal
 
-fresh : (l d : ℕ) (z v : List ℕ) → z ≡ zeros (medium_length l d)
-    → v ≡ master_bytes (record { blocks = l; pages = d; oldest = 1; next = record { 0 = 1 }; last = record { 0 = 0 } })
-    → splice z 0 v ≡ fresh_medium l d
+fresh : (l d a : ℕ) (z v : List ℕ) → z ≡ zeros (medium_length l d a)
+    → v ≡ master_bytes (record { blocks = l; pages = d; area = a; oldest = 1; next = record { 0 = 1 }; last = record { 0 = 0 } })
+    → splice z 0 v ≡ fresh_medium l d a
 unfolding fresh_medium medium_length
-fresh l d z v ez ev =
-    let f : Fields = record { blocks = l; pages = d; oldest = 1; next = record { 0 = 1 }; last = record { 0 = 0 } } in
+fresh l d a z v ez ev =
+    let f : Fields = record { blocks = l; pages = d; area = a; oldest = 1; next = record { 0 = 1 }; last = record { 0 = 0 } } in
     let k = length_master_bytes f in
-    let e : 512 * (3 + l + d) - length (master_bytes f) ≡ 512 * (2 + l + d) = omega arith in
-    rw (ez, ev) (splice_zeros (512 * (3 + l + d)) (master_bytes f) (omega arith) ∙ ap (λ (j : ℕ). master_bytes f ++ zeros j) e)
+    let e : 512 * (3 + l + d + a) - length (master_bytes f) ≡ 512 * (2 + l + d + a) = omega arith in
+    rw (ez, ev) (splice_zeros (512 * (3 + l + d + a)) (master_bytes f) (omega arith) ∙ ap (λ (j : ℕ). master_bytes f ++ zeros j) e)
 
 pub slice_bounds-write-end : goal.slice_bounds-write-end
 unfolding medium_length
@@ -33,4 +33,4 @@ unfolding medium_length
 returns c =
     let h = c.clear.auto.dst ∙ c.requires in
     lent_back _ _ 0 512 (omega arith) c.write.auto.block
-    ∙ fresh c.args.blocks c.args.pages _ _ (c.clear.ensures ∙ ap zeros c.requires) c.write.ensures
+    ∙ fresh c.args.blocks c.args.pages c.args.area _ _ (c.clear.ensures ∙ ap zeros c.requires) c.write.ensures

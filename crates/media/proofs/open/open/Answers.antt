@@ -9,7 +9,7 @@ use Rattle.media.proofs.open.open.Goals as goal
 
 pub returns-then-not-sizes_fit : goal.returns-then-not-sizes_fit
 returns-then-not-sizes_fit c =
-    refused_is _ _ _ _ c.clear.ensures.1 ∙ bad_sizes _ _ _ _ _ c.sizes_fit.ensures (c.if-not-sizes_fit.true)
+    refused_is _ _ _ _ c.clear.ensures.1 ∙ bad_sizes _ _ _ _ _ _ c.sizes_fit.ensures (c.if-not-sizes_fit.true)
 
 -- the sizes are right, the cache has its length, and the medium is well formed
 right : (c : goal.Else-not-sizes_fit) → c.sizes_fit.result ≡ true
@@ -17,7 +17,7 @@ right c = c.if-not-sizes_fit.false
 
 pub cache_length-requires : goal.cache_length-requires
 cache_length-requires c =
-    let a = c.args in (range a.medium.now a.cache.now _ _ _ c.sizes_fit.ensures (right c)).pages_high
+    let a = c.args in (range a.medium.now a.cache.now _ _ _ _ c.sizes_fit.ensures (right c)).pages_high
 
 -- the sizes are right, the cache has its length, and the medium is well formed
 right_at_returns_then_cache_cache_length : (c : goal.Then-cache-cache_length) → c.sizes_fit.result ≡ true
@@ -26,7 +26,7 @@ right_at_returns_then_cache_cache_length c = c.if-not-sizes_fit.false
 pub returns-then-cache-cache_length : goal.returns-then-cache-cache_length
 returns-then-cache-cache_length c =
     refused_is _ _ _ _ c.clear.ensures.1
-    ∙ bad_cache _ _ _ _ _ c.sizes_fit.ensures (right_at_returns_then_cache_cache_length c) (λ e. c.if-cache-cache_length.true (e ∙ sym c.cache_length.ensures))
+    ∙ bad_cache _ _ _ _ _ _ c.sizes_fit.ensures (right_at_returns_then_cache_cache_length c) (λ e. c.if-cache-cache_length.true (e ∙ sym c.cache_length.ensures))
 
 -- the sizes are right, the cache has its length, and the medium is well formed
 right_at_open_state_found_requires : (c : goal.After-open_state-arg-3-1) → c.sizes_fit.result ≡ true
@@ -43,9 +43,9 @@ open_state-found-requires c =
     let e = c.sizes_fit.ensures in
     let r = right_at_open_state_found_requires c in
     record {
-      ready = ready m k _ _ _ e r;
-      pages_bound = ((range m k _ _ _ e r).pages_high, medium_is m k _ _ _ e r);
-      cache_len = cache_is m k _ _ _ e r (fits c);
+      ready = ready m k _ _ _ _ e r;
+      pages_bound = ((range m k _ _ _ _ e r).pages_high, (range m k _ _ _ _ e r).area-high, medium_is m k _ _ _ _ e r);
+      cache_len = cache_is m k _ _ _ _ e r (fits c);
       words_value = c.clear.ensures.0;
     }
 
@@ -59,7 +59,7 @@ fits_at_returns_then_not_found c = c.if-cache-cache_length.false ∙ c.cache_len
 pub returns-then-not-found : goal.returns-then-not-found
 returns-then-not-found c =
     refused_is _ _ _ _ c.clear-then-not-found-2.ensures.1
-    ∙ bad_medium _ _ _ _ _ c.sizes_fit.ensures (right_at_returns_then_not_found c) (fits_at_returns_then_not_found c) (sym c.open_state-found.ensures.0 ∙ not-true c.open_state-found.result.ok c.if-not-found.true) _
+    ∙ bad_medium _ _ _ _ _ _ c.sizes_fit.ensures (right_at_returns_then_not_found c) (fits_at_returns_then_not_found c) (sym c.open_state-found.ensures.0 ∙ not-true c.open_state-found.result.ok c.if-not-found.true) _
     (c.clear-then-not-found.ensures ∙ ap zeros c.cache-1.given)
 
 whole : (c : goal.Else-not-found) → c.open_state-found.result.ok ≡ true
@@ -77,4 +77,4 @@ returns c =
     let x = c.open_state-found.ensures in
     let w = whole c in
     let h = x.1 w in
-    opens _ _ _ _ _ c.sizes_fit.ensures (right_at_returns c) (fits_at_returns c) (sym x.0 ∙ w) _ _ _ h.1 h.2 h.0
+    opens _ _ _ _ _ _ c.sizes_fit.ensures (right_at_returns c) (fits_at_returns c) (sym x.0 ∙ w) _ _ _ h.1 h.2 h.0

@@ -16,7 +16,12 @@ unfolding in_range
 returns-then-pages-lt1 c =
     simp (le-leb _ _ c.if-blocks-lt2.false, le-leb _ _ c.if-blocks-gt32.false, lt-leb _ _ c.if-pages-lt1.true)
 
+pub returns-then-pages-gt64 : goal.returns-then-pages-gt64
+unfolding in_range
+returns-then-pages-gt64 c =
+    simp (le-leb _ _ c.if-blocks-lt2.false, le-leb _ _ c.if-blocks-gt32.false, le-leb _ _ c.if-pages-lt1.false, lt-leb _ _ c.if-pages-gt64.true)
+
 pub returns : goal.returns
 unfolding in_range
 returns c =
-    simp (le-leb _ _ c.if-blocks-lt2.false, le-leb _ _ c.if-blocks-gt32.false, le-leb _ _ c.if-pages-lt1.false)
+    simp (le-leb _ _ c.if-blocks-lt2.false, le-leb _ _ c.if-blocks-gt32.false, le-leb _ _ c.if-pages-lt1.false, le-leb _ _ c.if-pages-gt64.false)

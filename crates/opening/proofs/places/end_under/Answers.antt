@@ -3,7 +3,7 @@ use Rattle.opening.proofs.PlacesLaws.{end_found, end_absent}
 use Rattle.opening.proofs.places.end_under.Goals as goal
 
 pub returns-in-Found : goal.returns-in-Found
-returns-in-Found c = end_found _ _ c.commit_under-c.ensures _ _ c.in-Found.is
+returns-in-Found c = end_found _ _ c.commit_under-c.ensures _ _ _ c.in-Found.is
 
 pub returns-in-Absent : goal.returns-in-Absent
 returns-in-Absent c = end_absent _ _ c.commit_under-c.ensures c.in-Absent.is

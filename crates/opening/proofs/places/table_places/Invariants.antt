@@ -7,7 +7,7 @@ use Rattle.opening.proofs.PlacesLaws.{Laying}
 use Rattle.opening.proofs.places.table_places.Given as goal
 
 abbrev pub invariant-loop-i : goal.invariant-loop-i
-invariant-loop-i l = (l.i ≤ l.used) × Laying l.medium (read_log l.medium l.blocks) (waiting_under l.list l.total) l.initial.words l.words l.i
+invariant-loop-i l = (l.i ≤ l.used) × Laying l.area l.medium (read_log l.medium l.blocks) (waiting_under l.list l.total) l.initial.words l.words l.i
 
 abbrev pub decreases-loop-i : goal.decreases-loop-i
 decreases-loop-i l = l.used - l.i

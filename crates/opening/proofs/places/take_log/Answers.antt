@@ -1,12 +1,17 @@
--- A place that was found takes the number, with time and end place of its commit record, or 0; without one nothing is changed.
+-- A place that was found takes the number, with time, end place and user of its commit record, or 0; without one nothing is changed.
 -- Assumes nothing.
 use mathlib.Core.Path.{sym, ◌∙◌}
-use Rattle.opening.proofs.PlacesLaws.{free_found, taken_none, taken_at, logged_found, logged_absent}
+use native.Mathlib.Omega.{arith}
+use Rattle.opening.proofs.PlacesLaws.{free_found, taken_none, taken_at, user_found, logged_found, logged_absent}
 use borrow.Author.Rules.{rules}
 use Rattle.opening.proofs.places.take_log.Goals as goal
 
 pub returns-in_default : goal.returns-in_default
 returns-in_default c = taken_none _ _ _ _ c.place_for-f.ensures c.in_default.is
+
+pub overflow_cast-u : goal.overflow_cast-u
+overflow_cast-u c =
+    omega (arith, user_found _ _ c.commit_under-c.ensures (λ y. c.requires.users_low _ y) _ _ c.in-Found.u c.in-Found.is)
 
 pub put_live-requires : goal.put_live-requires
 put_live-requires c =
@@ -24,7 +29,7 @@ put_live-requires-in-Absent c =
 
 pub returns-in-Found : goal.returns-in-Found
 returns-in-Found c =
-    taken_at _ _ _ _ _ _ _ c.place_for-f.ensures c.in-At.is (logged_found _ _ c.commit_under-c.ensures _ _ _ _ c.in-Found.is) c.put_live.ensures
+    taken_at _ _ _ _ _ _ _ c.place_for-f.ensures c.in-At.is (logged_found _ _ c.commit_under-c.ensures _ _ _ _ _ c.in-Found.is) c.put_live.ensures
 
 pub returns-in-Absent : goal.returns-in-Absent
 returns-in-Absent c =

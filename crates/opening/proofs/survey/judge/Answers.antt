@@ -11,7 +11,7 @@ use Rattle.store.specs.OpenLog.{next_number, last_time}
 use Rattle.store.specs.OpenConditions.{well_formed}
 use Rattle.conditions.specs.Cursor.{Valid}
 use Rattle.conditions.specs.Lookup.{Known}
-use Rattle.opening.proofs.SurveyedLaws.{refused, read_valid, applied_known, applied_keys, next_found, last_found, not_logged, not_kept, few_is, places_none, opened_is}
+use Rattle.opening.proofs.SurveyedLaws.{refused, read_valid, applied_known, applied_keys, next_found, last_found, not_logged, not_kept, not_lined, few_is, places_none, opened_is}
 use borrow.Author.Rules.{rules}
 use Rattle.opening.proofs.survey.judge.Tie as tie
 use Rattle.opening.proofs.survey.judge.Goals as goal
@@ -25,7 +25,7 @@ pub extent-used-requires : goal.extent-used-requires
 extent-used-requires c = long c
 
 valid : (c : goal.After-gathered-1) → Valid c.args.log
-valid c = read_valid _ _ _ _ _ c.requires.applied.read c.requires.ready.high
+valid c = read_valid _ _ _ _ _ _ c.requires.applied.read c.requires.ready.high
 
 pub gather-n-requires : goal.gather-n-requires
 gather-n-requires c =
@@ -39,7 +39,7 @@ pub slice_bounds-commits-end : goal.slice_bounds-commits-end
 slice_bounds-commits-end c = simp length-take (omega arith)
 
 valid_at_all_ok_tally_requires : (c : goal.After-gathered-3-1) → Valid c.args.log
-valid_at_all_ok_tally_requires c = read_valid _ _ _ _ _ c.requires.applied.read c.requires.ready.high
+valid_at_all_ok_tally_requires c = read_valid _ _ _ _ _ _ c.requires.applied.read c.requires.ready.high
 
 pub all_ok-tally-requires : goal.all_ok-tally-requires
 all_ok-tally-requires c =
@@ -52,7 +52,7 @@ all_ok-tally-requires c =
 
 pub returns-then-not-tally : goal.returns-then-not-tally
 returns-then-not-tally c =
-    refused _ _ c.malformed.ensures (not_logged _ _ _ _ _ _ _ c.requires.applied _ _ _ c.all_ok-tally.ensures (not-true c.all_ok-tally.result.ok c.if-not-tally.true))
+    refused _ _ c.malformed.ensures (not_logged _ _ _ _ _ _ _ _ c.requires.applied _ _ _ c.all_ok-tally.ensures (not-true c.all_ok-tally.result.ok c.if-not-tally.true))
 
 -- from here on the log's records are in order
 abbrev start : (c : goal.Else-not-tally) → tie.Start
@@ -75,18 +75,18 @@ start_at_cache_ok_requires c = c.before.before.before.before.before.before.befor
 -- the pairs are known
 known : (c : goal.After-larger-last) → let a = c.args in Known a.medium.now a.blocks c.extent-used.result (take c.gather-n.result c.gather-n.new.commits)
 known c =
-    applied_known _ _ _ _ _ _ _ c.requires.applied _ _ c.extent-used.ensures c.gather-n.ensures.1
+    applied_known _ _ _ _ _ _ _ _ c.requires.applied _ _ c.shared_slice_known-1.given c.extent-used.ensures c.gather-n.ensures.1
 
 fine : (c : goal.After-larger-last) → c.all_ok-tally.result.ok ≡ true
 fine c = not-false c.all_ok-tally.result.ok c.if-not-tally.false
 
 next_is : (c : goal.After-larger-last) → let a = (start_at_cache_ok_requires c).args in c.larger-next.result ≡ next_number a.medium.now a.blocks
 next_is c =
-    next_found _ _ _ _ _ _ _ (start_at_cache_ok_requires c).requires.1.1.0 _ _ _ c.all_ok-tally.ensures (fine c) _ _ c.get8-given.ensures c.larger-next.ensures
+    next_found _ _ _ _ _ _ _ _ (start_at_cache_ok_requires c).requires.1.1.0 _ _ _ c.all_ok-tally.ensures (fine c) _ _ c.get8-given.ensures c.larger-next.ensures
 
 last_is : (c : goal.After-larger-last) → let a = (start_at_cache_ok_requires c).args in c.larger-last.result ≡ last_time a.medium.now a.blocks
 last_is c =
-    last_found _ _ _ _ _ _ _ (start_at_cache_ok_requires c).requires.1.1.0 _ _ _ c.all_ok-tally.ensures (fine c) _ _ c.get8-stored.ensures c.larger-last.ensures
+    last_found _ _ _ _ _ _ _ _ (start_at_cache_ok_requires c).requires.1.1.0 _ _ _ c.all_ok-tally.ensures (fine c) _ _ c.get8-stored.ensures c.larger-last.ensures
 
 pub cache_ok-requires : goal.cache_ok-requires
 cache_ok-requires c =
@@ -95,8 +95,8 @@ cache_ok-requires c =
     record {
       ready = a.0;
       known = known c;
-      pages_bound = a.1.0;
-      keys_below = applied_keys _ _ _ _ _ _ _ a.1.1.0 a.1.1.1.1 bytes;
+      pages_bound = (a.1.0.0, a.1.0.2);
+      keys_below = applied_keys _ _ _ _ _ _ _ _ a.1.1.0 a.1.1.1.1 bytes;
       next_value = (next_is c, last_is c);
     }
 
@@ -109,7 +109,39 @@ fine_at_returns_then_not_cache_ok c = not-false c.all_ok-tally.result.ok c.if-no
 
 pub returns-then-not-cache_ok : goal.returns-then-not-cache_ok
 returns-then-not-cache_ok c =
-    refused _ _ c.malformed-then-not-cache_ok.ensures (not_kept _ _ _ _ _ _ _ (start_at_returns_then_not_cache_ok c).requires.1.1.0 _ _ _ c.all_ok-tally.ensures (fine_at_returns_then_not_cache_ok c) _ c.cache_ok.ensures (c.if-not-cache_ok.true))
+    refused _ _ c.malformed-then-not-cache_ok.ensures (not_kept _ _ _ _ _ _ _ _ (start_at_returns_then_not_cache_ok c).requires.1.1.0 _ _ _ c.all_ok-tally.ensures (fine_at_returns_then_not_cache_ok c) _ c.cache_ok.ensures (c.if-not-cache_ok.true))
+
+-- from here on the log's records are in order
+abbrev start_at_all_ok_lined_requires : (c : goal.Else-not-cache_ok) → tie.Start
+start_at_all_ok_lined_requires c = c.before.before.before.before.before.before.before.before.before.before
+
+fine_at_all_ok_lined_requires : (c : goal.Else-not-cache_ok) → c.all_ok-tally.result.ok ≡ true
+fine_at_all_ok_lined_requires c = not-false c.all_ok-tally.result.ok c.if-not-tally.false
+
+last_is_at_all_ok_lined_requires : (c : goal.Else-not-cache_ok) → let a = (start_at_all_ok_lined_requires c).args in c.larger-last.result ≡ last_time a.medium.now a.blocks
+last_is_at_all_ok_lined_requires c =
+    last_found _ _ _ _ _ _ _ _ (start_at_all_ok_lined_requires c).requires.1.1.0 _ _ _ c.all_ok-tally.ensures (fine_at_all_ok_lined_requires c) _ _ c.get8-stored.ensures c.larger-last.ensures
+
+pub all_ok-lined-requires : goal.all_ok-lined-requires
+all_ok-lined-requires c =
+    let a = (start_at_all_ok_lined_requires c).requires in
+    record {
+      blocks_bound = (a.0.high, a.1.0.0, a.1.0.1);
+      medium_len = a.1.1.1.1;
+      last_value = last_is_at_all_ok_lined_requires c;
+    }
+
+-- from here on the log's records are in order
+abbrev start_at_returns_then_not_lined : (c : goal.After-malformed-then-not-lined) → tie.Start
+start_at_returns_then_not_lined c = c.before.before.before.before.before.before.before.before.before.before
+
+fine_at_returns_then_not_lined : (c : goal.After-malformed-then-not-lined) → c.all_ok-tally.result.ok ≡ true
+fine_at_returns_then_not_lined c = not-false c.all_ok-tally.result.ok c.if-not-tally.false
+
+pub returns-then-not-lined : goal.returns-then-not-lined
+returns-then-not-lined c =
+    refused _ _ c.malformed-then-not-lined.ensures (not_lined _ _ _ _ _ _ _ _ (start_at_returns_then_not_lined c).requires.1.1.0 _ _ _ c.all_ok-tally.ensures (fine_at_returns_then_not_lined c) _ c.cache_ok.ensures (c.if-not-cache_ok.false)
+    _ c.all_ok-lined.ensures.0 (not-true c.all_ok-lined.result.ok c.if-not-lined.true))
 
 -- from here on the log's records are in order
 abbrev start_at_lay_requires : (c : goal.After-lay-arg-1) → tie.Start
@@ -118,7 +150,7 @@ start_at_lay_requires c = c.before.before.before.before.before.before.before.bef
 -- the pairs are known
 known_at_lay_requires : (c : goal.After-lay-arg-1) → let a = c.args in Known a.medium.now a.blocks c.extent-used.result (take c.gather-n.result c.gather-n.new.commits)
 known_at_lay_requires c =
-    applied_known _ _ _ _ _ _ _ c.requires.applied _ _ c.extent-used.ensures c.gather-n.ensures.1
+    applied_known _ _ _ _ _ _ _ _ c.requires.applied _ _ c.shared_slice_known-1.given c.extent-used.ensures c.gather-n.ensures.1
 
 pub lay-requires : goal.lay-requires
 lay-requires c =
@@ -126,7 +158,7 @@ lay-requires c =
     record {
       ready = a.0;
       known = known_at_lay_requires c;
-      pages_bound = a.1.0;
+      pages_bound = (a.1.0.0, a.1.0.2);
       words_value = places_none _ a.1.1.1.0;
     }
 
@@ -134,13 +166,20 @@ lay-requires c =
 abbrev start_at_returns_then_not_lay : (c : goal.After-malformed-then-not-lay) → tie.Start
 start_at_returns_then_not_lay c = c.before.before.before.before.before.before.before.before.before.before
 
+-- the lines are in order
+lined : (c : goal.After-malformed-then-not-lay) → c.all_ok-lined.result.ok ≡ true
+lined c = not-false c.all_ok-lined.result.ok c.if-not-lined.false
+
 fine_at_returns_then_not_lay : (c : goal.After-malformed-then-not-lay) → c.all_ok-tally.result.ok ≡ true
 fine_at_returns_then_not_lay c = not-false c.all_ok-tally.result.ok c.if-not-tally.false
 
--- table, pages and slots are in order, and the numbers that wait are all that is left to judge
-few : (c : goal.After-malformed-then-not-lay) → let a = (start_at_returns_then_not_lay c).args in well_formed a.medium.now a.blocks a.pages ≡ c.lay.result
+-- table, pages, slots and lines are in order, and the live numbers are all that is left to judge
+few : (c : goal.After-malformed-then-not-lay) → let a = (start_at_returns_then_not_lay c).args in well_formed a.medium.now a.blocks a.pages a.area ≡ c.lay.result
 few c =
-    few_is _ _ _ _ _ _ _ (start_at_returns_then_not_lay c).requires.1.1.0 _ _ _ c.all_ok-tally.ensures (fine_at_returns_then_not_lay c) _ c.cache_ok.ensures (c.if-not-cache_ok.false) _ c.lay.ensures.0
+    let o = c.all_ok-lined.ensures in
+    let t = lined c in
+    few_is _ _ _ _ _ _ _ _ (start_at_returns_then_not_lay c).requires.1.1.0 _ _ _ c.all_ok-tally.ensures (fine_at_returns_then_not_lay c) _ c.cache_ok.ensures (c.if-not-cache_ok.false)
+    _ o.0 t _ (o.1 t) _ c.lay.ensures.0
 
 pub returns-then-not-lay : goal.returns-then-not-lay
 returns-then-not-lay c = refused _ _ c.malformed-then-not-lay.ensures (few c ∙ c.if-not-lay.true)
@@ -164,35 +203,44 @@ abbrev start_at_used_slots_slots_requires : (c : goal.After-lay_tail) → tie.St
 start_at_used_slots_slots_requires c = c.before.before.before.before.before.before.before.before.before.before
 
 pub used_slots-slots-requires : goal.used_slots-slots-requires
-used_slots-slots-requires c = (start_at_used_slots_slots_requires c).requires.1.0
+used_slots-slots-requires c = let a = (start_at_used_slots_slots_requires c).requires in (a.1.0.0, a.1.0.2)
 
 -- from here on the log's records are in order
 abbrev start_at_returns : (c : goal.After-put_numbers) → tie.Start
 start_at_returns c = c.before.before.before.before.before.before.before.before.before.before
 
+-- the lines are in order
+lined_at_returns : (c : goal.After-put_numbers) → c.all_ok-lined.result.ok ≡ true
+lined_at_returns c = not-false c.all_ok-lined.result.ok c.if-not-lined.false
+
 fine_at_returns : (c : goal.After-put_numbers) → c.all_ok-tally.result.ok ≡ true
 fine_at_returns c = not-false c.all_ok-tally.result.ok c.if-not-tally.false
 
--- table, pages and slots are in order, and the numbers that wait are all that is left to judge
-few_at_returns : (c : goal.After-put_numbers) → let a = (start_at_returns c).args in well_formed a.medium.now a.blocks a.pages ≡ c.lay.result
+-- table, pages, slots and lines are in order, and the live numbers are all that is left to judge
+few_at_returns : (c : goal.After-put_numbers) → let a = (start_at_returns c).args in well_formed a.medium.now a.blocks a.pages a.area ≡ c.lay.result
 few_at_returns c =
-    few_is _ _ _ _ _ _ _ (start_at_returns c).requires.1.1.0 _ _ _ c.all_ok-tally.ensures (fine_at_returns c) _ c.cache_ok.ensures (c.if-not-cache_ok.false) _ c.lay.ensures.0
+    let o = c.all_ok-lined.ensures in
+    let t = lined_at_returns c in
+    few_is _ _ _ _ _ _ _ _ (start_at_returns c).requires.1.1.0 _ _ _ c.all_ok-tally.ensures (fine_at_returns c) _ c.cache_ok.ensures (c.if-not-cache_ok.false)
+    _ o.0 t _ (o.1 t) _ c.lay.ensures.0
 
 next_is_at_returns : (c : goal.After-put_numbers) → let a = (start_at_returns c).args in c.larger-next.result ≡ next_number a.medium.now a.blocks
 next_is_at_returns c =
-    next_found _ _ _ _ _ _ _ (start_at_returns c).requires.1.1.0 _ _ _ c.all_ok-tally.ensures (fine_at_returns c) _ _ c.get8-given.ensures c.larger-next.ensures
+    next_found _ _ _ _ _ _ _ _ (start_at_returns c).requires.1.1.0 _ _ _ c.all_ok-tally.ensures (fine_at_returns c) _ _ c.get8-given.ensures c.larger-next.ensures
 
 last_is_at_returns : (c : goal.After-put_numbers) → let a = (start_at_returns c).args in c.larger-last.result ≡ last_time a.medium.now a.blocks
 last_is_at_returns c =
-    last_found _ _ _ _ _ _ _ (start_at_returns c).requires.1.1.0 _ _ _ c.all_ok-tally.ensures (fine_at_returns c) _ _ c.get8-stored.ensures c.larger-last.ensures
+    last_found _ _ _ _ _ _ _ _ (start_at_returns c).requires.1.1.0 _ _ _ c.all_ok-tally.ensures (fine_at_returns c) _ _ c.get8-stored.ensures c.larger-last.ensures
 
 pub returns : goal.returns
 returns c =
+    let o = c.all_ok-lined.ensures in
     let a = (start_at_returns c).requires in
     let t = c.if-not-lay.false in (
       sym (few_at_returns c ∙ t),
       λ _. (
-        opened_is _ _ _ _ _ _ _ _ _ _ a.1.1.0 a.1.1.1.0 (c.lay.ensures.1 t) _ _ _ c.put_numbers.ensures c.used_slots-slots.ensures (next_is_at_returns c) (last_is_at_returns c) c.lay_tail.ensures,
+        opened_is _ _ _ _ _ _ _ _ _ _ _ a.1.1.0 a.1.1.1.0 _ (c.lay.ensures.1 t) _ _ _ c.put_numbers.ensures (o.1 (lined_at_returns c)) c.used_slots-slots.ensures (next_is_at_returns c) (last_is_at_returns c)
+            c.lay_tail.ensures,
         last_is_at_returns c,
       ),
     )

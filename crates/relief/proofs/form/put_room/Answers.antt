@@ -10,7 +10,7 @@ use Rattle.relief.proofs.form.put_room.Goals as goal
 pub returns : goal.returns
 unfolding room_bytes
 returns c =
-    let w : length c.args.words.now ≡ 448 = search rules in
+    let w : length c.args.words.now ≡ 512 = search rules in
     let t : length c.args.tail.now ≡ 512 = search rules in
     record {
       value = omega (arith, c.bytes.ensures.value, c.bytes-e.ensures.value, c.bytes-d.ensures.value, c.put_words-c.ensures.value, c.put_number-b.ensures.value, c.put_number-a.ensures.value);

@@ -13,7 +13,7 @@ loop-i-init c = (c.requires.0, refl)
 
 pub loop-i-preserved : goal.loop-i-preserved
 loop-i-preserved c =
-    let h : c.loop-i.i < 448 = omega arith in (
+    let h : c.loop-i.i < 512 = omega arith in (
       simp length-set c.loop-i.invariant.0,
       prefix_step _ (words_in c.args.head.now) c.loop-i.i _ c.loop-i-test.true (omega (arith, length_words c.args.head.now))
           (c.get8.ensures ∙ sym (word_at c.args.head.now c.loop-i.i h)) c.loop-i.invariant.1,

@@ -22,5 +22,5 @@ returns c =
     let k = c.args in
     record {
       upper_bound = omega arith;
-      by_index = λ l d. list_prints (take k.n k.out.now) _ _ _ _ _ _ _ _ l d c.put_answer-a.ensures.out_after c.put_list.ensures.out_after (rw c.fill.ensures at c.changes-answer.ensures);
+      by_index = λ l d a. list_prints (take k.n k.out.now) _ _ _ _ _ _ _ _ l d a c.put_answer-a.ensures.out_after c.put_list.ensures.out_after (rw c.fill.ensures at c.changes-answer.ensures);
     }

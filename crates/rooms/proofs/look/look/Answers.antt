@@ -6,7 +6,7 @@ use Rattle.rooms.specs.Room.{plan_of, outcome_of, turn_by, turn_of}
 use Rattle.rooms.proofs.RoomLaws.{stage_most, medium_in_law, cache_in_law}
 use Rattle.rooms.proofs.RoomLaws.{first_length}
 use Rattle.rooms.proofs.PlanLaws.{plan_stage, within_fits}
-use Rattle.rooms.proofs.LookLaws.{look_call, look_list, look_rest}
+use Rattle.rooms.proofs.LookLaws.{look_call, look_list, look_user, look_rest}
 use Rattle.memory.specs.Memory.{state_of}
 use Rattle.rooms.proofs.look.look.Goals as goal
 
@@ -51,12 +51,18 @@ slice_bounds-put_shown-end c = first_length c.args.medium.now c.medium_part-m.re
 pub slice_bounds-put_shown-end-in-Page : goal.slice_bounds-put_shown-end-in-Page
 slice_bounds-put_shown-end-in-Page c = first_length c.args.cache.now c.cache_part-c.result (omega arith)
 
+pub slice_bounds-user_of-end : goal.slice_bounds-user_of-end
+slice_bounds-user_of-end c = first_length c.args.medium.now c.medium_part-m.result (omega arith)
+
+pub slice_bounds-user_of-end-in-User : goal.slice_bounds-user_of-end-in-User
+slice_bounds-user_of-end-in-User c = first_length c.args.cache.now c.cache_part-c.result (omega arith)
+
 pub returns-in-Read : goal.returns-in-Read
 unfolding turn_of turn_by plan_of outcome_of
 returns-in-Read c =
     record {
       upper_bound = omega arith;
-      prints = simp c.in-Read.is (look_call c.args.t c.args.medium.now c.args.cache.now ((state_of c.args.words.now c.args.tail.now)) _ _ (take c.args.n c.args.out.now) _ _ _ (plan_stage _ _ _ _ refl c.in-Read.is c.requires.call_bound) c.medium_part-m.ensures.value c.cache_part-c.ensures.value (c.current.ensures.by_index _ _));
+      prints = simp c.in-Read.is (look_call c.args.t c.args.medium.now c.args.cache.now ((state_of c.args.words.now c.args.tail.now)) _ _ (take c.args.n c.args.out.now) _ _ _ (plan_stage _ _ _ _ refl c.in-Read.is c.requires.call_bound) c.medium_part-m.ensures.value c.cache_part-c.ensures.value (c.current.ensures.by_index _ _ _));
     }
 
 pub returns-in-AsOf : goal.returns-in-AsOf
@@ -64,7 +70,7 @@ unfolding turn_of turn_by plan_of outcome_of
 returns-in-AsOf c =
     record {
       upper_bound = omega arith;
-      prints = simp c.in-AsOf.is (look_call c.args.t c.args.medium.now c.args.cache.now ((state_of c.args.words.now c.args.tail.now)) _ _ (take c.args.n c.args.out.now) _ _ _ (plan_stage _ _ _ _ refl c.in-AsOf.is c.requires.call_bound) c.medium_part-m.ensures.value c.cache_part-c.ensures.value (c.as_of.ensures.by_index _ _));
+      prints = simp c.in-AsOf.is (look_call c.args.t c.args.medium.now c.args.cache.now ((state_of c.args.words.now c.args.tail.now)) _ _ (take c.args.n c.args.out.now) _ _ _ (plan_stage _ _ _ _ refl c.in-AsOf.is c.requires.call_bound) c.medium_part-m.ensures.value c.cache_part-c.ensures.value (c.as_of.ensures.by_index _ _ _));
     }
 
 pub returns-in-Changes : goal.returns-in-Changes
@@ -73,7 +79,7 @@ returns-in-Changes c =
     let f = within_fits _ 3 _ (plan_stage _ _ _ _ refl c.in-Changes.is c.requires.call_bound) (stage_most c.args.t) in
     record {
       upper_bound = c.list.ensures.upper_bound;
-      prints = simp c.in-Changes.is (look_call c.args.t c.args.medium.now c.args.cache.now ((state_of c.args.words.now c.args.tail.now)) _ _ (take c.args.n c.args.out.now) _ _ _ f.1 c.medium_part-m.ensures.value c.cache_part-c.ensures.value (look_list c.args.buffer.now (take c.args.n c.args.out.now) _ _ _ _ _ _ _ _ _ _ c.requires.buffer_len f.0 (c.list.ensures.by_index _ _)));
+      prints = simp c.in-Changes.is (look_call c.args.t c.args.medium.now c.args.cache.now ((state_of c.args.words.now c.args.tail.now)) _ _ (take c.args.n c.args.out.now) _ _ _ f.1 c.medium_part-m.ensures.value c.cache_part-c.ensures.value (look_list c.args.buffer.now (take c.args.n c.args.out.now) _ _ _ _ _ _ _ _ _ _ _ c.requires.buffer_len f.0 (c.list.ensures.by_index _ _ _)));
     }
 
 pub returns-in-Block : goal.returns-in-Block
@@ -92,9 +98,18 @@ returns-in-Page c =
       prints = simp (c.in-Page.is, cache_in_law) (rw c.cache_part-c.ensures.value at c.put_shown-in-Page.ensures.out_after, refl);
     }
 
+pub returns-in-User : goal.returns-in-User
+unfolding turn_of turn_by
+returns-in-User c =
+    let k = c.args in
+    record {
+      upper_bound = omega arith;
+      prints = simp c.in-User.is (look_user k.t k.medium.now k.cache.now (state_of k.words.now k.tail.now) _ _ _ (take k.n k.out.now) _ _ _ c.medium_part-m.ensures.value c.cache_part-c.ensures.value c.reached.ensures c.user_of-user.ensures c.put_user.ensures.out_after, refl);
+    }
+
 pub returns-in_default : goal.returns-in_default
 returns-in_default c =
     record {
-      upper_bound = (absurd (look_rest c.args.asked.call c.in-Read.in-Read-own.keys6 c.requires.call_value)).0;
-      prints = (absurd (look_rest c.args.asked.call c.in-Read.in-Read-own.keys6 c.requires.call_value)).1;
+      upper_bound = (absurd (look_rest c.args.asked.call c.in-Read.in-Read-own.keys7 c.requires.call_value)).0;
+      prints = (absurd (look_rest c.args.asked.call c.in-Read.in-Read-own.keys7 c.requires.call_value)).1;
     }

@@ -12,9 +12,9 @@ returns-then-t-lt2 c =
       upper_bound = omega arith;
     }
 
-pub returns-then-t-gt50688 : goal.returns-then-t-gt50688
+pub returns-then-t-gt58880 : goal.returns-then-t-gt58880
 unfolding medium_part
-returns-then-t-gt50688 c =
+returns-then-t-gt58880 c =
     record {
       value = simp (le-ltb _ _ c.if-t-lt2.false) (omega arith);
       upper_bound = omega arith;

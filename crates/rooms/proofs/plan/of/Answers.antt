@@ -74,6 +74,10 @@ pub returns-in-Page : goal.returns-in-Page
 unfolding plan_of
 returns-in-Page c = simp (c.in-Page.is, c.looking-in-Page.ensures)
 
+pub returns-in-User : goal.returns-in-User
+unfolding plan_of
+returns-in-User c = simp (c.in-User.is, c.looking-in-User.ensures)
+
 pub returns-in-Poke : goal.returns-in-Poke
 unfolding plan_of
 returns-in-Poke c = simp (c.in-Poke.is, c.changing-in-Poke.ensures)

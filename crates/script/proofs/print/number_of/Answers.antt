@@ -69,3 +69,7 @@ returns-in-Unfit c = simp c.in-Unfit.is
 pub returns-in-NoRecord : goal.returns-in-NoRecord
 unfolding refusal_number
 returns-in-NoRecord c = simp c.in-NoRecord.is
+
+pub returns-in-AreaFull : goal.returns-in-AreaFull
+unfolding refusal_number
+returns-in-AreaFull c = simp c.in-AreaFull.is

@@ -59,7 +59,8 @@ q1_at_is_left_requires c = sym c.is_fit.ensures ∙ c.if-not-is_fit.false
 
 pub is_left-requires : goal.is_left-requires
 unfolding medium_length
-is_left-requires c = let f = sizes _ _ _ _ (q1_at_is_left_requires c) in (omega arith, omega arith)
+is_left-requires c =
+    let f = sizes _ _ _ _ (q1_at_is_left_requires c) in (omega arith, f.sized.area-high, omega arith)
 
 -- the answers to the questions, and what is left to ask once the pages are looked at
 q1_at_returns_then_is_left : (c : goal.Then-is_left) → let a = c.args in fits (state_of a.words.now a.tail.now) (length a.medium.now) (length a.cache.now) ≡ true

@@ -8,7 +8,9 @@ use lib.ListN.{length, get_or}
 use borrow.Author.Tests.{eq-eqb, ne_eqb, lt-ltb, le-ltb}
 use Rattle.store.specs.declared.Found.TheVariants.{At}
 use Rattle.store.specs.Places.{find_active}
+use Rattle.store.specs.Commit.{form_of}
 use Rattle.store.specs.State.{fits}
+use Rattle.layout.proofs.RecordLaws.{user_few}
 use Rattle.memory.specs.Memory.{places_of, state_by, state_of}
 use Rattle.live.proofs.FirstLaws.{active_below}
 use Rattle.tail.proofs.TailLaws.{ready}
@@ -57,13 +59,14 @@ unfolding state_of state_by
 returns-then-words-ge18446744073709551615 c =
     simp (q1_at_returns_then_words_ge18446744073709551615 c, q2_at_returns_then_words_ge18446744073709551615 c, ← c.waiting_at.ensures, ne_eqb _ _ c.if-waiting_at-eq0.false, le-ltb (get_or c.args.words.now 4 0) (2 ^ 64 - 1) c.if-words-ge18446744073709551615.true)
 
-q1_at_may_log_requires : (c : goal.Else-words-ge18446744073709551615) → let a = c.args in fits (state_of a.words.now a.tail.now) (length a.medium.now) (length a.cache.now) ≡ true
+q1_at_may_log_requires : (c : goal.After-size_of) → let a = c.args in fits (state_of a.words.now a.tail.now) (length a.medium.now) (length a.cache.now) ≡ true
 q1_at_may_log_requires c = sym c.is_fit.ensures ∙ c.if-not-is_fit.false
 
 pub may_log-requires : goal.may_log-requires
 may_log-requires c =
+    let n = user_few (form_of (get_or c.args.words.now 11 0)) in
     record {
-      size_bound = omega arith;
+      size_bound = omega (arith, c.type_size.ensures);
       ready = ready _ _ _ (q1_at_may_log_requires c);
     }
 
@@ -76,7 +79,7 @@ q2_at_returns_then_not_may_log c = sym c.find_active-f.ensures ∙ c.in-At.is
 pub returns-then-not-may_log : goal.returns-then-not-may_log
 unfolding state_of state_by
 returns-then-not-may_log c =
-    simp (q1_at_returns_then_not_may_log c, q2_at_returns_then_not_may_log c, ← c.waiting_at.ensures, ne_eqb _ _ c.if-waiting_at-eq0.false, lt-ltb (get_or c.args.words.now 4 0) (2 ^ 64 - 1) c.if-words-ge18446744073709551615.false, ← c.may_log.ensures, c.if-not-may_log.true)
+    simp (q1_at_returns_then_not_may_log c, q2_at_returns_then_not_may_log c, ← c.waiting_at.ensures, ne_eqb _ _ c.if-waiting_at-eq0.false, lt-ltb (get_or c.args.words.now 4 0) (2 ^ 64 - 1) c.if-words-ge18446744073709551615.false, ← c.type_size.ensures, ← c.may_log.ensures, c.if-not-may_log.true)
 
 q1_at_returns : (c : goal.Else-not-may_log) → let a = c.args in fits (state_of a.words.now a.tail.now) (length a.medium.now) (length a.cache.now) ≡ true
 q1_at_returns c = sym c.is_fit.ensures ∙ c.if-not-is_fit.false
@@ -87,4 +90,4 @@ q2_at_returns c = sym c.find_active-f.ensures ∙ c.in-At.is
 pub returns : goal.returns
 unfolding state_of state_by
 returns c =
-    simp (q1_at_returns c, q2_at_returns c, ← c.waiting_at.ensures, ne_eqb _ _ c.if-waiting_at-eq0.false, lt-ltb (get_or c.args.words.now 4 0) (2 ^ 64 - 1) c.if-words-ge18446744073709551615.false, ← c.may_log.ensures, c.if-not-may_log.false)
+    simp (q1_at_returns c, q2_at_returns c, ← c.waiting_at.ensures, ne_eqb _ _ c.if-waiting_at-eq0.false, lt-ltb (get_or c.args.words.now 4 0) (2 ^ 64 - 1) c.if-words-ge18446744073709551615.false, ← c.type_size.ensures, ← c.may_log.ensures, c.if-not-may_log.false)

@@ -1,12 +1,13 @@
 -- The verdict names the refusal, or says that all questions are passed and where the transaction is; its count then tells
 -- whether it ends at once or by the step. Assumes nothing.
-use mathlib.Core.Path.{◌≡◌, sym, ◌∙◌}
+use mathlib.Core.Path.{◌≡◌, sym, ap, ◌∙◌}
 use mathlib.Core.Option.{none}
 use Prim.Native.Nat.{◌<◌}
 use Rattle.store.specs.declared.Found.TheVariants.{At}
 use Rattle.store.specs.Answer.{ask}
 use Rattle.store.specs.Places.{find_active}
-use Rattle.store.specs.Commit.{commit_asks}
+use Rattle.layout.specs.declared.item.CommitHead.{CommitHead}
+use Rattle.store.specs.Commit.{new_commit, commit_asks}
 use Rattle.memory.specs.Memory.{places_of, state_by, state_of}
 use Rattle.live.proofs.FirstLaws.{active_below}
 use Rattle.questions.proofs.AskLaws.{verdict_go}
@@ -54,7 +55,7 @@ unfolding state_of state_by
 returns-then-waiting_at-eq0 c =
     let a = c.args in
     let g = go_at_returns_then_waiting_at_eq0 c in
-    commit_empty (state_of a.words.now a.tail.now) a.medium.now a.cache.now a.number _ g.0 g.1 _ _ (sym c.waiting_at.ensures ∙ c.if-waiting_at-eq0.true) (c.free.ensures a.tail.now)
+    commit_empty (state_of a.words.now a.tail.now) a.medium.now a.cache.now a.number _ g.0 g.1 _ _ _ (sym c.waiting_at.ensures ∙ c.if-waiting_at-eq0.true) (c.free.ensures a.tail.now)
 
 go_at_time_for_time_requires : (c : goal.After-time_for-arg-in-Go-1) → let a = c.args in
     (ask (commit_asks (state_of a.words.now a.tail.now) a.medium.now a.cache.now a.number) ≡ none)
@@ -80,19 +81,21 @@ go_at_step_requires : (c : goal.After-step-arg-in-Go-2-1) → let a = c.args in
 go_at_step_requires c = verdict_go _ _ _ _ c.asks-v.ensures c.in-Go.is
 
 pub step-requires : goal.step-requires
+unfolding new_commit state_of state_by
 step-requires c =
     let g = go_at_step_requires c in
     record {
       number_value = g.0;
       number_value_2 = g.1;
       fact = λ z. c.if-waiting_at-eq0.false (c.waiting_at.ensures ∙ z);
+      form_value = ap (λ (h : CommitHead). h.form) (c.head_of-head.ensures c.args.tail.now);
     }
 
 pub returns-in-No : goal.returns-in-No
 unfolding state_of state_by
 returns-in-No c =
     let a = c.args in
-    commit_refused _ _ (state_of a.words.now a.tail.now) a.medium.now a.cache.now a.number a.clock c.asks-v.ensures c.in-No.is
+    commit_refused _ _ (state_of a.words.now a.tail.now) a.medium.now a.cache.now a.number a.clock a.user c.asks-v.ensures c.in-No.is
 
 go_at_returns_else_waiting_at_eq0 : (c : goal.After-slice_known-in-Go-1) → let a = c.args in
     (ask (commit_asks (state_of a.words.now a.tail.now) a.medium.now a.cache.now a.number) ≡ none)
@@ -104,5 +107,5 @@ unfolding state_of state_by
 returns-else-waiting_at-eq0 c =
     let a = c.args in
     let g = go_at_returns_else_waiting_at_eq0 c in
-    commit_passed (state_of a.words.now a.tail.now) a.medium.now a.cache.now a.number _ g.0 g.1 (λ z. c.if-waiting_at-eq0.false (c.waiting_at.ensures ∙ z)) _ _ _
-    (c.time_for-time.ensures a.tail.now) c.step.ensures
+    commit_passed (state_of a.words.now a.tail.now) a.medium.now a.cache.now a.number _ g.0 g.1 (λ z. c.if-waiting_at-eq0.false (c.waiting_at.ensures ∙ z)) _ _ _ _ _
+    (c.time_for-time.ensures a.tail.now) (c.head_of-head.ensures a.tail.now) c.step.ensures

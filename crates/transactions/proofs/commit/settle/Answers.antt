@@ -13,6 +13,6 @@ unfolding committed with_place with_last state_of state_by
 returns c =
     λ tail e.
     let a = c.args in
-    set_last c.put_committed.new.words tail a.time.0 (c.put_committed.auto.words ∙ c.requires.words_len)
-    ∙ ap (λ (s : State). with_last s a.time.0) (c.put_committed.ensures tail)
+    set_last c.put_committed.new.words tail a.head.time.0 (c.put_committed.auto.words ∙ c.requires.words_len)
+    ∙ ap (λ (s : State). with_last s a.head.time.0) (c.put_committed.ensures tail)
     ∙ rw e

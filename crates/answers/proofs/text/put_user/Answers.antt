@@ -1,0 +1,14 @@
+-- Each part stands behind the one before.
+use native.Mathlib.Omega.{arith}
+use lib.ListN.{take}
+use Rattle.answers.specs.Text.{user_text}
+use Rattle.answers.proofs.TextLaws.{behind_4}
+use Rattle.answers.proofs.text.put_user.Goals as goal
+
+pub returns : goal.returns
+unfolding user_text
+returns c =
+    record {
+      upper_bound = omega arith;
+      out_after = behind_4 (take c.args.n c.args.out.now) _ _ _ _ _ _ _ _ c.byte-a.ensures.out_after c.byte-b.ensures.out_after c.put_known-c.ensures.out_after c.byte.ensures.out_after;
+    }
