@@ -1,7 +1,8 @@
--- What is printed stands behind what was printed before: a line is its parts one behind the other, and a list its lines.
+-- What is printed stands behind what was printed before: a line is its parts one behind the other, and a list its
+-- lines.
 use mathlib.Core.Path.{◌≡◌, refl, sym, ap, ◌∙◌}
 use mathlib.Core.Bool.{Bool, true, false, cond, ◌&&◌}
-use mathlib.Core.List.{List, [], ◌∷◌, ◌++◌, append-nil, append_assoc}
+use mathlib.Core.List.{List, [], ◌++◌, append-nil, append_assoc}
 use Prim.Native.Nat.{ℕ, suc, ◌+◌, ◌-◌, ◌*◌, ◌≤◌, ◌<◌}
 use native.Mathlib.Omega.{arith}
 use native.Mathlib.Numerals.{add-one}
@@ -9,7 +10,8 @@ use lib.ListN.{length, take, drop, get_or, drop_of_length-le}
 use lib.Seq.{drop-cons, drop-drop}
 use lib.Dec.{eqb}
 use Rattle.store.specs.declared.Answer.{Answer}
-use Rattle.store.specs.declared.Answer.TheVariants.{Refused, Done, Begun, Written, Committed, Opened, Missing, Erased, Present, Listed}
+use Rattle.store.specs.declared.Answer.TheVariants.{Refused, Done, Begun, Written, Committed, Opened, Missing, Erased}
+use Rattle.store.specs.declared.Answer.TheVariants.{Present, Listed}
 use Rattle.store.specs.Answer.{answer_number}
 use Rattle.store.specs.declared.Refusal.{Refusal}
 use Rattle.fields.proofs.EqualLaws.{noted}
@@ -21,13 +23,15 @@ module _ (x0 x1 x2 x3 x4 : List ℕ) (a b c d : List ℕ) where
   pub behind_4 : x1 ≡ x0 ++ a → x2 ≡ x1 ++ b → x3 ≡ x2 ++ c → x4 ≡ x3 ++ d → x4 ≡ x0 ++ (a ++ (b ++ (c ++ d)))
   behind_4 h1 h2 h3 h4 = simp (h4, h3, h2, h1, append_assoc)
 
-  pub behind_6 : (x5 x6 e f : List ℕ) → x1 ≡ x0 ++ a → x2 ≡ x1 ++ b → x3 ≡ x2 ++ c → x4 ≡ x3 ++ d → x5 ≡ x4 ++ e → x6 ≡ x5 ++ f
+  pub behind_6 : (x5 x6 e f : List ℕ) → x1 ≡ x0 ++ a → x2 ≡ x1 ++ b → x3 ≡ x2 ++ c → x4 ≡ x3 ++ d → x5 ≡ x4 ++ e
+      → x6 ≡ x5 ++ f
       → x6 ≡ x0 ++ (a ++ (b ++ (c ++ (d ++ (e ++ f)))))
   behind_6 x5 x6 e f h1 h2 h3 h4 h5 h6 = simp (h6, h5, h4, h3, h2, h1, append_assoc)
 
 -- a list's lines, n of them in the buffer b: what is put, and the lines that are left, make up w
 module _ (b w : List ℕ) (n i : ℕ) where
-  pub changes_turn : (x y : List ℕ) → i < n → y ≡ x ++ change_text (take 32 (drop (32 * i) b)) → x ++ changes_text (n - i) (drop (32 * i) b) ≡ w
+  pub changes_turn : (x y : List ℕ) → i < n → y ≡ x ++ change_text (take 32 (drop (32 * i) b))
+      → x ++ changes_text (n - i) (drop (32 * i) b) ≡ w
       → y ++ changes_text (n - (i + 1)) (drop (32 * (i + 1)) b) ≡ w
   unfolding changes_text
   changes_turn x y h e g =
@@ -45,12 +49,14 @@ pub changes_start : (b x : List ℕ) (n : ℕ) → x ++ changes_text (n - 0) b �
 changes_start b x n = let m : n - 0 ≡ n = omega arith in ap (λ (j : ℕ). x ++ changes_text j b) m
 
 -- are all bytes n? A turn of a loop that notes another
-are_step : (n : ℕ) (bs : List ℕ) (i : ℕ) → i < length bs → all_are n (drop i bs) ≡ eqb (get_or bs i 0) n && all_are n (drop (i + 1) bs)
+are_step : (n : ℕ) (bs : List ℕ) (i : ℕ) → i < length bs → all_are n (drop i bs)
+    ≡ eqb (get_or bs i 0) n && all_are n (drop (i + 1) bs)
 unfolding all_are
 are_step n bs i h = rw (add-one, drop-cons bs i 0 h)
 
 pub are_turn : (n : ℕ) (bs : List ℕ) (i other : ℕ) → i < length bs
-    → cond (eqb (cond (eqb (get_or bs i 0) n) other 1) 0) (all_are n (drop (i + 1) bs)) false ≡ cond (eqb other 0) (all_are n (drop i bs)) false
+    → cond (eqb (cond (eqb (get_or bs i 0) n) other 1) 0) (all_are n (drop (i + 1) bs)) false
+    ≡ cond (eqb other 0) (all_are n (drop i bs)) false
 are_turn n bs i other h = noted (eqb (get_or bs i 0) n) (all_are n (drop (i + 1) bs)) other ∙ rw (are_step n bs i h)
 
 pub are_end : (n : ℕ) (bs : List ℕ) (i : ℕ) → length bs ≤ i → all_are n (drop i bs) ≡ true
@@ -58,7 +64,8 @@ unfolding all_are
 are_end n bs i h = rw (drop_of_length-le bs h)
 
 -- the lines, and then the rest of the buffer
-pub list_put : (x z y b : List ℕ) (k : ℕ) (flag : Bool) → z ≡ x ++ changes_text k b → flag ≡ all_are 170 (take (length b - 32 * k) (drop (32 * k) b)) → y ≡ z ++ kept_text flag
+pub list_put : (x z y b : List ℕ) (k : ℕ) (flag : Bool) → z ≡ x ++ changes_text k b
+    → flag ≡ all_are 170 (take (length b - 32 * k) (drop (32 * k) b)) → y ≡ z ++ kept_text flag
     → y ≡ x ++ list_text (Listed k) b
 unfolding list_text
 list_put x z y b k flag e f g =

@@ -1,10 +1,12 @@
 -- What the lines of `replay` print.
-use Rattle.std.specs.Prelude.{ℕ, zero, suc, ◌*◌, ◌/◌, Bool, true, false, cond, ◌&&◌, List, [], ◌∷◌, ◌++◌, length, take, drop, get_or, eqb, ltb}
+use Rattle.std.specs.Prelude.{ℕ, zero, suc, ◌*◌, ◌/◌, Bool, true, false, cond, ◌&&◌, List, [], ◌∷◌, ◌++◌, length, take}
+use Rattle.std.specs.Prelude.{drop, get_or, eqb, ltb}
 use Rattle.fields.specs.Field.{dec}
 use Rattle.fields.specs.Part.{part}
 use Rattle.fields.specs.Block.{blk}
 use Rattle.store.specs.declared.Answer.{Answer}
-use Rattle.store.specs.declared.Answer.TheVariants.{Refused, Done, Begun, Written, Committed, Opened, Missing, Erased, Present, Listed}
+use Rattle.store.specs.declared.Answer.TheVariants.{Refused, Done, Begun, Written, Committed, Opened, Missing, Erased}
+use Rattle.store.specs.declared.Answer.TheVariants.{Present, Listed}
 use Rattle.store.specs.Answer.{answer_number}
 use Rattle.handover.specs.declared.HandAnswer.{HandAnswer}
 use Rattle.handover.specs.declared.HandAnswer.TheVariants.{Denied, NotOwner, Handed}
@@ -23,8 +25,8 @@ none_text = 110 ∷ 111 ∷ 110 ∷ 101 ∷ []
 abbrev pub erased_text : List ℕ
 erased_text = 101 ∷ 114 ∷ 97 ∷ 115 ∷ 101 ∷ 100 ∷ []
 
--- replay: "`F 0 0`", "`O 0 lasttime`", "`B 0 number`", "`W 0 slot`", "`R 0 value`", "`C 0 time` (0 without versions)", "`L
--- 0 count`": the last word of a call's line; v is the value beside a read's answer
+-- replay: "`F 0 0`", "`O 0 lasttime`", "`B 0 number`", "`W 0 slot`", "`R 0 value`", "`C 0 time` (0 without versions)",
+-- "`L 0 count`": the last word of a call's line; v is the value beside a read's answer
 unfoldable pub result_text : Answer → List ℕ → List ℕ
 result_text (Refused r) v = dash
 result_text Done v = decimal 0

@@ -3,7 +3,8 @@ ghost use Rattle.std.specs.Prelude.{◌≡◌, ◌++◌, ℕ, ◌+◌, ◌*◌, 
 ghost use Rattle.store.specs.declared.Answer.TheVariants.{Listed};
 ghost use Rattle.store.specs.Answer.{answer_number};
 ghost use Rattle.handover.specs.Hand.{hand_number};
-ghost use Rattle.answers.specs.Text.{result_text, answer_text, handed_result, handed_text, change_text, changes_text, all_are, kept_text, list_text, block_text, shown_text};
+ghost use Rattle.answers.specs.Text.{result_text, answer_text, handed_result, handed_text, change_text, changes_text};
+ghost use Rattle.answers.specs.Text.{all_are, kept_text, list_text, block_text, shown_text};
 
 use fields::block;
 use handover::HandAnswer;

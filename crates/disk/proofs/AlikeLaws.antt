@@ -39,7 +39,8 @@ drop_splice (x ∷ l) (suc at) v zero h = absurd (omega arith)
 drop_splice (x ∷ l) (suc at) v (suc e) h = drop_splice l at v e (omega arith)
 
 -- what is laid within block k
-pub alike_splice : (m : List ℕ) (k at : ℕ) (v : List ℕ) → 512 * k ≤ at → at + length v ≤ 512 * k + 512 → Alike m k (splice m at v)
+pub alike_splice : (m : List ℕ) (k at : ℕ) (v : List ℕ) → 512 * k ≤ at → at + length v ≤ 512 * k + 512
+    → Alike m k (splice m at v)
 alike_splice m k at v h j = record {
   size = length_splice m at v;
   before = part_before m at v 0 (512 * k) (omega arith);
@@ -74,13 +75,19 @@ module _ (m : List ℕ) (k : ℕ) (n : List ℕ) (a : Alike m k n) where
   pub alike_laid : splice m at (part n at len) ≡ n
   unfolding start_of length_of
   alike_laid = bool_case (ltb (512 * k) (length m))
-      (λ t. let h = ltb-true (512 * k) (length m) t in simp t (laid m n (512 * k) (min (length m - 512 * k) 512) _ refl a.size a.before (tail h)))
-      (λ t. let h = ltb-false (512 * k) (length m) t in let e = same h in simp t (rw e (splice_self m 0 (min (length m - 0) 512))))
+      (λ t. let h = ltb-true (512 * k) (length m) t in
+      simp t (laid m n (512 * k) (min (length m - 512 * k) 512) _ refl a.size a.before (tail h)))
+      (λ t. let h = ltb-false (512 * k) (length m) t in let e = same h in
+      simp t (rw e (splice_self m 0 (min (length m - 0) 512))))
     where
-      tail : 512 * k < length m → drop (512 * k + min (length m - 512 * k) 512) n ≡ drop (512 * k + min (length m - 512 * k) 512) m
+      tail : 512 * k < length m → drop (512 * k + min (length m - 512 * k) 512) n
+          ≡ drop (512 * k + min (length m - 512 * k) 512) m
       tail h = bool_case (ltb (length m) (512 * k + 512))
-          (λ t. let j = ltb-true (length m) (512 * k + 512) t in let e : 512 * k + min (length m - 512 * k) 512 ≡ length m = omega arith in rw e (ap (λ (i : ℕ). drop i n) (sym a.size) ∙ drop-length n ∙ sym (drop-length m)))
-          (λ t. let j = ltb-false (length m) (512 * k + 512) t in let e : 512 * k + min (length m - 512 * k) 512 ≡ 512 * k + 512 = omega arith in rw e a.behind)
+          (λ t. let j = ltb-true (length m) (512 * k + 512) t in
+          let e : 512 * k + min (length m - 512 * k) 512 ≡ length m = omega arith in
+          rw e (ap (λ (i : ℕ). drop i n) (sym a.size) ∙ drop-length n ∙ sym (drop-length m)))
+          (λ t. let j = ltb-false (length m) (512 * k + 512) t in
+          let e : 512 * k + min (length m - 512 * k) 512 ≡ 512 * k + 512 = omega arith in rw e a.behind)
 
       same : length m ≤ 512 * k → n ≡ m
       same h = let e = a.size in sym (take_all (512 * k) n (omega arith)) ∙ a.before ∙ take_all (512 * k) m h
@@ -88,8 +95,10 @@ module _ (m : List ℕ) (k : ℕ) (n : List ℕ) (a : Alike m k n) where
   -- m and n differ where the block's bytes do
   pub alike_eq : eq_list (part m at len) (part n at len) ≡ eq_list m n
   alike_eq = bool_case (eq_list (part m at len) (part n at len))
-      (λ t. let e = eq_true _ _ t in let g : m ≡ n = sym (splice_self m at len) ∙ ap (splice m at) e ∙ alike_laid in t ∙ sym (rw (sym g) (eq_refl m)))
-      (λ t. bool_case (eq_list m n) (λ u. let g = eq_true m n u in no (sym t ∙ rw (sym g) (eq_refl (part m at len)))) (λ u. t ∙ sym u))
+      (λ t. let e = eq_true _ _ t in let g : m ≡ n = sym (splice_self m at len) ∙ ap (splice m at) e ∙ alike_laid in
+      t ∙ sym (rw (sym g) (eq_refl m)))
+      (λ t. bool_case (eq_list m n) (λ u. let g = eq_true m n u in no (sym t ∙ rw (sym g) (eq_refl (part m at len))))
+      (λ u. t ∙ sym u))
 
   pub alike_stored : (v : List ℕ) (c : Bool) → v ≡ part n at len → c ≡ not (eq_list m n) → stored c m at v ≡ n
   unfolding stored

@@ -1,5 +1,6 @@
--- A call changes no block but the one that `block_of` names: it is the block that the call stores, and where sizes or page
--- are out of range the call is refused and stores nothing. So with a handover, which stores the tail's block or nothing.
+-- A call changes no block but the one that `block_of` names: it is the block that the call stores, and where sizes or
+-- page are out of range the call is refused and stores nothing. So with a handover, which stores the tail's block or
+-- nothing.
 use mathlib.Core.Path.{◌≡◌, refl, sym, ap, ◌∙◌}
 use mathlib.Core.Bool.{false}
 use mathlib.Core.List.{List}
@@ -16,7 +17,8 @@ use Rattle.store.specs.State.{in_range, fits}
 use Rattle.fields.proofs.Choose.{bool_case, no}
 use Rattle.runs.specs.Event.{Call, write, erase, commit, store_log, store_page, checkpoint}
 use Rattle.runs.specs.Machine.{called}
-use Rattle.runs.proofs.Asks.{Way, refused, begins, writes, erases, looks, commits, ends, aborts, logs, pages, checks, way}
+use Rattle.runs.proofs.Asks.{Way, refused, begins, writes, erases, looks, commits, ends, aborts, logs, pages, checks}
+use Rattle.runs.proofs.Asks.{way}
 use Rattle.runs.proofs.OneBlock.{Stores, nothing, block, phase_block as stored_in, store_block, stores}
 use Rattle.handover.specs.declared.Transfer.{Transfer}
 use Rattle.handover.specs.Hand.{hand_of}
@@ -34,7 +36,8 @@ alike_put {m = m} s = go s
 
 -- ---- a call on a store that does not fit is refused
 
-unfit : {m c : List ℕ} {s : State} {k : Call} {o : Outcome} → Way m c s k o → fits s (length m) (length c) ≡ false → o.medium ≡ m
+unfit : {m c : List ℕ} {s : State} {k : Call} {o : Outcome} → Way m c s k o → fits s (length m) (length c) ≡ false
+    → o.medium ≡ m
 unfit (refused k r w) f = refl
 unfit (begins clock i p w) f = refl
 unfit (writes n key i v p w) f = no (sym f ∙ p.0)
@@ -51,7 +54,8 @@ unfit_range : (s : State) (m c : ℕ) → in_range s.blocks s.pages ≡ false �
 unfolding fits
 unfit_range s m c e = simp e
 
-no_page : {m c : List ℕ} {s : State} {q : ℕ} {k : Call} {o : Outcome} → Way m c s k o → k ≡ store_page q → ltb q s.pages ≡ false → o.medium ≡ m
+no_page : {m c : List ℕ} {s : State} {q : ℕ} {k : Call} {o : Outcome} → Way m c s k o → k ≡ store_page q
+    → ltb q s.pages ≡ false → o.medium ≡ m
 no_page (refused k r w) e f = refl
 no_page (begins clock i p w) e f = refl
 no_page (writes n key i v p w) e f = cc
@@ -61,7 +65,8 @@ no_page (commits n clock i p w z) e f = cc
 no_page (ends n clock i p w z) e f = refl
 no_page (aborts n i p w) e f = refl
 no_page (logs p) e f = cc
-no_page {s = s} {q = q} (pages n p) e f = let z : n ≡ q = cc in no (sym f ∙ ap (λ (j : ℕ). ltb j s.pages) (sym z) ∙ p.1.0)
+no_page {s = s} {q = q} (pages n p) e f =
+    let z : n ≡ q = cc in no (sym f ∙ ap (λ (j : ℕ). ltb j s.pages) (sym z) ∙ p.1.0)
 no_page (checks h p w) e f = cc
 
 same_phase : (h : Phase) → phase_block h ≡ stored_in h

@@ -1,5 +1,5 @@
--- A line changes no block but the one that `block_of` names: a call and a handover by their own laws, a byte put into the
--- medium lies in its block, and the other lines leave the medium as it is.
+-- A line changes no block but the one that `block_of` names: a call and a handover by their own laws, a byte put into
+-- the medium lies in its block, and the other lines leave the medium as it is.
 use mathlib.Core.Path.{◌≡◌, refl, sym}
 use mathlib.Core.Bool.{false}
 use mathlib.Core.List.{List, [], ◌∷◌}
@@ -19,14 +19,18 @@ use Rattle.fields.proofs.Choose.{bool_case, no}
 use Rattle.handover.specs.declared.Transfer.{Transfer}
 use Rattle.script.specs.declared.call.Asked.{Asked}
 use Rattle.script.specs.declared.call.Call.{Call}
-use Rattle.script.specs.declared.call.Call.TheVariants.{Format, Open, OpenSized, Cut, Begin, Write, Erase, Read, Commit, Abort, Hand, AsOf, Changes, StoreLog, StorePage, Checkpoint, Block, Page, Poke, Other}
+use Rattle.script.specs.declared.call.Call.TheVariants.{Format, Open, OpenSized, Cut, Begin, Write, Erase, Read, Commit}
+use Rattle.script.specs.declared.call.Call.TheVariants.{Abort, Hand, AsOf, Changes, StoreLog, StorePage, Checkpoint}
+use Rattle.script.specs.declared.call.Call.TheVariants.{Block, Page, Poke, Other}
 use Rattle.rooms.specs.declared.parts.Standing.{Standing}
 use Rattle.rooms.specs.Parts.{room_of}
-use Rattle.rooms.specs.Room.{Room, gone, shut, ready, medium_in, blocks_in, pages_in, opened, opening, cut, poked, outcome_of, called as printed, calling, handed, handing, turn_by, turn_of}
+use Rattle.rooms.specs.Room.{Room, gone, shut, ready, medium_in, blocks_in, pages_in, opened, opening, cut, poked}
+use Rattle.rooms.specs.Room.{outcome_of, called as printed, calling, handed, handing, turn_by, turn_of}
 use Rattle.disk.specs.Block.{log_block, block_of}
 use Rattle.disk.specs.Stored.{is_format}
 use Rattle.disk.proofs.AlikeLaws.{Alike, alike_same, alike_is, alike_splice}
-use Rattle.disk.proofs.CallLaws.{alike_put, alike_write, alike_erase, alike_commit, alike_hand, alike_log, alike_page, alike_checkpoint}
+use Rattle.disk.proofs.CallLaws.{alike_put, alike_write, alike_erase, alike_commit, alike_hand, alike_log, alike_page}
+use Rattle.disk.proofs.CallLaws.{alike_checkpoint}
 
 -- an opening leaves the medium
 open_left : (letter : ℕ) (r : Room) (given : List ℕ) → medium_in (opening letter r given).room ≡ medium_in r
@@ -81,7 +85,8 @@ pub data Holds : Room → State → Type 0 where
   is_shut : {l d : ℕ} {m : List ℕ} {s : State} → Holds (shut l d m) s
   is_ready : {l d : ℕ} {m c : List ℕ} {s : State} → Holds (ready l d m c s) s
 
-calling_left : (k : Call) (v : List ℕ) {r : Room} {s : State} → Holds r s → Alike (medium_in r) (block_of s k) (medium_in (calling k v r).room)
+calling_left : (k : Call) (v : List ℕ) {r : Room} {s : State} → Holds r s
+    → Alike (medium_in r) (block_of s k) (medium_in (calling k v r).room)
 unfolding calling printed
 calling_left k v {s = s} is_gone = alike_same [] (block_of s k)
 calling_left k v {s = s} (is_shut {m = m}) = alike_same m (block_of s k)
@@ -89,7 +94,8 @@ calling_left k v {s = s} (is_ready {m = m} {c = c}) = call_left m c s v k
 
 -- ---- a handover
 
-handing_left : (x : Transfer) {r : Room} {s : State} → Holds r s → Alike (medium_in r) (log_block s) (medium_in (handing x r).room)
+handing_left : (x : Transfer) {r : Room} {s : State} → Holds r s
+    → Alike (medium_in r) (log_block s) (medium_in (handing x r).room)
 unfolding handing handed
 handing_left x {s = s} is_gone = alike_same [] (log_block s)
 handing_left x {s = s} (is_shut {m = m}) = alike_same m (log_block s)
@@ -97,7 +103,8 @@ handing_left x {s = s} (is_ready {m = m} {c = c}) = alike_hand m c s x
 
 -- ---- a line
 
-line_left : (k : Call) (v : List ℕ) {r : Room} {s : State} → Holds r s → is_format k ≡ false → Alike (medium_in r) (block_of s k) (medium_in (turn_by k v r).room)
+line_left : (k : Call) (v : List ℕ) {r : Room} {s : State} → Holds r s → is_format k ≡ false
+    → Alike (medium_in r) (block_of s k) (medium_in (turn_by k v r).room)
 unfolding turn_by is_format block_of
 line_left (Format l d) v h e = no (sym e)
 line_left (Open byte) v {r} h e = alike_is (open_left 79 r _)
@@ -109,7 +116,8 @@ line_left (Erase number key) v h e = calling_left (Erase number key) v h
 line_left (Read number key) v h e = calling_left (Read number key) v h
 line_left (Commit number clock) v h e = calling_left (Commit number clock) v h
 line_left (Abort number) v h e = calling_left (Abort number) v h
-line_left (Hand flight from to began ended) v h e = handing_left (record { flight = flight; from = from; to = to; began = began; ended = ended }) h
+line_left (Hand flight from to began ended) v h e =
+    handing_left (record { flight = flight; from = from; to = to; began = began; ended = ended }) h
 line_left (AsOf key time) v h e = calling_left (AsOf key time) v h
 line_left (Changes key t1 t2 bytes) v h e = calling_left (Changes key t1 t2 bytes) v h
 line_left StoreLog v h e = calling_left StoreLog v h
@@ -123,7 +131,9 @@ line_left Other v {r} h e = alike_same (medium_in r) _
 -- the room that stands so holds this state
 room_holds : (t : Standing) (m c : List ℕ) (s : State) → Holds (room_of t m c s) s
 unfolding room_of
-room_holds t m c s = bool_case (ltb t.stage 2) (λ e. simp e is_gone) (λ e. bool_case (ltb t.stage 3) (λ f. simp (e, f) is_shut) (λ f. simp (e, f) is_ready))
+room_holds t m c s =
+    bool_case (ltb t.stage 2) (λ e. simp e is_gone)
+    (λ e. bool_case (ltb t.stage 3) (λ f. simp (e, f) is_shut) (λ f. simp (e, f) is_ready))
 
 pub alike_line : (a : Asked) (t : Standing) (m c : List ℕ) (s : State) → is_format a.call ≡ false
     → Alike (medium_in (room_of t m c s)) (block_of s a.call) (medium_in (turn_of a (room_of t m c s)).room)

@@ -7,7 +7,9 @@ use Rattle.store.specs.declared.Phase.TheVariants.{Idle, FirstStored, SecondStor
 use Rattle.store.specs.declared.State.{State}
 use Rattle.store.specs.State.{in_range}
 use Rattle.script.specs.declared.call.Call.{Call}
-use Rattle.script.specs.declared.call.Call.TheVariants.{Format, Open, OpenSized, Cut, Begin, Write, Erase, Read, Commit, Abort, Hand, AsOf, Changes, StoreLog, StorePage, Checkpoint, Block, Page, Poke, Other}
+use Rattle.script.specs.declared.call.Call.TheVariants.{Format, Open, OpenSized, Cut, Begin, Write, Erase, Read, Commit}
+use Rattle.script.specs.declared.call.Call.TheVariants.{Abort, Hand, AsOf, Changes, StoreLog, StorePage, Checkpoint}
+use Rattle.script.specs.declared.call.Call.TheVariants.{Block, Page, Poke, Other}
 
 -- 01: "Sequence s is at block 3 + (s mod L)": the tail's; with sizes out of range a call is refused
 unfoldable pub log_block : State → ℕ

@@ -71,7 +71,8 @@ pub fn of(call: Call, words: &[u64; 448], tail: &[u8; 512]) -> u64
     }
 }
 
-// Where a block of a medium of n bytes begins. A block that it does not have is never changed, and block 0 stands for it.
+// Where a block of a medium of n bytes begins. A block that it does not have is never changed, and block 0 stands for
+// it.
 fn start(block: u64, n: usize) -> usize
     requires { n ≤ 50688 }
     ensures value { result ≡ start_of block n }

@@ -24,8 +24,8 @@ pub struct Played {
     pub len: usize,
 }
 
-// Plays a line as a room does, and says which bytes of the medium it changed. A formatting makes them all anew, and of it
-// nothing is said.
+// Plays a line as a room does, and says which bytes of the medium it changed. A formatting makes them all anew, and of
+// it nothing is said.
 pub fn play(
     asked: Asked,
     p: Plan,
@@ -45,12 +45,20 @@ pub fn play(
     requires p_value { p ≡ plan_of asked.call }
     requires stage_bound { p.stage ≤ stage_of t }
     ensures n_bound { result.n ≤ n + 94000 }
-    ensures out_after { take result.n out.new ≡ take n out.old ++ (turn_of asked (room_of t medium.old cache.old (state_of words.old tail.old))).text }
-    ensures tail_after { room_of result.standing medium.new cache.new (state_of words.new tail.new) ≡ (turn_of asked (room_of t medium.old cache.old (state_of words.old tail.old))).room }
+    ensures out_after { take result.n out.new ≡ take n out.old
+        ++ (turn_of asked (room_of t medium.old cache.old (state_of words.old tail.old))).text }
+    ensures tail_after { room_of result.standing medium.new cache.new (state_of words.new tail.new)
+        ≡ (turn_of asked (room_of t medium.old cache.old (state_of words.old tail.old))).room }
     ensures len_bound { result.at + result.len ≤ 50688 }
-    ensures whole { is_format asked.call ≡ false → Whole (medium_in (room_of t medium.old cache.old (state_of words.old tail.old))) result.at result.len }
-    ensures changed_value { is_format asked.call ≡ false → result.changed ≡ not (eq_list (medium_in (room_of t medium.old cache.old (state_of words.old tail.old))) (medium_in (room_of result.standing medium.new cache.new (state_of words.new tail.new)))) }
-    ensures len_after { is_format asked.call ≡ false → stored result.changed (medium_in (room_of t medium.old cache.old (state_of words.old tail.old))) result.at (part medium.new result.at result.len) ≡ medium_in (room_of result.standing medium.new cache.new (state_of words.new tail.new)) }
+    ensures whole { is_format asked.call ≡ false
+        → Whole (medium_in (room_of t medium.old cache.old (state_of words.old tail.old))) result.at result.len }
+    ensures changed_value { is_format asked.call ≡ false → result.changed
+        ≡ not (eq_list (medium_in (room_of t medium.old cache.old (state_of words.old tail.old)))
+        (medium_in (room_of result.standing medium.new cache.new (state_of words.new tail.new)))) }
+    ensures len_after { is_format asked.call ≡ false
+        → stored result.changed (medium_in (room_of t medium.old cache.old (state_of words.old tail.old))) result.at
+        (part medium.new result.at result.len)
+        ≡ medium_in (room_of result.standing medium.new cache.new (state_of words.new tail.new)) }
 {
     let call = asked.call;
     let e = block::extent_of(block::of(call, words, tail), parts::medium_part(t));

@@ -1,9 +1,9 @@
--- A line that looks leaves the room as it is, for the outcome of its call is the room's own state, medium and cache; and a
--- list that is answered lies within its buffer.
+-- A line that looks leaves the room as it is, for the outcome of its call is the room's own state, medium and cache;
+-- and a list that is answered lies within its buffer.
 use mathlib.Core.Path.{◌≡◌, refl, sym, ap, ◌∙◌}
 use mathlib.Core.Bool.{true, false}
-use mathlib.Core.List.{List, [], ◌∷◌, ◌++◌, append-nil, append_assoc}
-use Prim.Native.Nat.{ℕ, ◌-◌, ◌*◌, ◌≤◌}
+use mathlib.Core.List.{List, ◌++◌, append-nil, append_assoc}
+use Prim.Native.Nat.{ℕ, ◌*◌, ◌≤◌}
 use native.Mathlib.Omega.{arith}
 use lib.ListN.{length, take, replicate}
 use lib.Seq.{length-take-le}
@@ -20,7 +20,9 @@ use Rattle.store.specs.State.{fits}
 use Rattle.store.specs.CurrentRead.{reads}
 use Rattle.store.specs.Changes.{change_lines, changes_if, changes_of}
 use Rattle.script.specs.declared.call.Call.{Call}
-use Rattle.script.specs.declared.call.Call.TheVariants.{Format, Open, OpenSized, Cut, Begin, Write, Erase, Read, Commit, Abort, Hand, AsOf, Changes, StoreLog, StorePage, Checkpoint, Block, Page, Poke, Other}
+use Rattle.script.specs.declared.call.Call.TheVariants.{Format, Open, OpenSized, Cut, Begin, Write, Erase, Read, Commit}
+use Rattle.script.specs.declared.call.Call.TheVariants.{Abort, Hand, AsOf, Changes, StoreLog, StorePage, Checkpoint}
+use Rattle.script.specs.declared.call.Call.TheVariants.{Block, Page, Poke, Other}
 use Rattle.fields.proofs.Choose.{bool_case, no}
 use Rattle.rooms.specs.declared.parts.Standing.{Standing}
 use Rattle.answers.specs.Text.{answer_text, list_text}
@@ -29,19 +31,27 @@ use Rattle.rooms.specs.Parts.{stage_of, medium_part, cache_part, room_of, Prints
 use Rattle.rooms.proofs.RoomLaws.{stage_3, room_ready}
 
 -- a read, by a letter that is not that of a list
-pub read_prints : (x y v m c : List ℕ) (s : State) (a : Answer) (o : Outcome) (l d letter : ℕ) → eqb letter 76 ≡ false → y ≡ x ++ answer_text letter a v → reads a v s m c ≡ o
+pub read_prints : (x y v m c : List ℕ) (s : State) (a : Answer) (o : Outcome) (l d letter : ℕ) → eqb letter 76 ≡ false
+    → y ≡ x ++ answer_text letter a v → reads a v s m c ≡ o
     → Prints x y (ready l d m c s) (called letter l d o)
 unfolding called
 read_prints x y v m c s a o l d letter z e f = (simp (← f, z, append-nil) e, simp (← f))
 
 -- a list
-pub list_prints : (x z y m c b : List ℕ) (s : State) (a : Answer) (o : Outcome) (l d : ℕ) → z ≡ x ++ answer_text 76 a (zeros 16) → y ≡ z ++ list_text a b
-    → record { answer = a; value = zeros 16; state = s; medium = m; cache = c; buffer = b } ≡ o → Prints x y (ready l d m c s) (called 76 l d o)
+pub list_prints : (x z y m c b : List ℕ) (s : State) (a : Answer) (o : Outcome) (l d : ℕ)
+    → z ≡ x ++ answer_text 76 a (zeros 16) → y ≡ z ++ list_text a b
+    → record { answer = a; value = zeros 16; state = s; medium = m; cache = c; buffer = b } ≡ o
+    → Prints x y (ready l d m c s) (called 76 l d o)
 unfolding called
-list_prints x z y m c b s a o l d e g f = (simp (← f) (g ∙ ap (λ (w : List ℕ). w ++ list_text a b) e ∙ append_assoc x (answer_text 76 a (zeros 16)) (list_text a b)), simp (← f))
+list_prints x z y m c b s a o l d e g f = (
+  simp (← f) (g ∙ ap (λ (w : List ℕ). w ++ list_text a b) e
+      ∙ append_assoc x (answer_text 76 a (zeros 16)) (list_text a b)),
+  simp (← f),
+)
 
 -- question 14: a list that is answered lies within its buffer
-pub list_fits : (s : State) (m c b : List ℕ) (key t1 t2 k : ℕ) (a : Answer) → a ≡ (changes_of s m c b key t1 t2).answer → a ≡ Listed k → 32 * k ≤ length b
+pub list_fits : (s : State) (m c b : List ℕ) (key t1 t2 k : ℕ) (a : Answer) → a ≡ (changes_of s m c b key t1 t2).answer
+    → a ≡ Listed k → 32 * k ≤ length b
 unfolding changes_of changes_if
 list_fits s m c b key t1 t2 k a e f =
     let g = sym f ∙ e in
@@ -62,8 +72,10 @@ list_fits s m c b key t1 t2 k a e f =
     refused h = let z : ◌≡◌ {A = ℕ} 0 1 = cc in absurd (omega arith)
 
 -- a call of an opened store
-pub look_call : (t : Standing) (m c : List ℕ) (s : State) (k : Call) (v x y : List ℕ) (pm pc : ℕ) → 3 ≤ stage_of t → pm ≡ medium_part t → pc ≡ cache_part t
-    → Prints x y (ready t.blocks t.pages (take pm m) (take pc c) s) (called (plan_of k).letter t.blocks t.pages (outcome_of k v s (take pm m) (take pc c)))
+pub look_call : (t : Standing) (m c : List ℕ) (s : State) (k : Call) (v x y : List ℕ) (pm pc : ℕ) → 3 ≤ stage_of t
+    → pm ≡ medium_part t → pc ≡ cache_part t
+    → Prints x y (ready t.blocks t.pages (take pm m) (take pc c) s)
+    (called (plan_of k).letter t.blocks t.pages (outcome_of k v s (take pm m) (take pc c)))
     → Prints x y (room_of t m c s) (calling k v (room_of t m c s))
 unfolding calling
 look_call t m c s k v x y pm pc h em ec p = simp (room_ready t m c s (stage_3 t h)) (rw (em, ec) at p)

@@ -2,7 +2,7 @@
 -- below, those that change the room are `F`, `O`, `o`, `X` and `Z`.
 use mathlib.Core.Path.{◌≡◌, refl, sym, ap, ◌∙◌}
 use mathlib.Core.Bool.{false}
-use mathlib.Core.List.{List, [], ◌∷◌}
+use mathlib.Core.List.{List}
 use Prim.Native.Nat.{ℕ, ◌≤◌}
 use native.Mathlib.Omega.{arith}
 use lib.ListN.{replicate}
@@ -12,11 +12,14 @@ use Rattle.store.specs.declared.Answer.TheVariants.{Done}
 use Rattle.store.specs.declared.State.{State}
 use Rattle.store.specs.Answer.{leaves}
 use Rattle.script.specs.declared.call.Call.{Call}
-use Rattle.script.specs.declared.call.Call.TheVariants.{Format, Open, OpenSized, Cut, Begin, Write, Erase, Read, Commit, Abort, Hand, AsOf, Changes, StoreLog, StorePage, Checkpoint, Block, Page, Poke, Other}
+use Rattle.script.specs.declared.call.Call.TheVariants.{Format, Open, OpenSized, Cut, Begin, Write, Erase, Read, Commit}
+use Rattle.script.specs.declared.call.Call.TheVariants.{Abort, Hand, AsOf, Changes, StoreLog, StorePage, Checkpoint}
+use Rattle.script.specs.declared.call.Call.TheVariants.{Block, Page, Poke, Other}
 use Rattle.fields.proofs.Choose.{bool_case, no}
 use Rattle.rooms.specs.declared.parts.Standing.{Standing}
 use Rattle.rooms.specs.declared.plan.Plan.{Plan}
-use Rattle.rooms.specs.Room.{Room, Turn, within_buffer, plan_of, pages_in, right_length, opening, outcome_of, calling, turn_by}
+use Rattle.rooms.specs.Room.{Room, Turn, within_buffer, plan_of, pages_in, right_length, opening, outcome_of, calling}
+use Rattle.rooms.specs.Room.{turn_by}
 use Rattle.rooms.specs.Parts.{stage_of, room_of}
 use Rattle.rooms.proofs.RoomLaws.{stage_2, pages_in_law}
 
@@ -25,14 +28,16 @@ pub plan_stage : (k j : Call) (p : Plan) (n : ℕ) → p ≡ plan_of k → k ≡
 plan_stage k j p n e f h = rw (e, f) at h
 
 -- a line that asks for more than the buffer is played in no stage
-within_case : {P : Type 0} (bytes stage : ℕ) → (bytes ≤ 40000 → within_buffer bytes stage ≡ stage → P) → (within_buffer bytes stage ≡ 4 → P) → P
+within_case : {P : Type 0} (bytes stage : ℕ) → (bytes ≤ 40000 → within_buffer bytes stage ≡ stage → P)
+    → (within_buffer bytes stage ≡ 4 → P) → P
 unfolding within_buffer
 within_case bytes stage f g = bool_case (leb bytes 40000) (λ e. f (leb-true _ _ e) (simp e)) (λ e. g (simp e))
 
 pub within_fits : (bytes stage n : ℕ) → within_buffer bytes stage ≤ n → n ≤ 3 → (bytes ≤ 40000) × (stage ≤ n)
 within_fits bytes stage n h g = within_case bytes stage (λ a e. (a, rw e at h)) (λ e. absurd (omega arith))
 
-pub turn_calls : (k : Call) (v : List ℕ) (r : Room) → (plan_of k).stage ≡ 3 → eqb (plan_of k).letter 72 ≡ false → calling k v r ≡ turn_by k v r
+pub turn_calls : (k : Call) (v : List ℕ) (r : Room) → (plan_of k).stage ≡ 3 → eqb (plan_of k).letter 72 ≡ false
+    → calling k v r ≡ turn_by k v r
 unfolding plan_of turn_by
 turn_calls (Format l d) v r e h = absurd (omega arith)
 turn_calls (Open byte) v r e h = absurd (omega arith)
@@ -109,7 +114,9 @@ no_rest (Poke offset byte) n x y z u w e f h g = w offset byte refl
 no_rest Other n x y z u w e f h g = omega arith
 
 -- a cache of the right length
-pub open_right : (t : Standing) (m c : List ℕ) (s : State) (n byte : ℕ) (x : Turn) → 2 ≤ stage_of t → n ≡ right_length t.pages → x ≡ opening 79 (room_of t m c s) (replicate n byte)
+pub open_right : (t : Standing) (m c : List ℕ) (s : State) (n byte : ℕ) (x : Turn) → 2 ≤ stage_of t
+    → n ≡ right_length t.pages → x ≡ opening 79 (room_of t m c s) (replicate n byte)
     → x ≡ opening 79 (room_of t m c s) (replicate (right_length (pages_in (room_of t m c s))) byte)
 open_right t m c s n byte x h e f =
-    f ∙ ap (λ (j : ℕ). opening 79 (room_of t m c s) (replicate j byte)) (e ∙ ap right_length (sym (pages_in_law t m c s (stage_2 t h))))
+    f ∙ ap (λ (j : ℕ). opening 79 (room_of t m c s) (replicate j byte))
+    (e ∙ ap right_length (sym (pages_in_law t m c s (stage_2 t h))))

@@ -1,5 +1,5 @@
--- A line taken at once is its bytes taken one by one, so each turn of the loop over a read's lines goes on from where the
--- bytes before it led.
+-- A line taken at once is its bytes taken one by one, so each turn of the loop over a read's lines goes on from where
+-- the bytes before it led.
 use mathlib.Core.Path.{◌≡◌, refl, sym, ap, ◌∙◌}
 use mathlib.Core.Bool.{true, false}
 use mathlib.Core.List.{List, [], ◌∷◌, ◌++◌}
@@ -31,19 +31,23 @@ unfolding take_of
 no_end l i = refl
 
 -- a byte of a line
-take_ends : (l : Line) (b : ℕ) (bs : List ℕ) (i : ℕ) → eqb b 10 ≡ true → take_of l (b ∷ bs) i ≡ record { line = l; next = i + 1; ended = true }
+take_ends : (l : Line) (b : ℕ) (bs : List ℕ) (i : ℕ) → eqb b 10 ≡ true
+    → take_of l (b ∷ bs) i ≡ record { line = l; next = i + 1; ended = true }
 unfolding take_of
 take_ends l b bs i f = simp f
 
-take_goes : (l : Line) (b : ℕ) (bs : List ℕ) (i : ℕ) → eqb b 10 ≡ false → take_of l (b ∷ bs) i ≡ take_of (grown l b) bs (i + 1)
+take_goes : (l : Line) (b : ℕ) (bs : List ℕ) (i : ℕ) → eqb b 10 ≡ false
+    → take_of l (b ∷ bs) i ≡ take_of (grown l b) bs (i + 1)
 unfolding take_of
 take_goes l b bs i f = simp f
 
-byte_ends : (l : Line) (b : ℕ) (r : Room) (o : List ℕ) → eqb b 10 ≡ true → play_of does (stand l r true o) (b ∷ []) ≡ stepped (does r l) r o
+byte_ends : (l : Line) (b : ℕ) (r : Room) (o : List ℕ) → eqb b 10 ≡ true
+    → play_of does (stand l r true o) (b ∷ []) ≡ stepped (does r l) r o
 unfolding play_of turned
 byte_ends l b r o f = simp f
 
-byte_goes : (l : Line) (b : ℕ) (bs : List ℕ) (r : Room) (o : List ℕ) → eqb b 10 ≡ false → play_of does (stand l r true o) (b ∷ bs) ≡ play_of does (stand (grown l b) r true o) bs
+byte_goes : (l : Line) (b : ℕ) (bs : List ℕ) (r : Room) (o : List ℕ) → eqb b 10 ≡ false
+    → play_of does (stand l r true o) (b ∷ bs) ≡ play_of does (stand (grown l b) r true o) bs
 unfolding play_of turned
 byte_goes l b bs r o f = simp f
 
@@ -54,10 +58,12 @@ piece l [] i r o e = no (sym (no_end l i) ∙ e)
 piece l (b ∷ bs) i r o e =
     let k : i + 1 - i ≡ 1 = omega arith in
     bool_case (eqb b 10)
-    (λ f. rw (take_ends l b bs i f) (ap (λ (j : ℕ). play_of does (stand l r true o) (take j (b ∷ bs))) k ∙ byte_ends l b r o f))
+    (λ f. rw (take_ends l b bs i f) (ap (λ (j : ℕ). play_of does (stand l r true o) (take j (b ∷ bs))) k
+    ∙ byte_ends l b r o f))
     (λ f.
     let h = take_next (grown l b) bs (i + 1) in
-    let n : (take_of (grown l b) bs (i + 1)).next - i ≡ suc ((take_of (grown l b) bs (i + 1)).next - (i + 1)) = omega arith in
+    let n : (take_of (grown l b) bs (i + 1)).next - i ≡ suc ((take_of (grown l b) bs (i + 1)).next - (i + 1)) =
+    omega arith in
     rw (take_goes l b bs i f)
     (ap (λ (j : ℕ). play_of does (stand l r true o) (take j (b ∷ bs))) n
     ∙ byte_goes l b (take ((take_of (grown l b) bs (i + 1)).next - (i + 1)) bs) r o f
@@ -69,10 +75,12 @@ take_parts bs (suc i) zero h = absurd (omega arith)
 take_parts [] (suc i) (suc n) h = sym (take_all (suc n - suc i) [] (omega arith))
 take_parts (b ∷ bs) (suc i) (suc n) h =
     let k : suc n - suc i ≡ n - i = omega arith in
-    ap (λ (z : List ℕ). b ∷ z) (take_parts bs i n (omega arith) ∙ ap (λ (j : ℕ). take i bs ++ take j (drop i bs)) (sym k))
+    ap (λ (z : List ℕ). b ∷ z) (take_parts bs i n (omega arith)
+    ∙ ap (λ (j : ℕ). take i bs ++ take j (drop i bs)) (sym k))
 
 -- u is where the run began; the bytes before i led to the line l, the room r and the output o
-module _ (u : Stand Room) (bytes : List ℕ) (l : Line) (r : Room) (o : List ℕ) (i : ℕ) (k : Taken) (h : i < length bytes) (e : k ≡ take_of l (drop i bytes) i) (here : stand l r true o ≡ play_of does u (take i bytes)) where
+module _ (u : Stand Room) (bytes : List ℕ) (l : Line) (r : Room) (o : List ℕ) (i : ℕ) (k : Taken) (h : i < length bytes)
+    (e : k ≡ take_of l (drop i bytes) i) (here : stand l r true o ≡ play_of does u (take i bytes)) where
   on_piece : play_of does u (take k.next bytes) ≡ play_of does (stand l r true o) (take (k.next - i) (drop i bytes))
   on_piece =
       let w = step_on bytes l i k h e in
@@ -87,7 +95,8 @@ module _ (u : Stand Room) (bytes : List ℕ) (l : Line) (r : Room) (o : List ℕ
       (ap (play_of does u) (take_parts bytes i (length bytes) (omega arith))
       ∙ play_append does u (take i bytes) (take (length bytes - i) (drop i bytes))
       ∙ ap (λ (t : Stand Room). play_of does t (take (length bytes - i) (drop i bytes))) (sym here)
-      ∙ ap (play_of does (stand l r true o)) (take_all (length bytes - i) (drop i bytes) (simp length-drop (omega arith)))
+      ∙ ap (play_of does (stand l r true o))
+      (take_all (length bytes - i) (drop i bytes) (simp length-drop (omega arith)))
       ∙ step_stop bytes l i k h e does r o f)
 
   ends : k.ended ≡ true → play_of does u (take k.next bytes) ≡ stepped (does r k.line) r o
@@ -104,7 +113,8 @@ module _ (u : Stand Room) (bytes : List ℕ) (l : Line) (r : Room) (o : List ℕ
     play_over p = sym (ends f ∙ simp (← ea, p, ← en))
 
     -- a line that is played
-    pub play_goes : (t : Room) (x : List ℕ) → plays a.call r ≡ true → x ≡ o ++ (turn_of a r).text → t ≡ (turn_of a r).room → stand n t true x ≡ play_of does u (take k.next bytes)
+    pub play_goes : (t : Room) (x : List ℕ) → plays a.call r ≡ true → x ≡ o ++ (turn_of a r).text
+        → t ≡ (turn_of a r).room → stand n t true x ≡ play_of does u (take k.next bytes)
     unfolding does step_of
     play_goes t x p q z = sym (ends f ∙ simp (← ea, p, ← q, ← z, ← en))
 
@@ -119,5 +129,6 @@ module _ (a : Asked) (p : Plan) (t : Standing) (m c : List ℕ) (s : State) (e :
   is_played h = simp (stage_in_law t m c s, ← e, le-leb _ _ h)
 
 -- the newline that ends the last line
-pub last_byte : (t u : Stand Room) (k : ℕ) → (0 < k) × (k ≤ 1) → u ≡ play_of does t (take k (10 ∷ [])) → u ≡ play_of does t (10 ∷ [])
+pub last_byte : (t u : Stand Room) (k : ℕ) → (0 < k) × (k ≤ 1) → u ≡ play_of does t (take k (10 ∷ []))
+    → u ≡ play_of does t (10 ∷ [])
 last_byte t u k h e = let z : k ≡ 1 = omega arith in rw z at e

@@ -2,7 +2,7 @@
 -- bytes of the buffers.
 use mathlib.Core.Path.{◌≡◌, sym, ap, ◌∙◌}
 use mathlib.Core.List.{List, ◌++◌}
-use Prim.Native.Nat.{ℕ, ◌+◌, ◌-◌, ◌≤◌, ◌<◌, min}
+use Prim.Native.Nat.{ℕ, ◌≤◌, ◌<◌, min}
 use native.Mathlib.Omega.{arith}
 use lib.ListN.{length, take, drop}
 use lib.Seq.{length-take-le, take_at}
@@ -15,7 +15,8 @@ use Rattle.rooms.specs.Room.{gone, shut, ready, blocks_in, pages_in, medium_in, 
 use Rattle.rooms.specs.Parts.{stage_of, medium_part, cache_part, room_of}
 
 -- the stages
-pub stage_case : {P : Type 0} (t : Standing) → (t.stage < 2 → P) → (2 ≤ t.stage → t.stage < 3 → P) → (3 ≤ t.stage → P) → P
+pub stage_case : {P : Type 0} (t : Standing) → (t.stage < 2 → P) → (2 ≤ t.stage → t.stage < 3 → P)
+    → (3 ≤ t.stage → P) → P
 stage_case t a b d =
     bool_case (ltb t.stage 2) (λ e. a (ltb-true _ _ e))
     (λ e. bool_case (ltb t.stage 3) (λ f. b (ltb-false _ _ e) (ltb-true _ _ f)) (λ f. d (ltb-false _ _ f)))
@@ -46,7 +47,8 @@ module _ (t : Standing) (m c : List ℕ) (s : State) where
   unfolding room_of medium_part
   room_shut h g = simp (le-ltb _ _ h, lt-ltb _ _ g)
 
-  pub room_ready : 3 ≤ t.stage → room_of t m c s ≡ ready t.blocks t.pages (take (medium_part t) m) (take (cache_part t) c) s
+  pub room_ready : 3 ≤ t.stage → room_of t m c s ≡ ready t.blocks t.pages (take (medium_part t) m)
+      (take (cache_part t) c) s
   unfolding room_of medium_part cache_part
   room_ready h = let k : 2 ≤ t.stage = omega arith in simp (le-ltb _ _ k, le-ltb _ _ h)
 

@@ -14,8 +14,8 @@ use Rattle.rooms.specs.Room.{Room, gone, shut, ready, Turn, right_length}
 unfoldable pub stage_of : Standing → ℕ
 stage_of t = cond (ltb t.stage 2) 1 (cond (ltb t.stage 3) 2 3)
 
--- 01: "The medium is 512 × (3 + L + D) bytes": how many bytes of the buffer are the medium; a buffer of the longest medium
--- has no more
+-- 01: "The medium is 512 × (3 + L + D) bytes": how many bytes of the buffer are the medium; a buffer of the longest
+-- medium has no more
 unfoldable pub medium_part : Standing → ℕ
 medium_part t = cond (ltb t.stage 2) 0 (min t.bytes 50688)
 

@@ -1,5 +1,5 @@
 -- What a line of `replay` does to the room, and what it prints.
-use Rattle.std.specs.Prelude.{ℕ, ◌+◌, Bool, true, false, cond, List, [], ◌++◌, set, replicate, eqb, leb}
+use Rattle.std.specs.Prelude.{ℕ, Bool, true, false, cond, List, [], ◌++◌, set, replicate, eqb, leb}
 use Rattle.fields.specs.Block.{zeros, medium_length, cache_length}
 use Rattle.store.specs.declared.Answer.TheVariants.{Done}
 use Rattle.store.specs.declared.State.{State}
@@ -21,7 +21,9 @@ use Rattle.store.specs.Checkpoint.{checkpoint_of}
 use Rattle.handover.specs.declared.Transfer.{Transfer}
 use Rattle.handover.specs.Hand.{HandOutcome, hand_of}
 use Rattle.script.specs.declared.call.Call.{Call}
-use Rattle.script.specs.declared.call.Call.TheVariants.{Format, Open, OpenSized, Cut, Begin, Write, Erase, Read, Commit, Abort, Hand, AsOf, Changes, StoreLog, StorePage, Checkpoint, Block, Page, Poke, Other}
+use Rattle.script.specs.declared.call.Call.TheVariants.{Format, Open, OpenSized, Cut, Begin, Write, Erase, Read, Commit}
+use Rattle.script.specs.declared.call.Call.TheVariants.{Abort, Hand, AsOf, Changes, StoreLog, StorePage, Checkpoint}
+use Rattle.script.specs.declared.call.Call.TheVariants.{Block, Page, Poke, Other}
 use Rattle.script.specs.declared.call.Asked.{Asked}
 use Rattle.rooms.specs.declared.plan.Plan.{Plan}
 use Rattle.answers.specs.Text.{answer_text, handed_text, list_text, shown_text}
@@ -57,8 +59,8 @@ cache_in gone = []
 cache_in (shut l d m) = []
 cache_in (ready l d m c s) = c
 
--- replay: "any other line but `F`", "the only calls are `O`, `o`, `X`, `F` (and `M`, `V`, `Z`)": 1 without a medium, 2 with
--- one, 3 with one that is opened
+-- replay: "any other line but `F`", "the only calls are `O`, `o`, `X`, `F` (and `M`, `V`, `Z`)": 1 without a medium, 2
+-- with one, 3 with one that is opened
 abbrev pub stage_in : Room → ℕ
 stage_in gone = 1
 stage_in (shut l d m) = 2
@@ -173,7 +175,8 @@ called letter l d o = record {
   text = answer_text letter o.answer o.value ++ cond (eqb letter 76) (list_text o.answer o.buffer) [];
 }
 
--- replay: "any other line ends the run": the same on a room; one that is not opened stays, for it does not play the line
+-- replay: "any other line ends the run": the same on a room; one that is not opened stays, for it does not play the
+-- line
 unfoldable pub calling : Call → List ℕ → Room → Turn
 calling call v gone = record { room = gone; text = [] }
 calling call v (shut l d m) = record { room = shut l d m; text = [] }
@@ -183,8 +186,8 @@ calling call v (ready l d m c s) = called (plan_of call).letter l d (outcome_of 
 unfoldable pub handed : ℕ → ℕ → HandOutcome → Turn
 handed l d o = record { room = ready l d o.medium o.cache o.state; text = handed_text o.answer }
 
--- replay, `H`: "hand the flight over from one sector to the other": on a room; one that is not opened stays, for it does
--- not play the line
+-- replay, `H`: "hand the flight over from one sector to the other": on a room; one that is not opened stays, for it
+-- does not play the line
 unfoldable pub handing : Transfer → Room → Turn
 handing h gone = record { room = gone; text = [] }
 handing h (shut l d m) = record { room = shut l d m; text = [] }
@@ -210,7 +213,8 @@ turn_by (Erase number key) v r = calling (Erase number key) v r
 turn_by (Read number key) v r = calling (Read number key) v r
 turn_by (Commit number clock) v r = calling (Commit number clock) v r
 turn_by (Abort number) v r = calling (Abort number) v r
-turn_by (Hand flight from to began ended) v r = handing (record { flight = flight; from = from; to = to; began = began; ended = ended }) r
+turn_by (Hand flight from to began ended) v r =
+    handing (record { flight = flight; from = from; to = to; began = began; ended = ended }) r
 turn_by (AsOf key time) v r = calling (AsOf key time) v r
 turn_by (Changes key t1 t2 bytes) v r = calling (Changes key t1 t2 bytes) v r
 turn_by StoreLog v r = calling StoreLog v r

@@ -25,7 +25,9 @@ fn current(
 ) -> usize
     requires { n + 56 ≤ length out.old }
     ensures upper_bound { result ≤ n + 56 }
-    ensures by_index { (l d : ℕ) → Prints (take n out.old) (take result out.new) (ready l d medium.now cache.now (state_of words.now tail.now)) (called 82 l d (current_of (state_of words.now tail.now) medium.now cache.now number key)) }
+    ensures by_index { (l d : ℕ) → Prints (take n out.old) (take result out.new)
+        (ready l d medium.now cache.now (state_of words.now tail.now))
+        (called 82 l d (current_of (state_of words.now tail.now) medium.now cache.now number key)) }
 {
     let r = reads::current_read::current_read(words, tail, medium, cache, number, key);
     let answer = r.answer;
@@ -46,7 +48,9 @@ fn as_of(
 ) -> usize
     requires { n + 56 ≤ length out.old }
     ensures upper_bound { result ≤ n + 56 }
-    ensures by_index { (l d : ℕ) → Prints (take n out.old) (take result out.new) (ready l d medium.now cache.now (state_of words.now tail.now)) (called 81 l d (as_of_of (state_of words.now tail.now) medium.now cache.now key time)) }
+    ensures by_index { (l d : ℕ) → Prints (take n out.old) (take result out.new)
+        (ready l d medium.now cache.now (state_of words.now tail.now))
+        (called 81 l d (as_of_of (state_of words.now tail.now) medium.now cache.now key time)) }
 {
     let r = reads::as_of::as_of(words, tail, medium, cache, key, time);
     let answer = r.answer;
@@ -70,7 +74,10 @@ fn list(
     requires buffer_len_bound { length buffer.old ≤ 40000 }
     requires n_in_bounds { n + 94000 ≤ length out.old }
     ensures upper_bound { result ≤ n + 94000 }
-    ensures by_index { (l d : ℕ) → Prints (take n out.old) (take result out.new) (ready l d medium.now cache.now (state_of words.now tail.now)) (called 76 l d (changes_of (state_of words.now tail.now) medium.now cache.now (replicate (length buffer.old) 170) key t1 t2)) }
+    ensures by_index { (l d : ℕ) → Prints (take n out.old) (take result out.new)
+        (ready l d medium.now cache.now (state_of words.now tail.now))
+        (called 76 l d
+        (changes_of (state_of words.now tail.now) medium.now cache.now (replicate (length buffer.old) 170) key t1 t2)) }
 {
     parts::fill(buffer, 170);
     let answer = reads::changes::changes(words, tail, medium, cache, key, t1, t2, buffer);
@@ -97,7 +104,9 @@ pub fn look(
     requires call_value { (plan_of asked.call).looks ≡ true }
     requires call_bound { (plan_of asked.call).stage ≤ stage_of t }
     ensures upper_bound { result ≤ n + 94000 }
-    ensures prints { Prints (take n out.old) (take result out.new) (room_of t medium.now cache.now (state_of words.now tail.now)) (turn_of asked (room_of t medium.now cache.now (state_of words.now tail.now))) }
+    ensures prints { Prints (take n out.old) (take result out.new)
+        (room_of t medium.now cache.now (state_of words.now tail.now))
+        (turn_of asked (room_of t medium.now cache.now (state_of words.now tail.now))) }
 {
     let m = parts::medium_part(t);
     let c = parts::cache_part(t);

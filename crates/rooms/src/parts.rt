@@ -3,8 +3,8 @@ ghost use Rattle.std.specs.Prelude.{◌≡◌, ◌≤◌, length, replicate};
 ghost use Rattle.rooms.specs.Room.{fresh_length, right_length};
 ghost use Rattle.rooms.specs.Parts.{stage_of, medium_part, cache_part};
 
-// The stage is 1 without a medium, 2 with one, 3 with one that is opened; the sizes L and D with which it is opened, and how
-// many bytes it has.
+// The stage is 1 without a medium, 2 with one, 3 with one that is opened; the sizes L and D with which it is opened,
+// and how many bytes it has.
 #[derive(Clone, Copy)]
 pub struct Standing {
     pub stage: u8,

@@ -39,8 +39,10 @@ pub fn step(
     requires p_value { p ≡ plan_of asked.call }
     requires stage_bound { p.stage ≤ stage_of t }
     ensures n_bound { result.n ≤ n + 94000 }
-    ensures out_after { take result.n out.new ≡ take n out.old ++ (turn_of asked (room_of t medium.old cache.old (state_of words.old tail.old))).text }
-    ensures tail_after { room_of result.standing medium.new cache.new (state_of words.new tail.new) ≡ (turn_of asked (room_of t medium.old cache.old (state_of words.old tail.old))).room }
+    ensures out_after { take result.n out.new ≡ take n out.old
+        ++ (turn_of asked (room_of t medium.old cache.old (state_of words.old tail.old))).text }
+    ensures tail_after { room_of result.standing medium.new cache.new (state_of words.new tail.new)
+        ≡ (turn_of asked (room_of t medium.old cache.old (state_of words.old tail.old))).room }
 {
     if p.looks {
         let end = look::look(asked, t, words, tail, medium, cache, buffer, out, n);

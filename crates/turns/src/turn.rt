@@ -7,7 +7,8 @@ ghost use Rattle.store.specs.Format.{format_of};
 ghost use Rattle.store.specs.Open.{open_of};
 ghost use Rattle.memory.specs.Memory.{state_of};
 ghost use Rattle.answers.specs.Text.{handed_text};
-ghost use Rattle.rooms.specs.Room.{plan_of, fresh_length, formatted, opening, cut as Room·cut, poked, outcome_of, calling, handing, moves, turn_of};
+ghost use Rattle.rooms.specs.Room.{plan_of, fresh_length, formatted, opening, cut as Room·cut, poked, outcome_of};
+ghost use Rattle.rooms.specs.Room.{calling, handing, moves, turn_of};
 ghost use Rattle.rooms.specs.Parts.{stage_of, stage_after, room_of, left_by};
 
 use answers::text;
@@ -38,7 +39,8 @@ fn stage_after(answer: Answer) -> u8
 // `F`: a fresh medium, or none.
 fn format(medium: &mut [u8], blocks: u64, pages: u64) -> Turned
     requires { length medium.old ≡ 50688 }
-    ensures { (c : List ℕ) (s : State) → left_by result.standing medium.new c s 70 result.answer ≡ formatted blocks pages (format_of (zeros (fresh_length blocks pages)) blocks pages) }
+    ensures { (c : List ℕ) (s : State) → left_by result.standing medium.new c s 70 result.answer
+        ≡ formatted blocks pages (format_of (zeros (fresh_length blocks pages)) blocks pages) }
 {
     let n = parts::fresh_length(blocks, pages);
     let answer = media::format::format(&mut medium[..n], blocks, pages);
@@ -64,7 +66,8 @@ fn open_with(
     blocks: u64,
     pages: u64,
 ) -> Answer
-    ensures { leaves result (state_of words.new tail.new) medium.now given.new ≡ open_of medium.now (replicate (length given.old) byte) blocks pages }
+    ensures { leaves result (state_of words.new tail.new) medium.now given.new
+        ≡ open_of medium.now (replicate (length given.old) byte) blocks pages }
 {
     parts::fill(given, byte);
     media::open::open(medium, given, words, tail, blocks, pages)
@@ -94,7 +97,9 @@ fn open(
     requires buffer_len { length buffer.old ≡ 40000 }
     requires bytes_bound { bytes ≤ 40000 }
     requires bound { 2 ≤ stage_of t }
-    ensures { (letter : ℕ) → left_by result.standing medium.now cache.new (state_of words.new tail.new) letter result.answer ≡ opening letter (room_of t medium.now cache.old (state_of words.old tail.old)) (replicate bytes byte) }
+    ensures { (letter : ℕ)
+        → left_by result.standing medium.now cache.new (state_of words.new tail.new) letter result.answer
+        ≡ opening letter (room_of t medium.now cache.old (state_of words.old tail.old)) (replicate bytes byte) }
 {
     let m = parts::medium_part(t);
     let mut given = [0u64; 448];
@@ -128,7 +133,8 @@ fn open(
 // `X`: state and cache are lost.
 fn cut(t: Standing) -> Turned
     requires { 2 ≤ stage_of t }
-    ensures { (m c : List ℕ) (s : State) → left_by result.standing m c s 88 result.answer ≡ moves 88 (Room·cut (room_of t m c s)) }
+    ensures { (m c : List ℕ) (s : State) → left_by result.standing m c s 88 result.answer
+        ≡ moves 88 (Room·cut (room_of t m c s)) }
 {
     let mut standing = t;
     standing.stage = 2;
@@ -141,7 +147,8 @@ fn cut(t: Standing) -> Turned
 // `Z`: one byte of the medium, where it has it.
 fn poke(t: Standing, medium: &mut [u8], offset: u64, byte: u8) -> Turned
     requires { length medium.old ≡ 50688 }
-    ensures { (c : List ℕ) (s : State) → left_by result.standing medium.new c s 90 result.answer ≡ moves 90 (poked (room_of t medium.old c s) offset byte) }
+    ensures { (c : List ℕ) (s : State) → left_by result.standing medium.new c s 90 result.answer
+        ≡ moves 90 (poked (room_of t medium.old c s) offset byte) }
 {
     let m = parts::medium_part(t);
     if offset < (m as u64) {
@@ -166,7 +173,8 @@ fn change(
     cache: &mut [u8],
 ) -> Answer
     requires { (plan_of asked.call).looks ≡ false }
-    ensures { leaves result (state_of words.new tail.new) medium.new cache.new ≡ outcome_of asked.call asked.value (state_of words.old tail.old) medium.old cache.old }
+    ensures { leaves result (state_of words.new tail.new) medium.new cache.new
+        ≡ outcome_of asked.call asked.value (state_of words.old tail.old) medium.old cache.old }
 {
     let call = asked.call;
     match call {
@@ -202,7 +210,9 @@ fn make(
     requires cache_len { length cache.old ≡ 32768 }
     requires call_value { (plan_of asked.call).looks ≡ false }
     requires bound { 3 ≤ stage_of t }
-    ensures { left_by result.standing medium.new cache.new (state_of words.new tail.new) (plan_of asked.call).letter result.answer ≡ calling asked.call asked.value (room_of t medium.old cache.old (state_of words.old tail.old)) }
+    ensures { left_by result.standing medium.new cache.new (state_of words.new tail.new)
+        (plan_of asked.call).letter result.answer
+        ≡ calling asked.call asked.value (room_of t medium.old cache.old (state_of words.old tail.old)) }
 {
     let m = parts::medium_part(t);
     let c = parts::cache_part(t);
@@ -225,7 +235,8 @@ pub fn hand(
     requires medium_len { length medium.old ≡ 50688 }
     requires cache_len { length cache.old ≡ 32768 }
     requires bound { 3 ≤ stage_of t }
-    ensures { record { room = room_of t medium.new cache.new (state_of words.new tail.new); text = handed_text result } ≡ handing asked (room_of t medium.old cache.old (state_of words.old tail.old)) }
+    ensures { record { room = room_of t medium.new cache.new (state_of words.new tail.new); text = handed_text result }
+        ≡ handing asked (room_of t medium.old cache.old (state_of words.old tail.old)) }
 {
     let m = parts::medium_part(t);
     let c = parts::cache_part(t);
@@ -258,7 +269,8 @@ pub fn turn(
     requires looks_value { p.looks ≡ false }
     requires letter_value { eqb p.letter 72 ≡ false }
     requires stage_bound { p.stage ≤ stage_of t }
-    ensures { left_by result.standing medium.new cache.new (state_of words.new tail.new) p.letter result.answer ≡ turn_of asked (room_of t medium.old cache.old (state_of words.old tail.old)) }
+    ensures { left_by result.standing medium.new cache.new (state_of words.new tail.new) p.letter result.answer
+        ≡ turn_of asked (room_of t medium.old cache.old (state_of words.old tail.old)) }
 {
     if p.stage == 3 {
         return make(asked, t, words, tail, medium, cache);

@@ -13,7 +13,8 @@ pub loop-i-preserved : goal.loop-i-preserved
 loop-i-preserved c =
     let s = c.args.bytes.now in
     let b = c.args.b in
-    ap (λ (x : ℕ). cond (eqb x 0) (all_are b (drop (c.loop-i.i + 1) s)) false) c.difference-other.ensures ∙ are_turn b s c.loop-i.i c.loop-i.other c.loop-i-test.true ∙ c.loop-i.invariant
+    ap (λ (x : ℕ). cond (eqb x 0) (all_are b (drop (c.loop-i.i + 1) s)) false) c.difference-other.ensures
+    ∙ are_turn b s c.loop-i.i c.loop-i.other c.loop-i-test.true ∙ c.loop-i.invariant
 
 pub returns : goal.returns
 returns c =

@@ -14,8 +14,11 @@ pub returns-then-k-bytes : goal.returns-then-k-bytes
 unfolding block_text blk
 returns-then-k-bytes c =
     record {
-      upper_bound = omega (arith, rw (lent_length c.args.bytes.now (512 * c.args.k) 512 (omega arith)) at c.hex.ensures.value);
-      out_after = simp (lt-ltb _ _ c.if-k-bytes.true) (rw (lent_part c.args.bytes.now (512 * c.args.k) 512) at c.hex.ensures.out_after);
+      upper_bound =
+          omega (arith, rw (lent_length c.args.bytes.now (512 * c.args.k) 512 (omega arith)) at c.hex.ensures.value);
+      out_after =
+          simp (lt-ltb _ _ c.if-k-bytes.true)
+          (rw (lent_part c.args.bytes.now (512 * c.args.k) 512) at c.hex.ensures.out_after);
     }
 
 pub returns : goal.returns

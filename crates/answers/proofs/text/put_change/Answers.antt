@@ -13,5 +13,8 @@ unfolding change_text
 returns c =
     record {
       upper_bound = omega arith;
-      out_after = behind_6 (take c.args.n c.args.out.now) _ _ _ _ _ _ _ _ _ _ _ _ (rw c.get8-time.ensures at c.number-a.ensures.out_after) c.byte-b.ensures.out_after c.number-c.ensures.out_after c.byte-d.ensures.out_after c.hex-e.ensures.out_after c.byte.ensures.out_after;
+      out_after =
+          behind_6 (take c.args.n c.args.out.now) _ _ _ _ _ _ _ _ _ _ _ _
+          (rw c.get8-time.ensures at c.number-a.ensures.out_after) c.byte-b.ensures.out_after
+          c.number-c.ensures.out_after c.byte-d.ensures.out_after c.hex-e.ensures.out_after c.byte.ensures.out_after;
     }

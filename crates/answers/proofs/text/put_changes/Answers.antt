@@ -19,8 +19,14 @@ put_change-next-requires c =
     }
 
 pub loop-i-preserved : goal.loop-i-preserved
-loop-i-preserved c =
-    (omega arith, omega arith, c.out-1.given ∙ c.loop-i.invariant.2, changes_turn c.args.buffer.now _ _ c.loop-i.i (take c.loop-i.end c.loop-i.out) _ c.loop-i-test.true (rw (lent_part c.args.buffer.now (32 * c.loop-i.i) 32) at c.put_change-next.ensures.out_after) c.loop-i.invariant.3)
+loop-i-preserved c = (
+  omega arith,
+  omega arith,
+  c.out-1.given ∙ c.loop-i.invariant.2,
+  changes_turn c.args.buffer.now _ _ c.loop-i.i (take c.loop-i.end c.loop-i.out) _ c.loop-i-test.true
+      (rw (lent_part c.args.buffer.now (32 * c.loop-i.i) 32) at c.put_change-next.ensures.out_after)
+      c.loop-i.invariant.3,
+)
 
 pub shape_of-out : goal.shape_of-out
 shape_of-out c = c.loop-i.invariant.2
@@ -29,5 +35,7 @@ pub returns : goal.returns
 returns c =
     record {
       upper_bound = omega arith;
-      out_after = changes_end c.args.buffer.now _ _ c.loop-i.i (take c.loop-i.end c.loop-i.out) c.loop-i-test.false c.loop-i.invariant.3;
+      out_after =
+          changes_end c.args.buffer.now _ _ c.loop-i.i (take c.loop-i.end c.loop-i.out) c.loop-i-test.false
+          c.loop-i.invariant.3;
     }

@@ -7,7 +7,10 @@ use Rattle.answers.specs.Text.{changes_text}
 use Rattle.answers.proofs.text.put_changes.Given as goal
 
 abbrev pub invariant-loop-i : goal.invariant-loop-i
-invariant-loop-i l = (l.i ≤ l.count) × (l.end ≤ l.n + 75 * l.i) × (length l.out ≡ length l.initial.out) × (take l.end l.out ++ changes_text (l.count - l.i) (drop (32 * l.i) l.buffer) ≡ take l.n l.initial.out ++ changes_text l.count l.buffer)
+invariant-loop-i l =
+    (l.i ≤ l.count) × (l.end ≤ l.n + 75 * l.i) × (length l.out ≡ length l.initial.out)
+    × (take l.end l.out ++ changes_text (l.count - l.i) (drop (32 * l.i) l.buffer)
+    ≡ take l.n l.initial.out ++ changes_text l.count l.buffer)
 
 abbrev pub decreases-loop-i : goal.decreases-loop-i
 decreases-loop-i l = l.count - l.i

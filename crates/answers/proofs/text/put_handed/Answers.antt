@@ -10,5 +10,8 @@ unfolding handed_text
 returns c =
     record {
       upper_bound = omega arith;
-      out_after = behind_6 (take c.args.n c.args.out.now) _ _ _ _ _ _ _ _ _ _ _ _ c.byte-a.ensures.out_after c.byte-b.ensures.out_after (rw c.denial-number.ensures at c.number-c.ensures.out_after) c.byte-d.ensures.out_after c.put_time-e.ensures.out_after c.byte.ensures.out_after;
+      out_after =
+          behind_6 (take c.args.n c.args.out.now) _ _ _ _ _ _ _ _ _ _ _ _ c.byte-a.ensures.out_after
+          c.byte-b.ensures.out_after (rw c.denial-number.ensures at c.number-c.ensures.out_after)
+          c.byte-d.ensures.out_after c.put_time-e.ensures.out_after c.byte.ensures.out_after;
     }

@@ -30,7 +30,9 @@ returns-in-Listed c =
     let h = c.requires.by_index _ c.in-Listed.is in
     record {
       upper_bound = omega arith;
-      out_after = simp c.in-Listed.is (list_put (take c.args.n c.args.out.now) _ _ c.args.buffer.now _ _ c.put_changes-a.ensures.out_after c.all_are-kept.ensures c.put_kept.ensures.out_after);
+      out_after =
+          simp c.in-Listed.is (list_put (take c.args.n c.args.out.now) _ _ c.args.buffer.now _ _
+          c.put_changes-a.ensures.out_after c.all_are-kept.ensures c.put_kept.ensures.out_after);
     }
 
 pub returns-in_default : goal.returns-in_default

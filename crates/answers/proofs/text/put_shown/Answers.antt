@@ -10,5 +10,7 @@ unfolding shown_text
 returns c =
     record {
       upper_bound = omega arith;
-      out_after = behind_4 (take c.args.n c.args.out.now) _ _ _ _ _ _ _ _ c.byte-a.ensures.out_after c.byte-b.ensures.out_after c.put_block-c.ensures.out_after c.byte.ensures.out_after;
+      out_after =
+          behind_4 (take c.args.n c.args.out.now) _ _ _ _ _ _ _ _ c.byte-a.ensures.out_after c.byte-b.ensures.out_after
+          c.put_block-c.ensures.out_after c.byte.ensures.out_after;
     }

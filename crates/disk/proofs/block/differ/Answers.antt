@@ -12,4 +12,5 @@ slice_bounds-same-end c = first_length c.args.before.now c.args.e.len c.requires
 
 pub returns : goal.returns
 returns c =
-    let k = c.args in ap not (c.same.ensures ∙ ap (eq_list (take k.e.len k.before.now)) (lent_part k.medium.now k.e.at k.e.len))
+    let k = c.args in
+    ap not (c.same.ensures ∙ ap (eq_list (take k.e.len k.before.now)) (lent_part k.medium.now k.e.at k.e.len))

@@ -17,7 +17,8 @@ returns-then-n-at-gt512 c =
 pub returns : goal.returns
 unfolding length_of
 returns c =
-    let z : min (c.args.n - c.start-at.result) 512 ≡ c.args.n - c.start-at.result = omega (arith, c.if-n-at-gt512.false) in
+    let z : min (c.args.n - c.start-at.result) 512 ≡ c.args.n - c.start-at.result =
+    omega (arith, c.if-n-at-gt512.false) in
     record {
       at_value = (c.start-at.ensures.value, sym z ∙ ap (λ (i : ℕ). min (c.args.n - i) 512) c.start-at.ensures.value);
       len_bound = (omega (arith, c.start-at.ensures.upper_bound), omega (arith, c.if-n-at-gt512.false));

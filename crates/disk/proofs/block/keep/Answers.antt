@@ -9,8 +9,11 @@ slice_bounds-copy-end-2 c = first_length c.args.before.now c.args.e.len c.requir
 
 pub copy-requires : goal.copy-requires
 copy-requires c =
-    let k = c.args in sym (first_length k.before.now k.e.len c.requires.1) ∙ sym (lent_length k.medium.now k.e.at k.e.len c.requires.0)
+    let k = c.args in
+    sym (first_length k.before.now k.e.len c.requires.1) ∙ sym (lent_length k.medium.now k.e.at k.e.len c.requires.0)
 
 pub returns : goal.returns
 returns c =
-    let k = c.args in first_back k.before.now _ k.e.len c.requires.1 c.copy.auto.dst ∙ c.copy.ensures ∙ lent_part k.medium.now k.e.at k.e.len
+    let k = c.args in
+    first_back k.before.now _ k.e.len c.requires.1 c.copy.auto.dst ∙ c.copy.ensures
+    ∙ lent_part k.medium.now k.e.at k.e.len

@@ -9,5 +9,7 @@ returns c =
     let k = c.args in
     record {
       upper_bound = c.put_answer.ensures.upper_bound;
-      by_index = λ l d. read_prints (take k.n k.out.now) _ _ _ _ _ _ _ l d _ refl c.put_answer.ensures.out_after c.current_read-r.ensures;
+      by_index =
+          λ l d. read_prints (take k.n k.out.now) _ _ _ _ _ _ _ l d _ refl c.put_answer.ensures.out_after
+          c.current_read-r.ensures;
     }

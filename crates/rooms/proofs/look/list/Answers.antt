@@ -14,7 +14,10 @@ put_list-requires c =
     record {
       buffer_len_bound = omega arith;
       n_in_bounds = omega arith;
-      by_index = λ k e. let f = rw length-replicate at (list_fits _ _ _ b _ _ _ k _ (ap (λ (o : Outcome). o.answer) (rw c.fill.ensures at c.changes-answer.ensures)) e) in omega arith;
+      by_index =
+          λ k e. let f = rw length-replicate at
+          (list_fits _ _ _ b _ _ _ k _ (ap (λ (o : Outcome). o.answer) (rw c.fill.ensures at c.changes-answer.ensures))
+          e) in omega arith;
     }
 
 pub returns : goal.returns
@@ -22,5 +25,7 @@ returns c =
     let k = c.args in
     record {
       upper_bound = omega arith;
-      by_index = λ l d. list_prints (take k.n k.out.now) _ _ _ _ _ _ _ _ l d c.put_answer-a.ensures.out_after c.put_list.ensures.out_after (rw c.fill.ensures at c.changes-answer.ensures);
+      by_index =
+          λ l d. list_prints (take k.n k.out.now) _ _ _ _ _ _ _ _ l d c.put_answer-a.ensures.out_after
+          c.put_list.ensures.out_after (rw c.fill.ensures at c.changes-answer.ensures);
     }

@@ -31,12 +31,14 @@ slice_bounds-list-end-in-Changes c = first_length c.args.cache.now c.cache_part-
 pub slice_bounds-list-end-in-Changes-2 : goal.slice_bounds-list-end-in-Changes-2
 unfolding plan_of
 slice_bounds-list-end-in-Changes-2 c =
-    let f = within_fits _ 3 _ (plan_stage _ _ _ _ refl c.in-Changes.is c.requires.call_bound) (stage_most c.args.t) in omega arith
+    let f = within_fits _ 3 _ (plan_stage _ _ _ _ refl c.in-Changes.is c.requires.call_bound) (stage_most c.args.t) in
+    omega arith
 
 pub slice_bounds-list-end-in-Changes-3 : goal.slice_bounds-list-end-in-Changes-3
 unfolding plan_of
 slice_bounds-list-end-in-Changes-3 c =
-    let f = within_fits _ 3 _ (plan_stage _ _ _ _ refl c.in-Changes.is c.requires.call_bound) (stage_most c.args.t) in first_length c.args.buffer.now _ (omega arith)
+    let f = within_fits _ 3 _ (plan_stage _ _ _ _ refl c.in-Changes.is c.requires.call_bound) (stage_most c.args.t) in
+    first_length c.args.buffer.now _ (omega arith)
 
 pub list-requires : goal.list-requires
 list-requires c =
@@ -56,7 +58,11 @@ unfolding turn_of turn_by plan_of outcome_of
 returns-in-Read c =
     record {
       upper_bound = omega arith;
-      prints = simp c.in-Read.is (look_call c.args.t c.args.medium.now c.args.cache.now ((state_of c.args.words.now c.args.tail.now)) _ _ (take c.args.n c.args.out.now) _ _ _ (plan_stage _ _ _ _ refl c.in-Read.is c.requires.call_bound) c.medium_part-m.ensures.value c.cache_part-c.ensures.value (c.current.ensures.by_index _ _));
+      prints =
+          simp c.in-Read.is (look_call c.args.t c.args.medium.now c.args.cache.now
+          (state_of c.args.words.now c.args.tail.now) _ _ (take c.args.n c.args.out.now) _ _ _
+          (plan_stage _ _ _ _ refl c.in-Read.is c.requires.call_bound) c.medium_part-m.ensures.value
+          c.cache_part-c.ensures.value (c.current.ensures.by_index _ _));
     }
 
 pub returns-in-AsOf : goal.returns-in-AsOf
@@ -64,7 +70,11 @@ unfolding turn_of turn_by plan_of outcome_of
 returns-in-AsOf c =
     record {
       upper_bound = omega arith;
-      prints = simp c.in-AsOf.is (look_call c.args.t c.args.medium.now c.args.cache.now ((state_of c.args.words.now c.args.tail.now)) _ _ (take c.args.n c.args.out.now) _ _ _ (plan_stage _ _ _ _ refl c.in-AsOf.is c.requires.call_bound) c.medium_part-m.ensures.value c.cache_part-c.ensures.value (c.as_of.ensures.by_index _ _));
+      prints =
+          simp c.in-AsOf.is (look_call c.args.t c.args.medium.now c.args.cache.now
+          (state_of c.args.words.now c.args.tail.now) _ _ (take c.args.n c.args.out.now) _ _ _
+          (plan_stage _ _ _ _ refl c.in-AsOf.is c.requires.call_bound) c.medium_part-m.ensures.value
+          c.cache_part-c.ensures.value (c.as_of.ensures.by_index _ _));
     }
 
 pub returns-in-Changes : goal.returns-in-Changes
@@ -73,7 +83,12 @@ returns-in-Changes c =
     let f = within_fits _ 3 _ (plan_stage _ _ _ _ refl c.in-Changes.is c.requires.call_bound) (stage_most c.args.t) in
     record {
       upper_bound = c.list.ensures.upper_bound;
-      prints = simp c.in-Changes.is (look_call c.args.t c.args.medium.now c.args.cache.now ((state_of c.args.words.now c.args.tail.now)) _ _ (take c.args.n c.args.out.now) _ _ _ f.1 c.medium_part-m.ensures.value c.cache_part-c.ensures.value (look_list c.args.buffer.now (take c.args.n c.args.out.now) _ _ _ _ _ _ _ _ _ _ c.requires.buffer_len f.0 (c.list.ensures.by_index _ _)));
+      prints =
+          simp c.in-Changes.is (look_call c.args.t c.args.medium.now c.args.cache.now
+          (state_of c.args.words.now c.args.tail.now) _ _ (take c.args.n c.args.out.now) _ _ _ f.1
+          c.medium_part-m.ensures.value c.cache_part-c.ensures.value
+          (look_list c.args.buffer.now (take c.args.n c.args.out.now) _ _ _ _ _ _ _ _ _ _ c.requires.buffer_len f.0
+          (c.list.ensures.by_index _ _)));
     }
 
 pub returns-in-Block : goal.returns-in-Block
@@ -81,7 +96,8 @@ unfolding turn_of turn_by
 returns-in-Block c =
     record {
       upper_bound = omega arith;
-      prints = simp (c.in-Block.is, medium_in_law) (rw c.medium_part-m.ensures.value at c.put_shown.ensures.out_after, refl);
+      prints =
+          simp (c.in-Block.is, medium_in_law) (rw c.medium_part-m.ensures.value at c.put_shown.ensures.out_after, refl);
     }
 
 pub returns-in-Page : goal.returns-in-Page
@@ -89,10 +105,13 @@ unfolding turn_of turn_by
 returns-in-Page c =
     record {
       upper_bound = omega arith;
-      prints = simp (c.in-Page.is, cache_in_law) (rw c.cache_part-c.ensures.value at c.put_shown-in-Page.ensures.out_after, refl);
+      prints =
+          simp (c.in-Page.is, cache_in_law)
+          (rw c.cache_part-c.ensures.value at c.put_shown-in-Page.ensures.out_after, refl);
     }
 
 pub returns-in_default : goal.returns-in_default
 returns-in_default c =
     let k = c.in_default in
-    absurd (look_rest c.args.asked.call k.not-Read k.not-AsOf k.not-Changes k.not-Block k.not-Page c.requires.call_value)
+    absurd (look_rest c.args.asked.call k.not-Read k.not-AsOf k.not-Changes k.not-Block k.not-Page
+    c.requires.call_value)

@@ -44,7 +44,8 @@ hand-answer-requires c =
 pub returns-in-Hand : goal.returns-in-Hand
 returns-in-Hand c =
     let k = c.args in
-    let e = hand_turn k.asked (room_of k.t k.medium.now k.cache.now (state_of k.words.now k.tail.now)) _ _ _ _ _ _ c.in-Hand.is c.hand-answer.ensures in
+    let e = hand_turn k.asked (room_of k.t k.medium.now k.cache.now (state_of k.words.now k.tail.now)) _ _ _ _ _ _
+    c.in-Hand.is c.hand-answer.ensures in
     record {
       n_bound = omega arith;
       out_after = c.put_handed-end.ensures.out_after ∙ ap (λ (u : Turn). take k.n k.out.now ++ u.text) e;

@@ -10,4 +10,6 @@ slice_bounds-format-end-2 c = first_length c.args.medium.now c.fresh_length-n.re
 pub returns : goal.returns
 returns c =
     let k = c.args in
-    λ cache s. format_left k.blocks k.pages _ _ _ _ k.medium.now cache s c.stage_after.ensures c.fresh_length-n.ensures.value c.fresh_length-n.ensures.upper_bound (omega arith) c.format-answer.auto.medium c.format-answer.ensures
+    λ cache s. format_left k.blocks k.pages _ _ _ _ k.medium.now cache s c.stage_after.ensures
+    c.fresh_length-n.ensures.value c.fresh_length-n.ensures.upper_bound (omega arith) c.format-answer.auto.medium
+    c.format-answer.ensures

@@ -15,19 +15,29 @@ slice_bounds-open_with-end-3 c = first_length c.args.buffer.now c.args.bytes (om
 
 pub returns-then-refusal-ne0 : goal.returns-then-refusal-ne0
 returns-then-refusal-ne0 c =
-    λ letter. open_refused c.args.t c.args.medium.now c.args.cache.now c.args.buffer.now ((state_of c.args.words.now c.args.tail.now)) letter c.args.byte c.medium_part-m.result c.args.bytes c.requires.bound c.medium_part-m.ensures.value (omega arith) _ _ _ c.open_with-answer.ensures (λ z. c.if-refusal-ne0.true (c.refusal.ensures ∙ z))
+    λ letter. open_refused c.args.t c.args.medium.now c.args.cache.now c.args.buffer.now
+    (state_of c.args.words.now c.args.tail.now) letter c.args.byte c.medium_part-m.result c.args.bytes
+    c.requires.bound c.medium_part-m.ensures.value (omega arith) _ _ _ c.open_with-answer.ensures
+    (λ z. c.if-refusal-ne0.true (c.refusal.ensures ∙ z))
 
 pub slice_bounds-copy-end-2 : goal.slice_bounds-copy-end-2
 slice_bounds-copy-end-2 c = first_length c.args.cache.now c.right_length-n.result (omega arith)
 
 pub slice_bounds-copy-end-4 : goal.slice_bounds-copy-end-4
 slice_bounds-copy-end-4 c =
-    let k = simp length-take at c.open_with-answer.auto.given in first_length _ c.right_length-n.result (simp (length-append, length-drop) (omega arith))
+    let k = simp length-take at c.open_with-answer.auto.given in
+    first_length _ c.right_length-n.result (simp (length-append, length-drop) (omega arith))
 
 pub copy-requires : goal.copy-requires
 copy-requires c =
-    let k = simp length-take at c.open_with-answer.auto.given in simp (length-take, length-append, length-drop) (omega arith)
+    let k = simp length-take at c.open_with-answer.auto.given in
+    simp (length-take, length-append, length-drop) (omega arith)
 
 pub returns : goal.returns
 returns c =
-    λ letter. rw (c.take_state.ensures.0, c.take_state.ensures.1) (open_taken c.args.t c.args.medium.now c.args.cache.now c.args.buffer.now ((state_of c.args.words.now c.args.tail.now)) letter c.args.byte c.medium_part-m.result c.args.bytes c.requires.bound c.medium_part-m.ensures.value (omega arith) _ _ _ c.open_with-answer.ensures _ _ (sym c.refusal.ensures ∙ c.if-refusal-ne0.false) c.right_length-n.ensures.value c.copy.ensures c.open_with-answer.auto.given)
+    λ letter. rw (c.take_state.ensures.0, c.take_state.ensures.1)
+    (open_taken c.args.t c.args.medium.now c.args.cache.now c.args.buffer.now
+    (state_of c.args.words.now c.args.tail.now) letter c.args.byte c.medium_part-m.result c.args.bytes
+    c.requires.bound c.medium_part-m.ensures.value (omega arith) _ _ _ c.open_with-answer.ensures _ _
+    (sym c.refusal.ensures ∙ c.if-refusal-ne0.false) c.right_length-n.ensures.value c.copy.ensures
+    c.open_with-answer.auto.given)

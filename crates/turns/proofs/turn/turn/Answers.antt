@@ -1,4 +1,5 @@
--- A line from stage 3 on is a call, as no handover comes here; the others go by their letter, and no other line comes here.
+-- A line from stage 3 on is a call, as no handover comes here; the others go by their letter, and no other line comes
+-- here.
 use mathlib.Core.Path.{refl, sym, ap, ◌∙◌}
 use native.Mathlib.Omega.{arith}
 use lib.Dec.{eqb}
@@ -22,7 +23,9 @@ make-requires c =
 pub returns-then-p-eq3 : goal.returns-then-p-eq3
 unfolding turn_of
 returns-then-p-eq3 c =
-    rw c.requires.p_value (c.make.ensures ∙ turn_calls _ _ _ (ap (λ (q : Plan). q.stage) (sym c.requires.p_value) ∙ c.if-p-eq3.true) (ap (λ (q : Plan). eqb q.letter 72) (sym c.requires.p_value) ∙ c.requires.letter_value))
+    rw c.requires.p_value (c.make.ensures ∙ turn_calls _ _ _
+    (ap (λ (q : Plan). q.stage) (sym c.requires.p_value) ∙ c.if-p-eq3.true)
+    (ap (λ (q : Plan). eqb q.letter 72) (sym c.requires.p_value) ∙ c.requires.letter_value))
 
 pub open-requires : goal.open-requires
 unfolding plan_of
@@ -38,7 +41,8 @@ open-requires c =
 pub open-requires-in-OpenSized : goal.open-requires-in-OpenSized
 unfolding plan_of
 open-requires-in-OpenSized c =
-    let f = within_fits _ 2 _ (plan_stage _ _ _ _ c.requires.p_value c.in-OpenSized.is c.requires.stage_bound) (stage_most c.args.t) in
+    let f = within_fits _ 2 _ (plan_stage _ _ _ _ c.requires.p_value c.in-OpenSized.is c.requires.stage_bound)
+    (stage_most c.args.t) in
     record {
       medium_len = c.requires.medium_len;
       cache_len = c.requires.cache_len;
@@ -54,12 +58,16 @@ cut-requires c = plan_stage _ _ _ _ c.requires.p_value c.in-Cut.is c.requires.st
 pub returns-in-Format : goal.returns-in-Format
 unfolding turn_of turn_by plan_of
 returns-in-Format c =
-    simp (c.requires.p_value, c.in-Format.is) (c.format.ensures c.args.cache.now (state_of c.args.words.now c.args.tail.now))
+    simp (c.requires.p_value, c.in-Format.is)
+    (c.format.ensures c.args.cache.now (state_of c.args.words.now c.args.tail.now))
 
 pub returns-in-Open : goal.returns-in-Open
 unfolding turn_of turn_by plan_of
 returns-in-Open c =
-    simp (c.requires.p_value, c.in-Open.is) (open_right c.args.t c.args.medium.now c.args.cache.now ((state_of c.args.words.now c.args.tail.now)) _ _ _ (plan_stage _ _ _ _ c.requires.p_value c.in-Open.is c.requires.stage_bound) c.right_length-n.ensures.value (c.open.ensures 79))
+    simp (c.requires.p_value, c.in-Open.is)
+    (open_right c.args.t c.args.medium.now c.args.cache.now (state_of c.args.words.now c.args.tail.now) _ _ _
+    (plan_stage _ _ _ _ c.requires.p_value c.in-Open.is c.requires.stage_bound) c.right_length-n.ensures.value
+    (c.open.ensures 79))
 
 pub returns-in-OpenSized : goal.returns-in-OpenSized
 unfolding turn_of turn_by plan_of
@@ -68,14 +76,19 @@ returns-in-OpenSized c = simp (c.requires.p_value, c.in-OpenSized.is) (c.open-in
 pub returns-in-Cut : goal.returns-in-Cut
 unfolding turn_of turn_by plan_of
 returns-in-Cut c =
-    simp (c.requires.p_value, c.in-Cut.is) (c.cut.ensures c.args.medium.now c.args.cache.now (state_of c.args.words.now c.args.tail.now))
+    simp (c.requires.p_value, c.in-Cut.is)
+    (c.cut.ensures c.args.medium.now c.args.cache.now (state_of c.args.words.now c.args.tail.now))
 
 pub returns-in-Poke : goal.returns-in-Poke
 unfolding turn_of turn_by plan_of
 returns-in-Poke c =
-    simp (c.requires.p_value, c.in-Poke.is) (c.poke.ensures c.args.cache.now (state_of c.args.words.now c.args.tail.now))
+    simp (c.requires.p_value, c.in-Poke.is)
+    (c.poke.ensures c.args.cache.now (state_of c.args.words.now c.args.tail.now))
 
 pub returns-in_default : goal.returns-in_default
 returns-in_default c =
     let k = c.in_default in
-    absurd (no_rest c.args.asked.call (stage_of c.args.t) k.not-Format k.not-Open k.not-OpenSized k.not-Cut k.not-Poke (ap (λ (q : Plan). q.looks) (sym c.requires.p_value) ∙ c.requires.looks_value) (λ z. c.if-p-eq3.false (ap (λ (q : Plan). q.stage) c.requires.p_value ∙ z)) (plan_stage _ _ _ _ c.requires.p_value refl c.requires.stage_bound) (stage_most c.args.t))
+    absurd (no_rest c.args.asked.call (stage_of c.args.t) k.not-Format k.not-Open k.not-OpenSized k.not-Cut k.not-Poke
+    (ap (λ (q : Plan). q.looks) (sym c.requires.p_value) ∙ c.requires.looks_value)
+    (λ z. c.if-p-eq3.false (ap (λ (q : Plan). q.stage) c.requires.p_value ∙ z))
+    (plan_stage _ _ _ _ c.requires.p_value refl c.requires.stage_bound) (stage_most c.args.t))
