@@ -1,5 +1,5 @@
--- A line of numbers alone: its form closes with the last of them, so that the numbers of the form are those of the words.
--- No letter of the script takes four numbers or more, and another byte takes none.
+-- A line of numbers alone: its form closes with the last of them, so that the numbers of the form are those of the
+-- words. No letter of the script takes four numbers or more, and another byte takes none.
 use mathlib.Core.Path.{◌≡◌, refl, sym, ap, ◌∙◌}
 use mathlib.Core.Bool.{Bool, true, false}
 use mathlib.Core.Option.{Option, none, some}
@@ -11,7 +11,8 @@ use lib.Dec.{eqb}
 use borrow.Author.Tests.{eqb-true, eqb-false, lt-ltb}
 use Rattle.script.specs.declared.line.Line.{Line}
 use Rattle.script.specs.Words.{words_of, is_in, number_of, joined, numbers_of}
-use Rattle.script.specs.Form.{word_of, Form, other, bare, ending, behind, after_letter, is_letter, by_words as form_by, limited, form_of}
+use Rattle.script.specs.Form.{word_of, Form, other, bare, ending, behind, after_letter, is_letter, by_words as form_by}
+use Rattle.script.specs.Form.{limited, form_of}
 use Rattle.script.specs.Reader.{no_line, is_number, grown_by, done_of, last_word}
 use Rattle.fields.proofs.Choose.{bool_case, no}
 use Rattle.script.proofs.Meaning.{after_case, line_form}
@@ -34,12 +35,14 @@ module _ (k : ℕ) {P : Type 0} (b : k ≡ 66 → P) (w : k ≡ 87 → P) (c : k
 four : (k a b c d : ℕ) (ns : List ℕ) → call_of k (a ∷ (b ∷ (c ∷ (d ∷ ns)))) ≡ Other
 unfolding call_of
 four k a b c d ns =
-    letter_case k (λ e. simp e) (λ e. simp e) (λ e. simp e) (λ e. simp e) (λ e. simp e) (λ f. f (a ∷ (b ∷ (c ∷ (d ∷ ns)))))
+    letter_case k (λ e. simp e) (λ e. simp e) (λ e. simp e) (λ e. simp e) (λ e. simp e)
+    (λ f. f (a ∷ (b ∷ (c ∷ (d ∷ ns)))))
 
 not_letter : (k : ℕ) (ns : List ℕ) → is_letter k ≡ false → call_of k ns ≡ Other
 unfolding is_letter is_in
 not_letter k ns t =
-    letter_case k (λ e. no (sym (simp e at t))) (λ e. no (sym (simp e at t))) (λ e. no (sym (simp e at t))) (λ e. no (sym (simp e at t))) (λ e. no (sym (simp e at t))) (λ f. f ns)
+    letter_case k (λ e. no (sym (simp e at t))) (λ e. no (sym (simp e at t))) (λ e. no (sym (simp e at t)))
+    (λ e. no (sym (simp e at t))) (λ e. no (sym (simp e at t))) (λ f. f ns)
 
 -- how many numbers a letter takes
 pub none_not : (k : ℕ) → (k ≡ 88 → ⊥) → call_of k [] ≡ Other
@@ -48,17 +51,20 @@ none_not k h = letter_case k (λ e. simp e) (λ e. simp e) (λ e. simp e) (λ e.
 
 pub one_not : (k n : ℕ) → (k ≡ 66 → ⊥) → call_of k (n ∷ []) ≡ Other
 unfolding call_of
-one_not k n h = letter_case k (λ e. absurd (h e)) (λ e. simp e) (λ e. simp e) (λ e. simp e) (λ e. simp e) (λ f. f (n ∷ []))
+one_not k n h =
+    letter_case k (λ e. absurd (h e)) (λ e. simp e) (λ e. simp e) (λ e. simp e) (λ e. simp e) (λ f. f (n ∷ []))
 
 pub two_not : (k a n : ℕ) → (k ≡ 67 → ⊥) → (k ≡ 81 → ⊥) → call_of k (a ∷ (n ∷ [])) ≡ Other
 unfolding call_of
 two_not k a n g h =
-    letter_case k (λ e. simp e) (λ e. simp e) (λ e. absurd (g e)) (λ e. absurd (h e)) (λ e. simp e) (λ f. f (a ∷ (n ∷ [])))
+    letter_case k (λ e. simp e) (λ e. simp e) (λ e. absurd (g e)) (λ e. absurd (h e)) (λ e. simp e)
+    (λ f. f (a ∷ (n ∷ [])))
 
 pub three_not : (k a b n : ℕ) → (k ≡ 87 → ⊥) → call_of k (a ∷ (b ∷ (n ∷ []))) ≡ Other
 unfolding call_of
 three_not k a b n h =
-    letter_case k (λ e. simp e) (λ e. absurd (h e)) (λ e. simp e) (λ e. simp e) (λ e. simp e) (λ f. f (a ∷ (b ∷ (n ∷ []))))
+    letter_case k (λ e. simp e) (λ e. absurd (h e)) (λ e. simp e) (λ e. simp e) (λ e. simp e)
+    (λ f. f (a ∷ (b ∷ (n ∷ []))))
 
 -- the numbers of a form
 abbrev numbers_in : Form → Option (List ℕ)
@@ -74,18 +80,22 @@ closed_more : (n : ℕ) (ns : List ℕ) (o : Option ℕ) → closed (n ∷ ns) o
 closed_more n ns none = refl
 closed_more n ns (some m) = refl
 
-behind_numbers : (o : Option ℕ) (k : ℕ) (v : List ℕ) (vs : List (List ℕ)) → numbers_in (behind o (after_letter k (v ∷ vs))) ≡ joined o (numbers_in (after_letter k (v ∷ vs)))
+behind_numbers : (o : Option ℕ) (k : ℕ) (v : List ℕ) (vs : List (List ℕ))
+    → numbers_in (behind o (after_letter k (v ∷ vs))) ≡ joined o (numbers_in (after_letter k (v ∷ vs)))
 behind_numbers none k v vs = refl
 behind_numbers (some n) k v vs =
-    after_case (λ f. numbers_in (behind (some n) f) ≡ joined (some n) (numbers_in f)) k v vs refl (λ ns x. closed_more n ns x.number)
+    after_case (λ f. numbers_in (behind (some n) f) ≡ joined (some n) (numbers_in f)) k v vs refl
+    (λ ns x. closed_more n ns x.number)
 
 after_numbers : (k : ℕ) (ws : List (List ℕ)) → numbers_in (after_letter k ws) ≡ numbers_of ws
 unfolding after_letter numbers_of word_of
 after_numbers k [] = refl
 after_numbers k (w ∷ []) = closed_one (number_of w)
-after_numbers k (w ∷ (v ∷ vs)) = behind_numbers (number_of w) k v vs ∙ ap (joined (number_of w)) (after_numbers k (v ∷ vs))
+after_numbers k (w ∷ (v ∷ vs)) =
+    behind_numbers (number_of w) k v vs ∙ ap (joined (number_of w)) (after_numbers k (v ∷ vs))
 
-form_call_law : (k : ℕ) (ws : List (List ℕ)) → form_call (after_letter k ws) ≡ call_if k (numbers_in (after_letter k ws))
+form_call_law : (k : ℕ) (ws : List (List ℕ)) → form_call (after_letter k ws)
+    ≡ call_if k (numbers_in (after_letter k ws))
 unfolding form_call after_letter
 form_call_law k [] = refl
 form_call_law k (v ∷ vs) = after_case (λ f. form_call f ≡ call_if k (numbers_in f)) k v vs refl (λ ns x. refl)
@@ -146,7 +156,8 @@ module _ (l : Line) where
     unfolding meaning_of form_call last_word
     word_call t = simp (seen_words l b h e, ← g, t)
 
-    pub number_call : r ≡ true → (ns : List ℕ) → done_of l [] ≡ ns → meaning_of l ≡ call_of l.letter (ns ++ (l.last ∷ []))
+    pub number_call : r ≡ true → (ns : List ℕ) → done_of l [] ≡ ns
+        → meaning_of l ≡ call_of l.letter (ns ++ (l.last ∷ []))
     unfolding meaning_of form_call last_word
     number_call t ns d = simp (seen_words l b h e, ← g, t, d)
 

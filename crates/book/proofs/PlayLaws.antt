@@ -41,7 +41,8 @@ call_goes w (Query a b) h = refl
 call_goes w Cut h = refl
 call_goes w Other h = absurd (h refl)
 
-pub is_change : (call : Call) (s : State) (m c : List ℕ) → (letter_of call ≡ 81 → ⊥) → change_of call s m c ≡ outcome_of call s m c
+pub is_change : (call : Call) (s : State) (m c : List ℕ) → (letter_of call ≡ 81 → ⊥)
+    → change_of call s m c ≡ outcome_of call s m c
 unfolding change_of letter_of
 is_change (Begin a) s m c h = refl
 is_change (Write a b d) s m c h = refl
@@ -50,7 +51,8 @@ is_change (Query a b) s m c h = absurd (h refl)
 is_change Cut s m c h = refl
 is_change Other s m c h = refl
 
-pub is_query : (call : Call) (s : State) (m c : List ℕ) → letter_of call ≡ 81 → query_of call s m c ≡ outcome_of call s m c
+pub is_query : (call : Call) (s : State) (m c : List ℕ) → letter_of call ≡ 81
+    → query_of call s m c ≡ outcome_of call s m c
 unfolding query_of letter_of
 is_query (Begin a) s m c h = absurd (omega arith)
 is_query (Write a b d) s m c h = absurd (omega arith)
@@ -67,32 +69,37 @@ module _ (bytes : List ℕ) (l : Line) (i : ℕ) (r : Taken) (h : i < length byt
   pub step_other : k ≡ 0 → play_of does (stand l (world s m c) true o) (drop i bytes) ≡ stand n (world s m c) false o
   step_other z =
       step_ends bytes l i r h e does (world s m c) o f
-      ∙ ap (λ (t : Step World). play_of does (stepped t (world s m c) o) (drop r.next bytes)) (ap (step_by (world s m c)) (sym g) ∙ other_stops (world s m c) call (sym p ∙ z))
+      ∙ ap (λ (t : Step World). play_of does (stepped t (world s m c) o) (drop r.next bytes))
+      (ap (step_by (world s m c)) (sym g) ∙ other_stops (world s m c) call (sym p ∙ z))
       ∙ play_off does no_line (world s m c) o (drop r.next bytes)
       ∙ ap (λ (t : Line). stand t (world s m c) false o) (sym q)
 
   -- a call is made and its line printed
   step_call : (u : Outcome) (x : List ℕ) → (k ≡ 0 → ⊥) → u ≡ outcome_of call s m c
       → x ≡ o ++ line_text k (answer_number u.answer) (result_of u.answer (get_or u.value 0 0))
-      → play_of does (stand n (world u.state u.medium u.cache) true x) (drop r.next bytes) ≡ play_of does (stand l (world s m c) true o) (drop i bytes)
+      → play_of does (stand n (world u.state u.medium u.cache) true x) (drop r.next bytes)
+      ≡ play_of does (stand l (world s m c) true o) (drop i bytes)
   unfolding printed
   step_call u x z t y =
       sym
       (step_ends bytes l i r h e does (world s m c) o f
-      ∙ ap (λ (t : Step World). play_of does (stepped t (world s m c) o) (drop r.next bytes)) (ap (step_by (world s m c)) (sym g) ∙ call_goes (world s m c) call (λ d. z (p ∙ d)))
+      ∙ ap (λ (t : Step World). play_of does (stepped t (world s m c) o) (drop r.next bytes))
+      (ap (step_by (world s m c)) (sym g) ∙ call_goes (world s m c) call (λ d. z (p ∙ d)))
       ∙ simp (← t, ← p, ← y, ← q))
 
   -- of a line that is no query
   pub step_change : (a : Answer) (u : State) (v w x : List ℕ) → (k ≡ 0 → ⊥) → (k ≡ 81 → ⊥)
       → leaves a u v w ≡ change_of call s m c
       → x ≡ o ++ line_text k (answer_number a) (result_of a 0)
-      → play_of does (stand n (world u v w) true x) (drop r.next bytes) ≡ play_of does (stand l (world s m c) true o) (drop i bytes)
+      → play_of does (stand n (world u v w) true x) (drop r.next bytes)
+      ≡ play_of does (stand l (world s m c) true o) (drop i bytes)
   step_change a u v w x z d t y = step_call (leaves a u v w) x z (t ∙ is_change call s m c (λ b. d (p ∙ b))) y
 
   -- of a query
   pub step_query : (a : Answer) (v x : List ℕ) → k ≡ 81
       → reads a v s m c ≡ query_of call s m c
       → x ≡ o ++ line_text k (answer_number a) (result_of a (get_or v 0 0))
-      → play_of does (stand n (world s m c) true x) (drop r.next bytes) ≡ play_of does (stand l (world s m c) true o) (drop i bytes)
+      → play_of does (stand n (world s m c) true x) (drop r.next bytes)
+      ≡ play_of does (stand l (world s m c) true o) (drop i bytes)
   step_query a v x d t y =
       step_call (reads a v s m c) x (λ b. absurd (omega arith)) (t ∙ is_query call s m c (sym p ∙ d)) y

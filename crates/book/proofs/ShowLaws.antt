@@ -25,9 +25,11 @@ shown_number a byte s e = ap (λ (t : Shown). t.refusal) e ∙ shown_refusal (an
 
 pub put_line : (x0 x1 x2 x3 x4 x5 x6 : List ℕ) (letter byte : ℕ) (a : Answer) (s : Shown) → s ≡ shown_of a byte
     → x1 ≡ x0 ++ (letter ∷ []) → x2 ≡ x1 ++ (32 ∷ []) → x3 ≡ x2 ++ decimal s.refusal → x4 ≡ x3 ++ (32 ∷ [])
-    → x5 ≡ x4 ++ result_text (shown_result s) → x6 ≡ x5 ++ (10 ∷ []) → x6 ≡ x0 ++ line_text letter (answer_number a) (result_of a byte)
+    → x5 ≡ x4 ++ result_text (shown_result s) → x6 ≡ x5 ++ (10 ∷ [])
+    → x6 ≡ x0 ++ line_text letter (answer_number a) (result_of a byte)
 unfolding line_text shown_of
 put_line x0 x1 x2 x3 x4 x5 x6 letter byte a s e h1 h2 h3 h4 h5 h6 =
     let r : s.refusal ≡ answer_number a = shown_number a byte s e in
-    let q : shown_result s ≡ result_of a byte = ap shown_result e ∙ shown_result_law (answer_number a) (result_of a byte) in
+    let q : shown_result s ≡ result_of a byte = ap shown_result e
+    ∙ shown_result_law (answer_number a) (result_of a byte) in
     simp (h6, h5, h4, h3, h2, h1, r, q, append_assoc)

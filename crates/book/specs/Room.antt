@@ -3,7 +3,8 @@ use Rattle.std.specs.Prelude.{ℕ, List, [], ◌∷◌, ◌++◌, length, replic
 use Rattle.std.proofs.Math.Option.{Option, none, some}
 use Rattle.fields.specs.Block.{zeros}
 use Rattle.store.specs.declared.Answer.{Answer}
-use Rattle.store.specs.declared.Answer.TheVariants.{Refused, Done, Begun, Written, Committed, Opened, Missing, Erased, Present, Listed}
+use Rattle.store.specs.declared.Answer.TheVariants.{Refused, Done, Begun, Written, Committed, Opened, Missing, Erased}
+use Rattle.store.specs.declared.Answer.TheVariants.{Present, Listed}
 use Rattle.store.specs.declared.State.{State}
 use Rattle.store.specs.Answer.{Outcome, answer_number, leaves}
 use Rattle.store.specs.Begin.{begin_of}
@@ -15,8 +16,8 @@ use Rattle.script.specs.Print.{decimal}
 use Rattle.book.specs.declared.call.Call.{Call}
 use Rattle.book.specs.declared.call.Call.TheVariants.{Begin, Write, Commit, Query, Cut, Other}
 
--- 01: "B clock; W number record byte (sixteen equal bytes); C number clock; Q record time; X (cut, open)": the call that
--- a line makes; L = 4 and D = 2, and a cut leaves the medium only
+-- 01: "B clock; W number record byte (sixteen equal bytes); C number clock; Q record time; X (cut, open)": the call
+-- that a line makes; L = 4 and D = 2, and a cut leaves the medium only
 unfoldable pub outcome_of : Call → State → List ℕ → List ℕ → Outcome
 outcome_of (Begin clock) s m c = begin_of s m c clock
 outcome_of (Write number key byte) s m c = write_of s m c number key (replicate 16 byte)

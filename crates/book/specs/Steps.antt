@@ -19,7 +19,8 @@ pub record World : Type 0 where
 abbrev pub world : State → List ℕ → List ℕ → World
 world s m c = record { state = s; medium = m; cache = c }
 
--- 01: "per line the letter, 0 or the refusal, and a result": the call of a line left this outcome, and its line is printed
+-- 01: "per line the letter, 0 or the refusal, and a result": the call of a line left this outcome, and its line is
+-- printed
 abbrev pub made : Call → Outcome → Step World
 made call o = goes (world o.state o.medium o.cache) (printed call o)
 

@@ -30,7 +30,9 @@ pub fn play(
 ) -> Run
     requires { 44 * length bytes.now ≤ length out.old }
     ensures n_in_bounds { result.n ≤ length out.new }
-    ensures out_after { stand result.line (world (state_of words.new tail.new) medium.new cache.new) result.on (take result.n out.new) ≡ play_of does (stand begun (world (state_of words.old tail.old) medium.old cache.old) true []) bytes.now }
+    ensures out_after { stand result.line (world (state_of words.new tail.new) medium.new cache.new)
+        result.on (take result.n out.new)
+        ≡ play_of does (stand begun (world (state_of words.old tail.old) medium.old cache.old) true []) bytes.now }
 {
     let mut line = begun;
     let mut n: usize = 0;

@@ -76,7 +76,8 @@ fn put_result(out: &mut [u8], n: usize, s: Shown) -> usize
 pub fn put(out: &mut [u8], n: usize, letter: u8, answer: Answer, byte: u8) -> usize
     requires { n + 44 ≤ length out.old }
     ensures upper_bound { result ≤ n + 44 }
-    ensures out_after { take result out.new ≡ take n out.old ++ line_text letter (answer_number answer) (result_of answer byte) }
+    ensures out_after { take result out.new ≡ take n out.old
+        ++ line_text letter (answer_number answer) (result_of answer byte) }
 {
     let s = show(answer, byte);
     let a = print::byte(out, n, letter);
@@ -103,7 +104,8 @@ pub fn letter(call: Call) -> u8
 
 // A power cut, and opening again: state and cache are lost.
 fn cut(words: &mut [u64; 448], tail: &mut [u8; 512], medium: &[u8], cache: &mut [u8]) -> Answer
-    ensures { leaves result (state_of words.new tail.new) medium.now cache.new ≡ open_of medium.now (zeros (length cache.old)) 4 2 }
+    ensures { leaves result (state_of words.new tail.new) medium.now cache.new
+        ≡ open_of medium.now (zeros (length cache.old)) 4 2 }
 {
     fields::block::clear(cache);
     media::open::open(medium, cache, words, tail, 4, 2)
@@ -117,7 +119,8 @@ pub fn change(
     medium: &mut [u8],
     cache: &mut [u8],
 ) -> Answer
-    ensures { leaves result (state_of words.new tail.new) medium.new cache.new ≡ change_of call (state_of words.old tail.old) medium.old cache.old }
+    ensures { leaves result (state_of words.new tail.new) medium.new cache.new
+        ≡ change_of call (state_of words.old tail.old) medium.old cache.old }
 {
     match call {
         Call::Begin(clock) => transactions::begin::begin(words, tail, medium, cache, clock),
@@ -150,7 +153,8 @@ pub fn query(
     medium: &[u8],
     cache: &[u8],
 ) -> Reading
-    ensures { reads result.answer result.value (state_of words.now tail.now) medium.now cache.now ≡ query_of call (state_of words.now tail.now) medium.now cache.now }
+    ensures { reads result.answer result.value (state_of words.now tail.now) medium.now cache.now
+        ≡ query_of call (state_of words.now tail.now) medium.now cache.now }
 {
     match call {
         Call::Begin(_) => nothing(),

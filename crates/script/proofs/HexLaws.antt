@@ -60,7 +60,8 @@ high_short k h (b ∷ u) g =
     high_step k h b u (omega arith) ∙ high_short (k + 1) (16 * h + hex_digit b) u (omega arith)
 
 -- the bytes of a number with digits behind it
-wide_behind : (k j n : ℕ) (w : List ℕ) → all_hex w ≡ true → length w ≡ 2 * k → wide (j + k) (hex_from n w) ≡ wide j n ++ bytes_of w
+wide_behind : (k j n : ℕ) (w : List ℕ) → all_hex w ≡ true → length w ≡ 2 * k
+    → wide (j + k) (hex_from n w) ≡ wide j n ++ bytes_of w
 unfolding wide hex_from bytes_of all_hex
 wide_behind zero j n [] h g =
     let e : j + 0 ≡ j = omega arith in ap (λ (i : ℕ). wide i n) e ∙ sym (append-nil (wide j n))
@@ -68,13 +69,16 @@ wide_behind zero j n (b ∷ w) h g = absurd (omega arith)
 wide_behind (suc k) j n [] h g = absurd (omega arith)
 wide_behind (suc k) j n (a ∷ []) h g = absurd (omega arith)
 wide_behind (suc k) j n (a ∷ (b ∷ w)) h g =
-    let ha : hex_digit a < 16 = ltb-true (hex_digit a) 16 (and_0 (ltb (hex_digit a) 16) (ltb (hex_digit b) 16 && all_hex w) h) in
-    let hr : (ltb (hex_digit b) 16 && all_hex w) ≡ true = and_1 (ltb (hex_digit a) 16) (ltb (hex_digit b) 16 && all_hex w) h in
+    let ha : hex_digit a < 16 = ltb-true (hex_digit a) 16
+    (and_0 (ltb (hex_digit a) 16) (ltb (hex_digit b) 16 && all_hex w) h) in
+    let hr : (ltb (hex_digit b) 16 && all_hex w) ≡ true =
+    and_1 (ltb (hex_digit a) 16) (ltb (hex_digit b) 16 && all_hex w) h in
     let hb : hex_digit b < 16 = ltb-true (hex_digit b) 16 (and_0 (ltb (hex_digit b) 16) (all_hex w) hr) in
     let m : j + suc k ≡ suc j + k = omega arith in
     let d : (16 * (16 * n + hex_digit a) + hex_digit b) / 256 ≡ n = omega arith in
     let r : (16 * (16 * n + hex_digit a) + hex_digit b) % 256 ≡ 16 * hex_digit a + hex_digit b = omega arith in
-    let e = wide_behind k (suc j) (16 * (16 * n + hex_digit a) + hex_digit b) w (and_1 (ltb (hex_digit b) 16) (all_hex w) hr) (omega arith) in
+    let e = wide_behind k (suc j) (16 * (16 * n + hex_digit a) + hex_digit b) w
+    (and_1 (ltb (hex_digit b) 16) (all_hex w) hr) (omega arith) in
     ap (λ (i : ℕ). wide i (hex_from (16 * (16 * n + hex_digit a) + hex_digit b) w)) m ∙ e ∙ simp (d, r, append_assoc)
 
 wide_bytes : (k : ℕ) (w : List ℕ) → all_hex w ≡ true → length w ≡ 2 * k → wide k (hex_from 0 w) ≡ bytes_of w
@@ -116,7 +120,8 @@ two_halves u v h g k =
     ∙ ap (λ (x : List ℕ). bytes_of u ++ x) q
     ∙ sym (bytes_append 8 u v (omega arith))
 
-pub value_start : (w : List ℕ) → all_hex w ≡ true → length w ≡ 32 → wide 8 (fill_high 0 0 w) ++ wide 8 (fill_low 0 0 w) ≡ bytes_of w
+pub value_start : (w : List ℕ) → all_hex w ≡ true → length w ≡ 32
+    → wide 8 (fill_high 0 0 w) ++ wide 8 (fill_low 0 0 w) ≡ bytes_of w
 value_start w h g =
     let s = take-append-drop 16 w in
     let k : length (take 16 w) ≡ 16 = simp length-take (omega arith) in

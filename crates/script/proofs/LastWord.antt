@@ -13,7 +13,8 @@ use lib.Dec.{eqb, ltb, leb}
 use borrow.Author.Tests.{ltb-true, ltb-false, leb-true, leb-false, eqb-true, lt-ltb, le-ltb, le-leb, lt-leb, ne_eqb}
 use Rattle.fields.proofs.Choose.{and_0, and_1, cond_when, bool_case, no}
 use Rattle.script.specs.declared.line.Line.{Line}
-use Rattle.script.specs.Words.{is_in, is_digit, all_digits, value_from, number_of, hex_digit, all_hex, bytes_of, hex_bytes}
+use Rattle.script.specs.Words.{is_in, is_digit, all_digits, value_from, number_of, hex_digit, all_hex, bytes_of}
+use Rattle.script.specs.Words.{hex_bytes}
 use Rattle.script.specs.Form.{Word, word_of}
 use Rattle.script.specs.Reader.{is_number, stays_number, one_more, pushed, with_digit, no_word, wide, last_word}
 use Rattle.script.proofs.HexLaws.{fill_high, fill_low, value_start, byte_start}
@@ -32,12 +33,14 @@ begun k (b ∷ w) = true
 unfoldable pub number_from : Line → List ℕ → Option ℕ
 number_from l w =
     cond l.number
-    (cond (begun l.hexes w) (cond (all_digits w && ltb (value_from l.last w) (2 ^ 64)) (some (value_from l.last w)) none) none) none
+    (cond (begun l.hexes w) (cond (all_digits w && ltb (value_from l.last w) (2 ^ 64)) (some (value_from l.last w))
+    none) none) none
 
 -- n hex digits, and what is made of their two halves
 unfoldable pub hexes_from : ℕ → (ℕ → ℕ → List ℕ) → Line → List ℕ → Option (List ℕ)
 hexes_from n f l w =
-    cond (all_hex w && eqb (l.hexes + length w) n) (some (f (fill_high l.hexes l.high w) (fill_low l.hexes l.low w))) none
+    cond (all_hex w && eqb (l.hexes + length w) n)
+    (some (f (fill_high l.hexes l.high w) (fill_low l.hexes l.low w))) none
 
 abbrev both : ℕ → ℕ → List ℕ
 both h l = wide 8 h ++ wide 8 l
@@ -97,7 +100,8 @@ number_start l [] n h e = simp (n, h)
 number_start l (b ∷ w) n h e = simp (n, e)
 
 module _ (l : Line) (b : ℕ) (w : List ℕ) where
-  number_out : (l.number ≡ true → (all_digits (b ∷ w) && ltb (value_from l.last (b ∷ w)) (2 ^ 64)) ≡ false) → number_from l (b ∷ w) ≡ none
+  number_out : (l.number ≡ true → (all_digits (b ∷ w) && ltb (value_from l.last (b ∷ w)) (2 ^ 64)) ≡ false)
+      → number_from l (b ∷ w) ≡ none
   unfolding number_from
   number_out f = bool_case l.number (λ n. simp (n, f n)) (λ n. simp n)
 
@@ -109,14 +113,16 @@ module _ (l : Line) (b : ℕ) (w : List ℕ) where
   unfolding value_from
   number_large h =
       let g = value_grows (10 * l.last + (b - 48)) w in
-      let e : ltb (value_from (10 * l.last + (b - 48)) w) (2 ^ 64) ≡ false = le-ltb (value_from (10 * l.last + (b - 48)) w) (2 ^ 64) (omega arith) in
+      let e : ltb (value_from (10 * l.last + (b - 48)) w) (2 ^ 64) ≡ false =
+      le-ltb (value_from (10 * l.last + (b - 48)) w) (2 ^ 64) (omega arith) in
       number_out (λ n. simp e (and_false (all_digits (b ∷ w))))
 
   number_none : (g : Line) → g.number ≡ false → number_from g w ≡ none
   unfolding number_from
   number_none g e = simp e
 
-  number_on : (g : Line) → l.number ≡ true → is_digit b ≡ true → g.number ≡ true → (g.hexes ≡ 0 → ⊥) → g.last ≡ 10 * l.last + (b - 48) → number_from l (b ∷ w) ≡ number_from g w
+  number_on : (g : Line) → l.number ≡ true → is_digit b ≡ true → g.number ≡ true → (g.hexes ≡ 0 → ⊥)
+      → g.last ≡ 10 * l.last + (b - 48) → number_from l (b ∷ w) ≡ number_from g w
   unfolding number_from all_digits value_from
   number_on g n t m k e = simp (n, t, m, begun_some g.hexes w k, e)
 
@@ -134,17 +140,21 @@ module _ (l : Line) (b : ℕ) (w : List ℕ) where
       let e : hex_digit b ≡ b - 48 = digit_same b t in
       number_large (omega arith) ∙ sym (number_none (with_digit l (hex_digit b)) (simp (n, digit_below b t, r)))))
       (λ n. number_out (λ m. no (sym n ∙ m)) ∙ sym (number_none (with_digit l (hex_digit b)) (simp n))))
-      (λ t. number_other t ∙ sym (number_none (with_digit l (hex_digit b)) (bool_case l.number (λ n. simp (n, digit_above b t)) (λ n. simp n))))
+      (λ t. number_other t ∙ sym (number_none (with_digit l (hex_digit b))
+      (bool_case l.number (λ n. simp (n, digit_above b t)) (λ n. simp n))))
 
 -- the hex digits
 module _ (n : ℕ) (f : ℕ → ℕ → List ℕ) (l : Line) where
-  hexes_start : (w r : List ℕ) → l.hexes ≡ 0 → l.high ≡ 0 → l.low ≡ 0 → (all_hex w ≡ true → length w ≡ n → f (fill_high 0 0 w) (fill_low 0 0 w) ≡ r)
+  hexes_start : (w r : List ℕ) → l.hexes ≡ 0 → l.high ≡ 0 → l.low ≡ 0
+      → (all_hex w ≡ true → length w ≡ n → f (fill_high 0 0 w) (fill_low 0 0 w) ≡ r)
       → hexes_from n f l w ≡ cond (all_hex w && eqb (length w) n) (some r) none
   unfolding hexes_from
   hexes_start w r k h g e =
       let z : 0 + length w ≡ length w = omega arith in
       simp (k, h, g, z)
-      (cond_when (all_hex w && eqb (length w) n) none (λ t. ap some (e (and_0 (all_hex w) (eqb (length w) n) t) (eqb-true (length w) n (and_1 (all_hex w) (eqb (length w) n) t)))))
+      (cond_when (all_hex w && eqb (length w) n) none
+      (λ t. ap some (e (and_0 (all_hex w) (eqb (length w) n) t)
+      (eqb-true (length w) n (and_1 (all_hex w) (eqb (length w) n) t)))))
 
   hexes_end : hexes_from n f l [] ≡ cond (eqb l.hexes n) (some (f l.high l.low)) none
   unfolding hexes_from all_hex fill_high fill_low
@@ -155,7 +165,9 @@ module _ (n : ℕ) (f : ℕ → ℕ → List ℕ) (l : Line) where
   unfolding hexes_from
   hexes_over w h =
       let z : l.hexes + length w ≡ n → ⊥ = λ e. omega arith in
-      simp (ne_eqb _ _ z) (ap (λ (x : Bool). cond x (some (f (fill_high l.hexes l.high w) (fill_low l.hexes l.low w))) none) (and_false (all_hex w)))
+      simp (ne_eqb _ _ z)
+      (ap (λ (x : Bool). cond x (some (f (fill_high l.hexes l.high w) (fill_low l.hexes l.low w))) none)
+      (and_false (all_hex w)))
 
   hexes_other : (b : ℕ) (w : List ℕ) → ltb (hex_digit b) 16 ≡ false → hexes_from n f l (b ∷ w) ≡ none
   unfolding hexes_from all_hex
@@ -238,13 +250,15 @@ module _ (l : Line) (d : ℕ) (held : Held l) where
   pub digit_held : d < 16 → Held (with_digit l d)
   digit_held g = record { small = last_next; high_small = high_next g; low_small = low_next g }
 
-  hexes_below : (n : ℕ) (f : ℕ → ℕ → List ℕ) (b : ℕ) (w : List ℕ) → d ≡ hex_digit b → ltb d 16 ≡ true → l.hexes < 32 → hexes_from n f l (b ∷ w) ≡ hexes_from n f (with_digit l d) w
+  hexes_below : (n : ℕ) (f : ℕ → ℕ → List ℕ) (b : ℕ) (w : List ℕ) → d ≡ hex_digit b → ltb d 16 ≡ true → l.hexes < 32
+      → hexes_from n f l (b ∷ w) ≡ hexes_from n f (with_digit l d) w
   unfolding hexes_from all_hex fill_high fill_low
   hexes_below n f b w q t h =
       let z : l.hexes + suc (length w) ≡ l.hexes + 1 + length w = omega arith in
       simp (← q, t, more_at h, high_at, low_at h, z)
 
-  hexes_digit : (n : ℕ) (f : ℕ → ℕ → List ℕ) (b : ℕ) (w : List ℕ) → n ≤ 32 → d ≡ hex_digit b → ltb d 16 ≡ true → hexes_from n f l (b ∷ w) ≡ hexes_from n f (with_digit l d) w
+  hexes_digit : (n : ℕ) (f : ℕ → ℕ → List ℕ) (b : ℕ) (w : List ℕ) → n ≤ 32 → d ≡ hex_digit b → ltb d 16 ≡ true
+      → hexes_from n f l (b ∷ w) ≡ hexes_from n f (with_digit l d) w
   hexes_digit n f b w g q t =
       bool_case (leb 32 l.hexes)
       (λ y.
@@ -254,7 +268,8 @@ module _ (l : Line) (d : ℕ) (held : Held l) where
       (λ y. hexes_below n f b w q t (leb-false 32 l.hexes y))
 
 -- the whole word
-pub word_start : (l : Line) (w : List ℕ) → l.number ≡ true → l.hexes ≡ 0 → l.last ≡ 0 → l.high ≡ 0 → l.low ≡ 0 → word_from l w ≡ word_of w
+pub word_start : (l : Line) (w : List ℕ) → l.number ≡ true → l.hexes ≡ 0 → l.last ≡ 0 → l.high ≡ 0 → l.low ≡ 0
+    → word_from l w ≡ word_of w
 unfolding word_from word_of hex_bytes
 word_start l w n k e h g =
     simp (
@@ -263,7 +278,8 @@ word_start l w n k e h g =
       hexes_start 2 first l w (bytes_of w) k h g (byte_start w),
     )
 
-pub word_digit : (l : Line) (b : ℕ) (w : List ℕ) → Held l → ltb (hex_digit b) 16 ≡ true → word_from l (b ∷ w) ≡ word_from (with_digit l (hex_digit b)) w
+pub word_digit : (l : Line) (b : ℕ) (w : List ℕ) → Held l → ltb (hex_digit b) 16 ≡ true
+    → word_from l (b ∷ w) ≡ word_from (with_digit l (hex_digit b)) w
 unfolding word_from
 word_digit l b w held t =
     simp (
@@ -281,7 +297,8 @@ number_gone l b w t =
     absurd (omega arith))
     (λ y. number_other l b w y)
 
-pub word_other : (l : Line) (b : ℕ) (w : List ℕ) → ltb (hex_digit b) 16 ≡ false → word_from l (b ∷ w) ≡ word_from (no_word l) w
+pub word_other : (l : Line) (b : ℕ) (w : List ℕ) → ltb (hex_digit b) 16 ≡ false
+    → word_from l (b ∷ w) ≡ word_from (no_word l) w
 unfolding word_from no_word
 word_other l b w t =
     simp (

@@ -1,5 +1,5 @@
--- Taking the bytes of a line one by one gives the form that the line has by its words: the form of a begun line with the
--- bytes still to come stays the same when one of them is taken.
+-- Taking the bytes of a line one by one gives the form that the line has by its words: the form of a begun line with
+-- the bytes still to come stays the same when one of them is taken.
 use mathlib.Core.Path.{◌≡◌, refl, sym, ap, ◌∙◌}
 use mathlib.Core.Bool.{Bool, true, false, cond}
 use mathlib.Core.Option.{Option, none, some}
@@ -11,12 +11,15 @@ use lib.Dec.{eqb, ltb, leb}
 use borrow.Author.Tests.{ltb-true, leb-true, leb-false, eqb-true, eqb-false, lt-ltb, le-ltb, eq-eqb, ne_eqb}
 use Rattle.script.specs.declared.line.Line.{Line}
 use Rattle.script.specs.Words.{ahead, words_of, is_in, number_of, hex_digit}
-use Rattle.script.specs.Form.{Word, word_of, Form, other, bare, ending, behind, after_letter, is_letter, by_words, limited, form_of}
-use Rattle.script.specs.Reader.{no_line, spoilt, lettered, with_letter, is_number, next_word, with_space, with_digit, no_word, grown, grown_by, done_of, seen_of}
+use Rattle.script.specs.Form.{Word, word_of, Form, other, bare, ending, behind, after_letter, is_letter, by_words}
+use Rattle.script.specs.Form.{limited, form_of}
+use Rattle.script.specs.Reader.{no_line, spoilt, lettered, with_letter, is_number, next_word, with_space, with_digit}
+use Rattle.script.specs.Reader.{no_word, grown, grown_by, done_of, seen_of}
 use Rattle.script.specs.Replay.{replay_of, line_of, meaning_of}
 use Rattle.fields.proofs.Choose.{cond_elim, bool_case, no}
 use Rattle.script.proofs.ReaderLaws.{done_few}
-use Rattle.script.proofs.LastWord.{Held, number_from, word_from, number_start, number_end, word_start, word_digit, word_other, word_end, digit_held}
+use Rattle.script.proofs.LastWord.{Held, number_from, word_from, number_start, number_end, word_start, word_digit}
+use Rattle.script.proofs.LastWord.{word_other, word_end, digit_held}
 
 -- the numbers taken before those that are still to come
 abbrev with_done : Line → Form → Form
@@ -34,7 +37,8 @@ unfoldable rest_of : Line → List ℕ → Form
 rest_of l rs =
     cond l.bad other
     (cond (eqb l.letter 0) (limited (by_words (words_of rs)))
-    (cond (eqb l.count 0) (limited (by_words (ahead l.letter (words_of rs)))) (limited (with_done l (in_word l (words_of rs))))))
+    (cond (eqb l.count 0) (limited (by_words (ahead l.letter (words_of rs))))
+    (limited (with_done l (in_word l (words_of rs))))))
 
 -- what holds of every line that was taken
 record Sound (l : Line) : Type 0 where
@@ -51,11 +55,13 @@ module _ (l : Line) (rs : List ℕ) where
   unfolding rest_of
   rest_none f z = simp (f, z)
 
-  rest_bare : l.bad ≡ false → eqb l.letter 0 ≡ false → eqb l.count 0 ≡ true → rest_of l rs ≡ limited (by_words (ahead l.letter (words_of rs)))
+  rest_bare : l.bad ≡ false → eqb l.letter 0 ≡ false → eqb l.count 0 ≡ true
+      → rest_of l rs ≡ limited (by_words (ahead l.letter (words_of rs)))
   unfolding rest_of
   rest_bare f z k = simp (f, z, k)
 
-  rest_in : l.bad ≡ false → eqb l.letter 0 ≡ false → eqb l.count 0 ≡ false → rest_of l rs ≡ limited (with_done l (in_word l (words_of rs)))
+  rest_in : l.bad ≡ false → eqb l.letter 0 ≡ false → eqb l.count 0 ≡ false
+      → rest_of l rs ≡ limited (with_done l (in_word l (words_of rs)))
   unfolding rest_of
   rest_in f z k = simp (f, z, k)
 
@@ -76,15 +82,18 @@ unfolding words_of
 other_words b rs t = simp t
 
 -- words behind the letter are of another form, or end in a word
-behind_case : (P : Form → Type 0) (k : ℕ) (n : Option ℕ) (f : Form) → ((Q : Form → Type 0) → Q other → ((ns : List ℕ) (x : Word) → Q (ending k ns x)) → Q f)
+behind_case : (P : Form → Type 0) (k : ℕ) (n : Option ℕ) (f : Form)
+    → ((Q : Form → Type 0) → Q other → ((ns : List ℕ) (x : Word) → Q (ending k ns x)) → Q f)
     → P other → ((ns : List ℕ) (x : Word) → P (ending k ns x)) → P (behind n f)
 behind_case P k none f r o e = o
 behind_case P k (some n) f r o e = r (λ g. P (behind (some n) g)) o (λ ns x. e (n ∷ ns) x)
 
-pub after_case : (P : Form → Type 0) (k : ℕ) (v : List ℕ) (vs : List (List ℕ)) → P other → ((ns : List ℕ) (x : Word) → P (ending k ns x)) → P (after_letter k (v ∷ vs))
+pub after_case : (P : Form → Type 0) (k : ℕ) (v : List ℕ) (vs : List (List ℕ)) → P other
+    → ((ns : List ℕ) (x : Word) → P (ending k ns x)) → P (after_letter k (v ∷ vs))
 unfolding after_letter
 after_case P k v [] o e = e [] (word_of v)
-after_case P k v (w ∷ ws) o e = behind_case P k (number_of v) (after_letter k (w ∷ ws)) (λ Q p q. after_case Q k w ws p q) o e
+after_case P k v (w ∷ ws) o e =
+    behind_case P k (number_of v) (after_letter k (w ∷ ws)) (λ Q p q. after_case Q k w ws p q) o e
 
 letter_some : (b : ℕ) → is_letter b ≡ true → b ≡ 0 → ⊥
 unfolding is_letter is_in
@@ -96,12 +105,14 @@ first_not b (x ∷ w) ws t = refl
 
 -- another word begins
 module _ (l : Line) where
-  begin_word : (ws : List (List ℕ)) (v : List ℕ) (vs : List (List ℕ)) → ws ≡ v ∷ vs → in_word (next_word l) ws ≡ after_letter l.letter ws
+  begin_word : (ws : List (List ℕ)) (v : List ℕ) (vs : List (List ℕ)) → ws ≡ v ∷ vs
+      → in_word (next_word l) ws ≡ after_letter l.letter ws
   unfolding after_letter next_word
   begin_word ws v [] e =
       simp e (ap (ending l.letter []) (word_start (next_word l) v refl refl refl refl refl))
   begin_word ws v (w ∷ vs) e =
-      simp e (ap (λ (n : Option ℕ). behind n (after_letter l.letter (w ∷ vs))) (number_start (next_word l) v refl refl refl))
+      simp e (ap (λ (n : Option ℕ). behind n (after_letter l.letter (w ∷ vs)))
+      (number_start (next_word l) v refl refl refl))
 
   done_first : l.count ≡ 0 → (f : Form) → with_done (next_word l) f ≡ f
   unfolding done_of next_word
@@ -114,12 +125,14 @@ module _ (l : Line) where
   done_next ns h = let m : 5 - l.count ≡ suc (5 - (l.count + 1)) = omega arith in simp m
 
   done_later : (v : List ℕ) (vs : List (List ℕ)) → l.count < 5
-      → with_done l (behind (some l.last) (after_letter l.letter (v ∷ vs))) ≡ with_done (next_word l) (after_letter l.letter (v ∷ vs))
+      → with_done l (behind (some l.last) (after_letter l.letter (v ∷ vs)))
+      ≡ with_done (next_word l) (after_letter l.letter (v ∷ vs))
   done_later v vs h =
       after_case (λ f. with_done l (behind (some l.last) f) ≡ with_done (next_word l) f) l.letter v vs refl
       (λ ns x. ap (λ (t : List ℕ). ending l.letter t x) (done_next ns h))
 
-  too_many : (o : Option ℕ) (v : List ℕ) (vs : List (List ℕ)) → 5 ≤ l.count → limited (with_done l (behind o (after_letter l.letter (v ∷ vs)))) ≡ other
+  too_many : (o : Option ℕ) (v : List ℕ) (vs : List (List ℕ)) → 5 ≤ l.count
+      → limited (with_done l (behind o (after_letter l.letter (v ∷ vs)))) ≡ other
   unfolding limited done_of
   too_many none v vs h = refl
   too_many (some n) v vs h =
@@ -142,7 +155,8 @@ module _ (l : Line) (b : ℕ) (rs : List ℕ) (sound : Sound l) (fine : l.bad �
       ∙ sym (spoils (simp (t, z)))
 
   -- a space behind the letter
-  by_bare : eqb b 32 ≡ true → eqb l.letter 0 ≡ false → eqb l.count 0 ≡ true → rest_of l (b ∷ rs) ≡ rest_of (grown l b) rs
+  by_bare : eqb b 32 ≡ true → eqb l.letter 0 ≡ false → eqb l.count 0 ≡ true
+      → rest_of l (b ∷ rs) ≡ rest_of (grown l b) rs
   unfolding grown with_space next_word
   by_bare t z k =
       let k0 : l.count ≡ 0 = eqb-true l.count 0 k in
@@ -153,16 +167,19 @@ module _ (l : Line) (b : ℕ) (rs : List ℕ) (sound : Sound l) (fine : l.bad �
       rest_bare l (b ∷ rs) fine z k
       ∙ ap (λ (x : List (List ℕ)). limited (by_words (ahead l.letter x))) (space_words b rs t)
       ∙ ap (λ (x : Bool). limited (cond x (after_letter l.letter (words_of rs)) other)) y
-      ∙ ap limited (sym (begin_word l (words_of rs) v vs w) ∙ sym (done_first l k0 (in_word (next_word l) (words_of rs))))
+      ∙ ap limited (sym (begin_word l (words_of rs) v vs w)
+      ∙ sym (done_first l k0 (in_word (next_word l) (words_of rs))))
       ∙ sym (rest_in (next_word l) rs fine z (ne_eqb _ _ p))
       ∙ ap (λ (x : Line). rest_of x rs) (sym e))
 
   -- a space behind a word
-  in_space : eqb b 32 ≡ true → eqb l.letter 0 ≡ false → eqb l.count 0 ≡ false → rest_of l (b ∷ rs) ≡ limited (with_done l (in_word l ([] ∷ words_of rs)))
+  in_space : eqb b 32 ≡ true → eqb l.letter 0 ≡ false → eqb l.count 0 ≡ false
+      → rest_of l (b ∷ rs) ≡ limited (with_done l (in_word l ([] ∷ words_of rs)))
   in_space t z k =
       rest_in l (b ∷ rs) fine z k ∙ ap (λ (x : List (List ℕ)). limited (with_done l (in_word l x))) (space_words b rs t)
 
-  by_space : eqb b 32 ≡ true → eqb l.letter 0 ≡ false → eqb l.count 0 ≡ false → rest_of l (b ∷ rs) ≡ rest_of (grown l b) rs
+  by_space : eqb b 32 ≡ true → eqb l.letter 0 ≡ false → eqb l.count 0 ≡ false
+      → rest_of l (b ∷ rs) ≡ rest_of (grown l b) rs
   unfolding grown with_space next_word limited
   by_space t z k =
       words_some rs (λ v vs w.
@@ -194,11 +211,14 @@ module _ (l : Line) (b : ℕ) (rs : List ℕ) (sound : Sound l) (fine : l.bad �
       ∙ bool_case (is_letter b)
       (λ y.
       let e : grown l b ≡ lettered l b = simp (t, z, y) in
-      sym (rest_bare (lettered l b) rs fine (ne_eqb _ _ (letter_some b y)) (eq-eqb _ _ (sound.none_before (eqb-true l.letter 0 z))))
+      sym (rest_bare (lettered l b) rs fine (ne_eqb _ _ (letter_some b y))
+      (eq-eqb _ _ (sound.none_before (eqb-true l.letter 0 z))))
       ∙ ap (λ (x : Line). rest_of x rs) (sym e))
-      (λ y. words_some rs (λ w ws e. ap (λ (x : List (List ℕ)). limited (by_words (ahead b x))) e ∙ ap limited (first_not b w ws y) ∙ sym (spoils (simp (t, z, y)))))
+      (λ y. words_some rs (λ w ws e. ap (λ (x : List (List ℕ)). limited (by_words (ahead b x))) e
+      ∙ ap limited (first_not b w ws y) ∙ sym (spoils (simp (t, z, y)))))
 
-  by_second : eqb b 32 ≡ false → eqb l.letter 0 ≡ false → eqb l.count 0 ≡ true → rest_of l (b ∷ rs) ≡ rest_of (grown l b) rs
+  by_second : eqb b 32 ≡ false → eqb l.letter 0 ≡ false → eqb l.count 0 ≡ true
+      → rest_of l (b ∷ rs) ≡ rest_of (grown l b) rs
   unfolding grown limited
   by_second t z k =
       words_some rs (λ w ws e.
@@ -208,14 +228,17 @@ module _ (l : Line) (b : ℕ) (rs : List ℕ) (sound : Sound l) (fine : l.bad �
       ∙ sym (spoils (simp (t, z, k))))
 
   -- a byte of a word
-  word_goes : (g : Line) → g.letter ≡ l.letter → ((w : List ℕ) → word_from l (b ∷ w) ≡ word_from g w) → (ws : List (List ℕ)) (v : List ℕ) (vs : List (List ℕ)) → ws ≡ v ∷ vs → in_word l (ahead b ws) ≡ in_word g ws
+  word_goes : (g : Line) → g.letter ≡ l.letter → ((w : List ℕ) → word_from l (b ∷ w) ≡ word_from g w)
+      → (ws : List (List ℕ)) (v : List ℕ) (vs : List (List ℕ)) → ws ≡ v ∷ vs → in_word l (ahead b ws) ≡ in_word g ws
   unfolding word_from
   word_goes g k f ws v [] e = simp (e, k) (ap (ending l.letter []) (f v))
   word_goes g k f ws v (w ∷ vs) e =
       simp (e, k) (ap (λ (x : Word). behind x.number (after_letter l.letter (w ∷ vs))) (f v))
 
-  in_goes : (g : Line) → grown l b ≡ g → g.bad ≡ false → g.letter ≡ l.letter → g.count ≡ l.count → ((f : Form) → with_done l f ≡ with_done g f)
-      → ((w : List ℕ) → word_from l (b ∷ w) ≡ word_from g w) → eqb b 32 ≡ false → eqb l.letter 0 ≡ false → eqb l.count 0 ≡ false
+  in_goes : (g : Line) → grown l b ≡ g → g.bad ≡ false → g.letter ≡ l.letter → g.count ≡ l.count
+      → ((f : Form) → with_done l f ≡ with_done g f)
+      → ((w : List ℕ) → word_from l (b ∷ w) ≡ word_from g w) → eqb b 32 ≡ false → eqb l.letter 0 ≡ false
+      → eqb l.count 0 ≡ false
       → rest_of l (b ∷ rs) ≡ rest_of (grown l b) rs
   in_goes g e f h i d w t z k =
       words_some rs (λ v vs q.
@@ -238,11 +261,13 @@ module _ (l : Line) (b : ℕ) (rs : List ℕ) (sound : Sound l) (fine : l.bad �
   other_done (bare k) = refl
   other_done (ending k ns w) = refl
 
-  by_word : eqb b 32 ≡ false → eqb l.letter 0 ≡ false → eqb l.count 0 ≡ false → rest_of l (b ∷ rs) ≡ rest_of (grown l b) rs
+  by_word : eqb b 32 ≡ false → eqb l.letter 0 ≡ false → eqb l.count 0 ≡ false
+      → rest_of l (b ∷ rs) ≡ rest_of (grown l b) rs
   unfolding grown with_digit no_word
   by_word t z k =
       bool_case (ltb (hex_digit b) 16)
-      (λ d. in_goes (with_digit l (hex_digit b)) (simp (t, z, k, d)) fine refl refl digit_done (λ w. word_digit l b w sound.held d) t z k)
+      (λ d. in_goes (with_digit l (hex_digit b)) (simp (t, z, k, d)) fine refl refl digit_done
+      (λ w. word_digit l b w sound.held d) t z k)
       (λ d. in_goes (no_word l) (simp (t, z, k, d)) fine refl refl other_done (λ w. word_other l b w d) t z k)
 
   fine_step : rest_of l (b ∷ rs) ≡ rest_of (grown l b) rs
@@ -254,8 +279,10 @@ module _ (l : Line) (b : ℕ) (rs : List ℕ) (sound : Sound l) (fine : l.bad �
       (λ z. bool_case (eqb l.count 0) (λ k. by_second t z k) (λ k. by_word t z k)))
 
 -- what holds of the lines that a byte can make
-grown_case : (P : Line → Type 0) (l : Line) (b : ℕ) → P (spoilt l) → (eqb l.letter 0 ≡ false → P (next_word l)) → (eqb l.letter 0 ≡ true → P (with_letter l b))
-    → (eqb l.letter 0 ≡ false → ltb (hex_digit b) 16 ≡ true → P (with_digit l (hex_digit b))) → (eqb l.letter 0 ≡ false → P (no_word l)) → P (grown l b)
+grown_case : (P : Line → Type 0) (l : Line) (b : ℕ) → P (spoilt l) → (eqb l.letter 0 ≡ false → P (next_word l))
+    → (eqb l.letter 0 ≡ true → P (with_letter l b))
+    → (eqb l.letter 0 ≡ false → ltb (hex_digit b) 16 ≡ true → P (with_digit l (hex_digit b)))
+    → (eqb l.letter 0 ≡ false → P (no_word l)) → P (grown l b)
 unfolding grown with_space
 grown_case P l b s n w d o =
     cond_elim P (eqb b 32)
@@ -265,19 +292,25 @@ grown_case P l b s n w d o =
     (λ t. cond_elim P (eqb l.letter 0) (λ z. w z)
     (λ z. cond_elim P (eqb l.count 0) (λ k. s) (λ k. cond_elim P (ltb (hex_digit b) 16) (λ y. d z y) (λ y. o z))))
 
-letter_case : (P : Line → Type 0) (l : Line) (b : ℕ) → P (spoilt l) → (is_letter b ≡ true → P (lettered l b)) → P (with_letter l b)
+letter_case : (P : Line → Type 0) (l : Line) (b : ℕ) → P (spoilt l) → (is_letter b ≡ true → P (lettered l b))
+    → P (with_letter l b)
 unfolding with_letter lettered
 letter_case P l b s f = cond_elim P (is_letter b) f (λ y. s)
 
 grown_bad : (l : Line) (b : ℕ) → l.bad ≡ true → (grown l b).bad ≡ true
 unfolding spoilt next_word lettered with_digit no_word
 grown_bad l b f =
-    grown_case (λ g. g.bad ≡ true) l b refl (λ z. f) (λ z. letter_case (λ g. g.bad ≡ true) l b refl (λ y. f)) (λ z d. f) (λ z. f)
+    grown_case (λ g. g.bad ≡ true) l b refl (λ z. f) (λ z. letter_case (λ g. g.bad ≡ true) l b refl (λ y. f))
+    (λ z d. f) (λ z. f)
 
 grown_sound : (l : Line) (b : ℕ) → Sound l → Sound (grown l b)
 unfolding spoilt next_word lettered no_word with_digit
 grown_sound l b s =
-    let spoils : Sound (spoilt l) = record { none_before = s.none_before; lettered = s.lettered; held = same (spoilt l) refl refl refl refl refl } in
+    let spoils : Sound (spoilt l) = record {
+      none_before = s.none_before;
+      lettered = s.lettered;
+      held = same (spoilt l) refl refl refl refl refl;
+    } in
     grown_case Sound l b spoils
     (λ z. record {
       none_before = λ e. absurd (eqb-false l.letter 0 z e);
@@ -297,10 +330,12 @@ grown_sound l b s =
     (λ z. record {
       none_before = λ e. absurd (eqb-false l.letter 0 z e);
       lettered = s.lettered;
-      held = record { small = λ n. no n; high_small = λ h. absurd (omega arith); low_small = λ h. absurd (omega arith) };
+      held =
+          record { small = λ n. no n; high_small = λ h. absurd (omega arith); low_small = λ h. absurd (omega arith) };
     })
   where
-    same : (g : Line) → g.number ≡ l.number → g.last ≡ l.last → g.hexes ≡ l.hexes → g.high ≡ l.high → g.low ≡ l.low → Held g
+    same : (g : Line) → g.number ≡ l.number → g.last ≡ l.last → g.hexes ≡ l.hexes → g.high ≡ l.high
+        → g.low ≡ l.low → Held g
     same g n a k h w = record {
       small = λ m. simp a (s.held.small (sym n ∙ m));
       high_small = λ m. simp (k, h) (s.held.high_small (simp k at m));

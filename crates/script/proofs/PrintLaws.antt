@@ -30,7 +30,8 @@ bytes_turn l o t n i h g e =
     ∙ append_assoc (take n o) (take i t) (get_or t i 0 ∷ [])
     ∙ ap (λ (k : List ℕ). take n o ++ k) (sym (ap (λ (k : ℕ). take k t) (add-one i) ∙ take-suc t i 0 g))
 
-pub bytes_end : (l o t : List ℕ) (n i : ℕ) → length t ≤ i → take (n + i) l ≡ take n o ++ take i t → take (n + i) l ≡ take n o ++ t
+pub bytes_end : (l o t : List ℕ) (n i : ℕ) → length t ≤ i → take (n + i) l ≡ take n o ++ take i t
+    → take (n + i) l ≡ take n o ++ t
 bytes_end l o t n i h e = e ∙ ap (λ (k : List ℕ). take n o ++ k) (take_all i t h)
 
 -- the fewest digits are the decimal ones
@@ -84,11 +85,14 @@ unfolding hex_of
 hex_append [] b = refl
 hex_append (x ∷ a) b = ap (λ (t : List ℕ). hex_digit_ascii (x / 16) ∷ (hex_digit_ascii (x % 16) ∷ t)) (hex_append a b)
 
-pub hex_turn : (x y z o t : List ℕ) (i h l : ℕ) → i < length t → x ≡ o ++ hex_of (take i t) → y ≡ x ++ (h ∷ []) → z ≡ y ++ (l ∷ [])
-    → h ≡ hex_digit_ascii (get_or t i 0 / 16) → l ≡ hex_digit_ascii (get_or t i 0 % 16) → z ≡ o ++ hex_of (take (i + 1) t)
+pub hex_turn : (x y z o t : List ℕ) (i h l : ℕ) → i < length t → x ≡ o ++ hex_of (take i t) → y ≡ x ++ (h ∷ [])
+    → z ≡ y ++ (l ∷ [])
+    → h ≡ hex_digit_ascii (get_or t i 0 / 16) → l ≡ hex_digit_ascii (get_or t i 0 % 16)
+    → z ≡ o ++ hex_of (take (i + 1) t)
 unfolding hex_of
 hex_turn x y z o t i h l g e f k p q =
-    let m : take (i + 1) t ≡ take i t ++ (get_or t i 0 ∷ []) = ap (λ (n : ℕ). take n t) (add-one i) ∙ take-suc t i 0 g in
+    let m : take (i + 1) t ≡ take i t ++ (get_or t i 0 ∷ []) =
+    ap (λ (n : ℕ). take n t) (add-one i) ∙ take-suc t i 0 g in
     simp (m, hex_append, k, f, e, p, q, append_assoc)
 
 pub hex_end : (x o t : List ℕ) (i : ℕ) → length t ≤ i → x ≡ o ++ hex_of (take i t) → x ≡ o ++ hex_of t

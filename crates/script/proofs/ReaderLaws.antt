@@ -11,7 +11,8 @@ use Rattle.script.specs.Form.{other, bare, ending}
 use Rattle.script.specs.Reader.{done_of, last_word, seen_of}
 
 module _ (l : Line) where
-  pub done_at : (k : ℕ) (ns : List ℕ) → 5 - l.count ≡ k → done_of l ns ≡ drop k (l.fifth ∷ (l.fourth ∷ (l.third ∷ (l.second ∷ ns))))
+  pub done_at : (k : ℕ) (ns : List ℕ) → 5 - l.count ≡ k → done_of l ns
+      ≡ drop k (l.fifth ∷ (l.fourth ∷ (l.third ∷ (l.second ∷ ns))))
   unfolding done_of
   done_at k ns e = ap (λ (n : ℕ). drop n (l.fifth ∷ (l.fourth ∷ (l.third ∷ (l.second ∷ ns))))) e
 
@@ -46,6 +47,7 @@ module _ (l : Line) where
   unfolding seen_of
   seen_bare b h e = simp (b, ne_eqb _ _ h, eq-eqb _ _ e)
 
-  pub seen_words : l.bad ≡ false → (l.letter ≡ 0 → ⊥) → (l.count ≡ 0 → ⊥) → seen_of l ≡ ending l.letter (done_of l []) (last_word l)
+  pub seen_words : l.bad ≡ false → (l.letter ≡ 0 → ⊥) → (l.count ≡ 0 → ⊥)
+      → seen_of l ≡ ending l.letter (done_of l []) (last_word l)
   unfolding seen_of
   seen_words b h e = simp (b, ne_eqb _ _ h, ne_eqb _ _ e)

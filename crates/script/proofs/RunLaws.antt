@@ -9,7 +9,8 @@ use borrow.Author.Tests.{eqb-true}
 use Rattle.script.specs.declared.line.Line.{Line}
 use Rattle.script.specs.Words.{ahead, lines_of}
 use Rattle.script.specs.Reader.{no_line, grown, grown_by}
-use Rattle.script.specs.Run.{Step, stops, goes, followed, prints_from, Stand, stand, stepped, turned, play_of, finished, written, over_reads, joined_reads}
+use Rattle.script.specs.Run.{Step, stops, goes, followed, prints_from, Stand, stand, stepped, turned, play_of, finished}
+use Rattle.script.specs.Run.{written, over_reads, joined_reads}
 use Rattle.fields.proofs.Choose.{bool_case}
 
 -- bytes in front of lines
@@ -47,7 +48,8 @@ module _ {W : Type 0} (does : W → Line → Step W) where
   stepped_behind stops w o x = refl
   stepped_behind (goes v y) w o x = ap (λ (z : List ℕ). stand no_line v true z) (append_assoc o x y)
 
-  cond_behind : (b : Bool) (o : List ℕ) (x y u v : Stand W) → u ≡ behind o x → v ≡ behind o y → cond b u v ≡ behind o (cond b x y)
+  cond_behind : (b : Bool) (o : List ℕ) (x y u v : Stand W) → u ≡ behind o x → v ≡ behind o y
+      → cond b u v ≡ behind o (cond b x y)
   cond_behind true o x y u v p q = p
   cond_behind false o x y u v p q = q
 
@@ -82,7 +84,8 @@ module _ {W : Type 0} (does : W → Line → Step W) where
   play_append t [] b = refl
   play_append t (x ∷ a) b = play_append (turned does t x) a b
 
-  one_read : (t : Stand W) (a b : List ℕ) → finished does (play_of does t (a ++ b)) ≡ (play_of does t a).out ++ finished does (play_of does (written (play_of does t a)) b)
+  one_read : (t : Stand W) (a b : List ℕ) → finished does (play_of does t (a ++ b))
+      ≡ (play_of does t a).out ++ finished does (play_of does (written (play_of does t a)) b)
   one_read t a b =
       ap (finished does)
       (play_append t a b
@@ -90,16 +93,19 @@ module _ {W : Type 0} (does : W → Line → Step W) where
       ∙ play_behind (play_of does t a).out (written (play_of does t a)) b)
       ∙ finished_behind (play_of does t a).out (play_of does (written (play_of does t a)) b)
 
-  over_reads_law : (ps : List (List ℕ)) (t : Stand W) → over_reads does t ps ≡ finished does (play_of does t (joined_reads ps))
+  over_reads_law : (ps : List (List ℕ)) (t : Stand W) → over_reads does t ps
+      ≡ finished does (play_of does t (joined_reads ps))
   unfolding over_reads joined_reads play_of
   over_reads_law [] t = refl
   over_reads_law (p ∷ ps) t =
-      ap (λ (x : List ℕ). (play_of does t p).out ++ x) (over_reads_law ps (written (play_of does t p))) ∙ sym (one_read t p (joined_reads ps))
+      ap (λ (x : List ℕ). (play_of does t p).out ++ x) (over_reads_law ps (written (play_of does t p)))
+      ∙ sym (one_read t p (joined_reads ps))
 
   module _ (says : W → List ℕ → Step W) (same : (w : W) (bs : List ℕ) → does w (grown_by no_line bs) ≡ says w bs)
       (idle : (w : W) (l : Line) → l.letter ≡ 0 → does w l ≡ stops) where
     from_start : (rs : List ℕ) (w : W) (o : List ℕ)
-        → ((p : List ℕ) → finished does (play_of does (stand (grown_by no_line p) w true o) rs) ≡ o ++ prints_from says w (prepend p (lines_of rs)))
+        → ((p : List ℕ) → finished does (play_of does (stand (grown_by no_line p) w true o) rs)
+        ≡ o ++ prints_from says w (prepend p (lines_of rs)))
         → finished does (play_of does (stand no_line w true o) rs) ≡ o ++ prints_from says w (lines_of rs)
     unfolding grown_by
     from_start rs w o f = f [] ∙ ap (λ (ls : List (List ℕ)). o ++ prints_from says w ls) (prepend_none (lines_of rs))
@@ -111,13 +117,16 @@ module _ {W : Type 0} (does : W → Line → Step W) where
     last_line (goes v x) w o = ap (λ (t : List ℕ). o ++ t) (sym (append-nil x))
 
     -- lines come behind it
-    next_line : (s : Step W) (w : W) (o rs : List ℕ) → ((v : W) (x : List ℕ) → finished does (play_of does (stand no_line v true x) rs) ≡ x ++ prints_from says v (lines_of rs))
+    next_line : (s : Step W) (w : W) (o rs : List ℕ)
+        → ((v : W) (x : List ℕ) → finished does (play_of does (stand no_line v true x) rs)
+        ≡ x ++ prints_from says v (lines_of rs))
         → finished does (play_of does (stepped s w o) rs) ≡ o ++ followed s (λ v. prints_from says v (lines_of rs))
     unfolding finished
     next_line stops w o rs ih = ap (finished does) (play_off no_line w o rs) ∙ sym (append-nil o)
     next_line (goes v x) w o rs ih = ih v (o ++ x) ∙ append_assoc o x (prints_from says v (lines_of rs))
 
-    ends : (p : List ℕ) (w : W) (o : List ℕ) → finished does (stand (grown_by no_line p) w true o) ≡ o ++ prints_from says w (prepend p [])
+    ends : (p : List ℕ) (w : W) (o : List ℕ) → finished does (stand (grown_by no_line p) w true o)
+        ≡ o ++ prints_from says w (prepend p [])
     unfolding finished turned prints_from grown_by no_line
     ends [] w o = sym (append-nil o)
     ends (b ∷ p) w o =
@@ -130,7 +139,9 @@ module _ {W : Type 0} (does : W → Line → Step W) where
         (λ z. simp z (last_line (does w l) w o ∙ ap (λ (s : Step W). o ++ followed s (λ v. [])) (same w (b ∷ p))))
 
     -- the bytes p of a line were taken, and the bytes rs come
-    from_here : (rs p : List ℕ) (w : W) (o : List ℕ) → finished does (play_of does (stand (grown_by no_line p) w true o) rs) ≡ o ++ prints_from says w (prepend p (lines_of rs))
+    from_here : (rs p : List ℕ) (w : W) (o : List ℕ)
+        → finished does (play_of does (stand (grown_by no_line p) w true o) rs)
+        ≡ o ++ prints_from says w (prepend p (lines_of rs))
     unfolding play_of turned lines_of prints_from
     from_here [] p w o = ends p w o
     from_here (b ∷ rs) p w o =
@@ -138,15 +149,18 @@ module _ {W : Type 0} (does : W → Line → Step W) where
         (λ t.
         simp t
         (next_line (does w (grown_by no_line p)) w o rs (λ v x. from_start rs v x (λ q. from_here rs q v x))
-        ∙ ap (λ (s : Step W). o ++ followed s (λ v. prints_from says v (lines_of rs))) (same w p ∙ ap (says w) (sym (append-nil p)))))
+        ∙ ap (λ (s : Step W). o ++ followed s (λ v. prints_from says v (lines_of rs)))
+        (same w p ∙ ap (says w) (sym (append-nil p)))))
         (λ t.
         simp t
         (ap (λ (l : Line). finished does (play_of does (stand l w true o) rs)) (sym (grown_snoc no_line p b))
         ∙ from_here rs (p ++ (b ∷ [])) w o
         ∙ ap (λ (ls : List (List ℕ)). o ++ prints_from says w ls) (prepend_ahead p b (lines_of rs))))
 
-    pub whole : (input : List ℕ) (w : W) → finished does (play_of does (stand no_line w true []) input) ≡ prints_from says w (lines_of input)
+    pub whole : (input : List ℕ) (w : W) → finished does (play_of does (stand no_line w true []) input)
+        ≡ prints_from says w (lines_of input)
     whole input w = from_start input w [] (λ q. from_here input q w [])
 
-    pub whole_reads : (ps : List (List ℕ)) (w : W) → over_reads does (stand no_line w true []) ps ≡ prints_from says w (lines_of (joined_reads ps))
+    pub whole_reads : (ps : List (List ℕ)) (w : W) → over_reads does (stand no_line w true []) ps
+        ≡ prints_from says w (lines_of (joined_reads ps))
     whole_reads ps w = over_reads_law ps (stand no_line w true []) ∙ whole (joined_reads ps) w

@@ -1,6 +1,7 @@
 -- A line of which the first bytes were taken, as a program keeps it: what another byte makes of it, and its form if it
 -- ends here.
-use Rattle.std.specs.Prelude.{ℕ, zero, suc, ◌+◌, ◌-◌, ◌*◌, ◌/◌, ◌%◌, ◌^◌, Bool, true, false, cond, List, [], ◌∷◌, ◌++◌, drop, eqb, ltb, leb}
+use Rattle.std.specs.Prelude.{ℕ, zero, suc, ◌+◌, ◌-◌, ◌*◌, ◌/◌, ◌%◌, ◌^◌, Bool, true, false, cond, List, [], ◌∷◌, ◌++◌}
+use Rattle.std.specs.Prelude.{drop, eqb, ltb, leb}
 use Rattle.std.proofs.Math.Option.{none, some}
 use Rattle.script.specs.declared.line.Line.{Line}
 use Rattle.script.specs.declared.line.Taken.{Taken}
@@ -102,8 +103,8 @@ one_more n = cond (leb 32 n) 33 (n + 1)
 unfoldable pub pushed : ℕ → ℕ → ℕ
 pushed n d = n % 2 ^ 60 * 16 + d
 
--- replay: "numbers decimal", "hex digits": a digit behind the last word goes to the number that it is in decimal, and to
--- the high half of its hex digits if it is one of the first sixteen, else to the low half
+-- replay: "numbers decimal", "hex digits": a digit behind the last word goes to the number that it is in decimal, and
+-- to the high half of its hex digits if it is one of the first sixteen, else to the low half
 unfoldable pub with_digit : Line → ℕ → Line
 with_digit l d = record {
   letter = l.letter;

@@ -3,7 +3,9 @@ use Rattle.std.specs.Prelude.{ℕ, cond, List, [], ◌∷◌, eqb, ltb}
 use Rattle.std.proofs.Math.Option.{Option, none, some}
 use Rattle.fields.specs.Block.{zeros}
 use Rattle.script.specs.declared.call.Call.{Call}
-use Rattle.script.specs.declared.call.Call.TheVariants.{Format, Open, OpenSized, Cut, Begin, Write, Erase, Read, Commit, Abort, Hand, AsOf, Changes, StoreLog, StorePage, Checkpoint, Block, Page, Poke, Other}
+use Rattle.script.specs.declared.call.Call.TheVariants.{Format, Open, OpenSized, Cut, Begin, Write, Erase, Read, Commit}
+use Rattle.script.specs.declared.call.Call.TheVariants.{Abort, Hand, AsOf, Changes, StoreLog, StorePage, Checkpoint}
+use Rattle.script.specs.declared.call.Call.TheVariants.{Block, Page, Poke, Other}
 use Rattle.script.specs.declared.call.Asked.{Asked}
 use Rattle.script.specs.declared.line.Line.{Line}
 use Rattle.script.specs.Form.{Word, Form, other, bare, ending, form_of}

@@ -1,7 +1,8 @@
 // What a line of `replay` asks for.
 ghost use Rattle.std.specs.Prelude.{◌≡◌, ◌++◌, ◌≤◌};
 ghost use Rattle.script.specs.Reader.{wide, last_word};
-ghost use Rattle.script.specs.Replay.{plain as Replay·plain, wordless as Replay·wordless, one_number, two_numbers, two_words, write_by, four_numbers, five_numbers, many_words, meaning_of};
+ghost use Rattle.script.specs.Replay.{plain as Replay·plain, wordless as Replay·wordless, one_number, two_numbers};
+ghost use Rattle.script.specs.Replay.{two_words, write_by, four_numbers, five_numbers, many_words, meaning_of};
 
 use crate::line;
 use crate::line::Line;

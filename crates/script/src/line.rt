@@ -1,13 +1,14 @@
-// A line of a script, taken byte by byte: a letter, then words, each behind one space. All words but the last are decimal
-// numbers; the last is read as a decimal number and as hex digits side by side.
+// A line of a script, taken byte by byte: a letter, then words, each behind one space. All words but the last are
+// decimal numbers; the last is read as a decimal number and as hex digits side by side.
 ghost use Rattle.std.specs.Prelude.{◌≡◌, ◌+◌, ◌*◌, ◌<◌, ◌≤◌, ◌^◌, length, drop, cond, ltb};
 ghost use Rattle.script.specs.Words.{is_in, hex_digit};
 ghost use Rattle.script.specs.Form.{is_letter};
-ghost use Rattle.script.specs.Reader.{no_line, spoilt as Reader·spoilt, with_letter, is_number, next_word, with_space, stays_number, one_more, pushed, with_digit, no_word, grown, take_of};
+ghost use Rattle.script.specs.Reader.{no_line, spoilt as Reader·spoilt, with_letter, is_number, next_word, with_space};
+ghost use Rattle.script.specs.Reader.{stays_number, one_more, pushed, with_digit, no_word, grown, take_of};
 
 // What was taken of a line: its letter (0: none yet), how many words were begun behind it, the four numbers before the
-// last word, the last word's number, whether the word is all digits and below 2^64, its hex digits counted (33: too many,
-// or another byte), the first sixteen of them and the others, and whether the line is of another form already.
+// last word, the last word's number, whether the word is all digits and below 2^64, its hex digits counted (33: too
+// many, or another byte), the first sixteen of them and the others, and whether the line is of another form already.
 #[derive(Clone, Copy)]
 pub struct Line {
     pub letter: u8,

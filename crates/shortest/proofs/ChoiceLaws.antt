@@ -100,7 +100,8 @@ module _ (f : List Bool) (i : ℕ) (h : i < length f) where
     unfolding picked
     pick_yes d e = rw (add-one, drop-cons f i false h, drop-cons xs i d k, e)
 
-    pub pick_no : A → get_or f i false ≡ false → picked (drop i f) (drop i xs) ≡ picked (drop (i + 1) f) (drop (i + 1) xs)
+    pub pick_no : A → get_or f i false ≡ false → picked (drop i f) (drop i xs)
+        ≡ picked (drop (i + 1) f) (drop (i + 1) xs)
     unfolding picked
     pick_no d e = rw (add-one, drop-cons f i false h, drop-cons xs i d k, e)
 

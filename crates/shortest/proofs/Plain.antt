@@ -45,7 +45,8 @@ module _ (ls : List (List ℕ)) (m : ℕ) (len : length ls ≡ suc m) where
 
   alike : (j : ℕ) → ends_as m (calls_of ls) j ≡ true → EndsAlike ls (numbers 0 (chosen_of m j))
   unfolding ends_as EndsAlike
-  alike j e = ap end_of (chosen_calls j) ∙ eqb-true (end_of (picked (chosen_of m j) (calls_of ls))) (end_of (calls_of ls)) e
+  alike j e =
+      ap end_of (chosen_calls j) ∙ eqb-true (end_of (picked (chosen_of m j) (calls_of ls))) (end_of (calls_of ls)) e
 
   passes : (j : ℕ) → EndsAlike ls (numbers 0 (chosen_of m j)) → ends_as m (calls_of ls) j ≡ true
   unfolding ends_as EndsAlike
@@ -87,7 +88,8 @@ module _ (ls : List (List ℕ)) (m : ℕ) (len : length ls ≡ suc m) where
         rw w.2 at (order (shortest_of m (calls_of ls)) w.0 w.1 (found.least w.0 w.1 p));
   }
 
-alike_is : (ls : List (List ℕ)) (ns : List ℕ) → EndsAlike ls ns → end_of (calls_of (lines_at ls ns)) ≡ end_of (calls_of ls)
+alike_is : (ls : List (List ℕ)) (ns : List ℕ) → EndsAlike ls ns
+    → end_of (calls_of (lines_at ls ns)) ≡ end_of (calls_of ls)
 unfolding EndsAlike
 alike_is ls ns e = e
 
@@ -169,7 +171,8 @@ choice_shown input ns h r =
     let z : EndShown (picked c ls) = (last_letter (picked c ls), y.result, y.others, y.is) in rw e at z
 
 -- stripbook shows the same last line for both
-same_shown : (input : List ℕ) → Shortenable input → ShownAlike (end_of (calls_of (script input))) input (prints_of input)
+same_shown : (input : List ℕ) → Shortenable input
+    → ShownAlike (end_of (calls_of (script input))) input (prints_of input)
 unfolding ShownAlike prints_of book_prints_of end_of
 same_shown input s =
     let ls = script input in

@@ -66,7 +66,8 @@ best_same : (s t : ℕ → ℕ) (p q : ℕ → Bool) → ((i : ℕ) → s i ≡ 
 unfolding best_from better_of
 best_same s t p q f g best j zero = refl
 best_same s t p q f g best j (suc k) =
-    ap (λ (x : ℕ). best_from s p x (j + 1) k) (rw (f j, f best, g j)) ∙ best_same s t p q f g (better_of t q best j) (j + 1) k
+    ap (λ (x : ℕ). best_from s p x (j + 1) k) (rw (f j, f best, g j))
+    ∙ best_same s t p q f g (better_of t q best j) (j + 1) k
 
 -- the script stands in front of the lines
 front : (ls : List (List ℕ)) → (rest : List (List ℕ)) × (ls ≡ script_of ls ++ rest)

@@ -19,7 +19,8 @@ fn make(
     medium: &mut [u8],
     cache: &mut [u8],
 ) -> u64
-    ensures { made (world (state_of words.new tail.new) medium.new cache.new) result ≡ made_of (world (state_of words.old tail.old) medium.old cache.old) call }
+    ensures { made (world (state_of words.new tail.new) medium.new cache.new) result
+        ≡ made_of (world (state_of words.old tail.old) medium.old cache.old) call }
 {
     if room::letter(call) == b'Q' {
         let reading = room::query(call, words, tail, medium, cache);
@@ -42,7 +43,9 @@ fn make_if(
     medium: &mut [u8],
     cache: &mut [u8],
 ) -> u64
-    ensures { made (world (state_of words.new tail.new) medium.new cache.new) result ≡ cond chosen (made_of (world (state_of words.old tail.old) medium.old cache.old) call) (made (world (state_of words.old tail.old) medium.old cache.old) last) }
+    ensures { made (world (state_of words.new tail.new) medium.new cache.new) result
+        ≡ cond chosen (made_of (world (state_of words.old tail.old) medium.old cache.old) call)
+        (made (world (state_of words.old tail.old) medium.old cache.old) last) }
 {
     if !chosen {
         return last;

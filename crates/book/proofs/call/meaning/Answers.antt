@@ -18,20 +18,27 @@ returns-then-line-eq0-2 c =
 
 pub returns-then-not-is_number : goal.returns-then-not-is_number
 returns-then-not-is_number c =
-    sym (word_call _ c.if-line.false c.if-line-eq0.false c.if-line-eq0-2.false c.is_number.result c.is_number.ensures c.if-not-is_number.true)
+    sym (word_call _ c.if-line.false c.if-line-eq0.false c.if-line-eq0-2.false c.is_number.result c.is_number.ensures
+    c.if-not-is_number.true)
 
 pub returns-then-line-eq1 : goal.returns-then-line-eq1
 returns-then-line-eq1 c =
-    c.one_number.ensures ∙ sym (number_call _ c.if-line.false c.if-line-eq0.false c.if-line-eq0-2.false c.is_number.result c.is_number.ensures c.if-not-is_number.false [] (done_1 _ c.if-line-eq1.true))
+    c.one_number.ensures ∙ sym (number_call _ c.if-line.false c.if-line-eq0.false c.if-line-eq0-2.false
+    c.is_number.result c.is_number.ensures c.if-not-is_number.false [] (done_1 _ c.if-line-eq1.true))
 
 pub returns-then-line-eq2 : goal.returns-then-line-eq2
 returns-then-line-eq2 c =
-    c.two_numbers.ensures ∙ sym (number_call _ c.if-line.false c.if-line-eq0.false c.if-line-eq0-2.false c.is_number.result c.is_number.ensures c.if-not-is_number.false (c.args.line.second ∷ []) (done_2 _ c.if-line-eq2.true))
+    c.two_numbers.ensures ∙ sym (number_call _ c.if-line.false c.if-line-eq0.false c.if-line-eq0-2.false
+    c.is_number.result c.is_number.ensures c.if-not-is_number.false (c.args.line.second ∷ [])
+    (done_2 _ c.if-line-eq2.true))
 
 pub returns-then-line-eq3 : goal.returns-then-line-eq3
 returns-then-line-eq3 c =
-    c.three_numbers.ensures ∙ sym (number_call _ c.if-line.false c.if-line-eq0.false c.if-line-eq0-2.false c.is_number.result c.is_number.ensures c.if-not-is_number.false (c.args.line.third ∷ (c.args.line.second ∷ [])) (done_3 _ c.if-line-eq3.true))
+    c.three_numbers.ensures ∙ sym (number_call _ c.if-line.false c.if-line-eq0.false c.if-line-eq0-2.false
+    c.is_number.result c.is_number.ensures c.if-not-is_number.false
+    (c.args.line.third ∷ (c.args.line.second ∷ [])) (done_3 _ c.if-line-eq3.true))
 
 pub returns : goal.returns
 returns c =
-    sym (many_call _ c.if-line.false c.if-line-eq0.false c.if-line-eq0-2.false c.is_number.result c.is_number.ensures c.if-not-is_number.false (omega arith))
+    sym (many_call _ c.if-line.false c.if-line-eq0.false c.if-line-eq0-2.false c.is_number.result c.is_number.ensures
+    c.if-not-is_number.false (omega arith))

@@ -1,5 +1,5 @@
--- Invariant: what is still to come, played from here, gives what the whole does from the start. A line prints at most 44
--- bytes and has one byte at least.
+-- Invariant: what is still to come, played from here, gives what the whole does from the start. A line prints at most
+-- 44 bytes and has one byte at least.
 use mathlib.Core.Path.{refl, sym, ap, ◌∙◌}
 use Prim.Native.Nat.{◌<◌, ◌≤◌}
 use native.Mathlib.Omega.{arith}
@@ -30,7 +30,10 @@ pub returns-then-not-taken : goal.returns-then-not-taken
 returns-then-not-taken c =
     record {
       n_in_bounds = omega arith;
-      out_after = sym (step_stop c.args.bytes.now c.loop-i.line c.loop-i.i c.take-taken.result c.loop-i-test.true c.take-taken.ensures does _ _ (not-true c.take-taken.result.ended c.if-not-taken.true)) ∙ c.loop-i.invariant.5;
+      out_after =
+          sym (step_stop c.args.bytes.now c.loop-i.line c.loop-i.i c.take-taken.result c.loop-i-test.true
+          c.take-taken.ensures does _ _ (not-true c.take-taken.result.ended c.if-not-taken.true))
+          ∙ c.loop-i.invariant.5;
     }
 
 pub shape_of-medium-then-letter-eq0 : goal.shape_of-medium-then-letter-eq0
@@ -46,12 +49,17 @@ pub returns-then-letter-eq0 : goal.returns-then-letter-eq0
 returns-then-letter-eq0 c =
     record {
       n_in_bounds = omega arith;
-      out_after = sym (step_other c.args.bytes.now c.loop-i.line c.loop-i.i c.take-taken.result c.loop-i-test.true c.take-taken.ensures (not-false c.take-taken.result.ended c.if-not-taken.false) _ _ _ _ c.meaning-asked.result c.letter-letter.result c.empty-line.result c.meaning-asked.ensures c.letter-letter.ensures c.empty-line.ensures c.if-letter-eq0.true)
+      out_after =
+          sym (step_other c.args.bytes.now c.loop-i.line c.loop-i.i c.take-taken.result c.loop-i-test.true
+          c.take-taken.ensures (not-false c.take-taken.result.ended c.if-not-taken.false) _ _ _ _
+          c.meaning-asked.result c.letter-letter.result c.empty-line.result c.meaning-asked.ensures
+          c.letter-letter.ensures c.empty-line.ensures c.if-letter-eq0.true)
           ∙ c.loop-i.invariant.5;
     }
 
 -- a line that ended was taken from the bytes behind those before it
-on : (c : goal.After-put-arg-then-letter-eq81-1) → (c.loop-i.i < c.take-taken.result.next) × (c.take-taken.result.next ≤ length c.args.bytes.now)
+on : (c : goal.After-put-arg-then-letter-eq81-1) → (c.loop-i.i < c.take-taken.result.next)
+    × (c.take-taken.result.next ≤ length c.args.bytes.now)
 on c =
     step_on c.args.bytes.now c.loop-i.line c.loop-i.i c.take-taken.result c.loop-i-test.true c.take-taken.ensures
 
@@ -59,7 +67,8 @@ pub put-n-requires : goal.put-n-requires
 put-n-requires c = let w = on c in let v = c.loop-i.invariant in omega arith
 
 -- a line that ended was taken from the bytes behind those before it
-on_at_loop_i_smaller_then_letter_eq81 : (c : goal.After-slice_known-then-letter-eq81-1) → (c.loop-i.i < c.take-taken.result.next) × (c.take-taken.result.next ≤ length c.args.bytes.now)
+on_at_loop_i_smaller_then_letter_eq81 : (c : goal.After-slice_known-then-letter-eq81-1)
+    → (c.loop-i.i < c.take-taken.result.next) × (c.take-taken.result.next ≤ length c.args.bytes.now)
 on_at_loop_i_smaller_then_letter_eq81 c =
     step_on c.args.bytes.now c.loop-i.line c.loop-i.i c.take-taken.result c.loop-i-test.true c.take-taken.ensures
 
@@ -75,12 +84,16 @@ loop-i-preserved-then-letter-eq81 c =
       v.2,
       c.out-1.given ∙ v.3,
       omega arith,
-      step_query c.args.bytes.now c.loop-i.line c.loop-i.i c.take-taken.result c.loop-i-test.true c.take-taken.ensures (not-false c.take-taken.result.ended c.if-not-taken.false) _ _ _ _ c.meaning-asked.result c.letter-letter.result c.empty-line.result c.meaning-asked.ensures c.letter-letter.ensures c.empty-line.ensures _ _ _ c.if-letter-eq81.true c.query-reading.ensures c.put-n.ensures.out_after
+      step_query c.args.bytes.now c.loop-i.line c.loop-i.i c.take-taken.result c.loop-i-test.true c.take-taken.ensures
+          (not-false c.take-taken.result.ended c.if-not-taken.false) _ _ _ _ c.meaning-asked.result
+          c.letter-letter.result c.empty-line.result c.meaning-asked.ensures c.letter-letter.ensures
+          c.empty-line.ensures _ _ _ c.if-letter-eq81.true c.query-reading.ensures c.put-n.ensures.out_after
           ∙ v.5,
     )
 
 -- a line that ended was taken from the bytes behind those before it
-on_at_put_n_requires_else_letter_eq81 : (c : goal.After-put-arg-else-letter-eq81-1) → (c.loop-i.i < c.take-taken.result.next) × (c.take-taken.result.next ≤ length c.args.bytes.now)
+on_at_put_n_requires_else_letter_eq81 : (c : goal.After-put-arg-else-letter-eq81-1)
+    → (c.loop-i.i < c.take-taken.result.next) × (c.take-taken.result.next ≤ length c.args.bytes.now)
 on_at_put_n_requires_else_letter_eq81 c =
     step_on c.args.bytes.now c.loop-i.line c.loop-i.i c.take-taken.result c.loop-i-test.true c.take-taken.ensures
 
@@ -89,7 +102,8 @@ put-n-requires-else-letter-eq81 c =
     let w = on_at_put_n_requires_else_letter_eq81 c in let v = c.loop-i.invariant in omega arith
 
 -- a line that ended was taken from the bytes behind those before it
-on_at_loop_i_smaller : (c : goal.After-slice_known-else-letter-eq81-3-1) → (c.loop-i.i < c.take-taken.result.next) × (c.take-taken.result.next ≤ length c.args.bytes.now)
+on_at_loop_i_smaller : (c : goal.After-slice_known-else-letter-eq81-3-1)
+    → (c.loop-i.i < c.take-taken.result.next) × (c.take-taken.result.next ≤ length c.args.bytes.now)
 on_at_loop_i_smaller c =
     step_on c.args.bytes.now c.loop-i.line c.loop-i.i c.take-taken.result c.loop-i-test.true c.take-taken.ensures
 
@@ -105,7 +119,11 @@ loop-i-preserved c =
       c.cache-1.given ∙ v.2,
       c.out-else-letter-eq81-1.given ∙ v.3,
       omega arith,
-      step_change c.args.bytes.now c.loop-i.line c.loop-i.i c.take-taken.result c.loop-i-test.true c.take-taken.ensures (not-false c.take-taken.result.ended c.if-not-taken.false) _ _ _ _ c.meaning-asked.result c.letter-letter.result c.empty-line.result c.meaning-asked.ensures c.letter-letter.ensures c.empty-line.ensures _ _ _ _ _ c.if-letter-eq0.false c.if-letter-eq81.false c.change-answer.ensures c.put-n-else-letter-eq81.ensures.out_after
+      step_change c.args.bytes.now c.loop-i.line c.loop-i.i c.take-taken.result c.loop-i-test.true c.take-taken.ensures
+          (not-false c.take-taken.result.ended c.if-not-taken.false) _ _ _ _ c.meaning-asked.result
+          c.letter-letter.result c.empty-line.result c.meaning-asked.ensures c.letter-letter.ensures
+          c.empty-line.ensures _ _ _ _ _ c.if-letter-eq0.false c.if-letter-eq81.false c.change-answer.ensures
+          c.put-n-else-letter-eq81.ensures.out_after
           ∙ v.5,
     )
 

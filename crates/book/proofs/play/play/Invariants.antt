@@ -1,5 +1,5 @@
--- Invariant: what is still to come, played from here, gives what the whole does from the start. A line prints at most 44
--- bytes and has one byte at least.
+-- Invariant: what is still to come, played from here, gives what the whole does from the start. A line prints at most
+-- 44 bytes and has one byte at least.
 use mathlib.Core.Path.{◌≡◌}
 use mathlib.Core.Bool.{true}
 use mathlib.Core.List.{[]}
@@ -17,7 +17,9 @@ invariant-loop-i l =
     × (length l.cache ≡ length l.initial.cache)
     × (length l.out ≡ length l.initial.out)
     × (l.n + 44 * (length l.bytes - l.i) ≤ length l.out)
-    × (play_of does (stand l.line (world (state_of l.words l.tail) l.medium l.cache) true (take l.n l.out)) (drop l.i l.bytes) ≡ play_of does (stand l.initial.line (world (state_of l.initial.words l.initial.tail) l.initial.medium l.initial.cache) true []) l.bytes)
+    × (play_of does (stand l.line (world (state_of l.words l.tail) l.medium l.cache) true (take l.n l.out))
+    (drop l.i l.bytes) ≡ play_of does (stand l.initial.line
+    (world (state_of l.initial.words l.initial.tail) l.initial.medium l.initial.cache) true []) l.bytes)
 
 abbrev pub decreases-loop-i : goal.decreases-loop-i
 decreases-loop-i l = length l.bytes - l.i

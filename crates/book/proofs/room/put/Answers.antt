@@ -8,5 +8,8 @@ pub returns : goal.returns
 returns c =
     record {
       upper_bound = omega arith;
-      out_after = put_line (take c.args.n c.args.out.now) _ _ _ _ _ _ c.args.letter c.args.byte c.args.answer _ c.show-s.ensures c.byte-a.ensures.out_after c.byte-b.ensures.out_after c.number-c.ensures.out_after c.byte-d.ensures.out_after c.put_result-e.ensures.out_after c.byte.ensures.out_after;
+      out_after =
+          put_line (take c.args.n c.args.out.now) _ _ _ _ _ _ c.args.letter c.args.byte c.args.answer _ c.show-s.ensures
+          c.byte-a.ensures.out_after c.byte-b.ensures.out_after c.number-c.ensures.out_after c.byte-d.ensures.out_after
+          c.put_result-e.ensures.out_after c.byte.ensures.out_after;
     }

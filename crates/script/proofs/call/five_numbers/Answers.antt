@@ -19,9 +19,19 @@ returns-then-line-gt255 c =
 pub returns-then-line-gt255-2 : goal.returns-then-line-gt255-2
 unfolding at_most five_numbers
 returns-then-line-gt255-2 c =
-    simp (eq-eqb _ _ c.if-line-ne72.false, le-ltb _ _ c.if-line-gt65535.false, le-ltb _ _ c.if-line-gt255.false, lt-ltb _ _ c.if-line-gt255-2.true)
+    simp (
+      eq-eqb _ _ c.if-line-ne72.false,
+      le-ltb _ _ c.if-line-gt65535.false,
+      le-ltb _ _ c.if-line-gt255.false,
+      lt-ltb _ _ c.if-line-gt255-2.true,
+    )
 
 pub returns : goal.returns
 unfolding at_most five_numbers
 returns c =
-    simp (eq-eqb _ _ c.if-line-ne72.false, le-ltb _ _ c.if-line-gt65535.false, le-ltb _ _ c.if-line-gt255.false, le-ltb _ _ c.if-line-gt255-2.false)
+    simp (
+      eq-eqb _ _ c.if-line-ne72.false,
+      le-ltb _ _ c.if-line-gt65535.false,
+      le-ltb _ _ c.if-line-gt255.false,
+      le-ltb _ _ c.if-line-gt255-2.false,
+    )

@@ -38,9 +38,21 @@ returns-then-not-is_number c =
 pub returns-then-line-eq4 : goal.returns-then-line-eq4
 unfolding replay_of many_words last_word
 returns-then-line-eq4 c =
-    simp (done_4 c.args.line c.if-line-eq4.true, ← c.is_number.ensures, c.if-not-is_number.false, c.plain-then-line-eq4.ensures, c.four_numbers.ensures)
+    simp (
+      done_4 c.args.line c.if-line-eq4.true,
+      ← c.is_number.ensures,
+      c.if-not-is_number.false,
+      c.plain-then-line-eq4.ensures,
+      c.four_numbers.ensures,
+    )
 
 pub returns : goal.returns
 unfolding replay_of many_words last_word
 returns c =
-    simp (done_5 c.args.line (omega arith), ← c.is_number.ensures, c.if-not-is_number.false, c.plain-2.ensures, c.five_numbers.ensures)
+    simp (
+      done_5 c.args.line (omega arith),
+      ← c.is_number.ensures,
+      c.if-not-is_number.false,
+      c.plain-2.ensures,
+      c.five_numbers.ensures,
+    )

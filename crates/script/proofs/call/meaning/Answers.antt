@@ -16,22 +16,44 @@ returns-then-line-eq0 c =
 pub returns-then-line-eq0-2 : goal.returns-then-line-eq0-2
 unfolding replay_of meaning_of
 returns-then-line-eq0-2 c =
-    simp (seen_bare c.args.line c.if-line.false c.if-line-eq0.false c.if-line-eq0-2.true, c.plain-then-line-eq0-2.ensures, c.wordless.ensures)
+    simp (
+      seen_bare c.args.line c.if-line.false c.if-line-eq0.false c.if-line-eq0-2.true,
+      c.plain-then-line-eq0-2.ensures,
+      c.wordless.ensures,
+    )
 
 pub returns-then-not-is_number : goal.returns-then-not-is_number
 unfolding replay_of meaning_of last_word
 returns-then-not-is_number c =
-    simp (seen_words c.args.line c.if-line.false c.if-line-eq0.false c.if-line-eq0-2.false, done_1 c.args.line c.if-line-eq1.true, ← c.is_number.ensures, c.if-not-is_number.true, c.plain-then-not-is_number.ensures)
+    simp (
+      seen_words c.args.line c.if-line.false c.if-line-eq0.false c.if-line-eq0-2.false,
+      done_1 c.args.line c.if-line-eq1.true,
+      ← c.is_number.ensures,
+      c.if-not-is_number.true,
+      c.plain-then-not-is_number.ensures,
+    )
 
 pub returns-then-line-eq1 : goal.returns-then-line-eq1
 unfolding replay_of meaning_of last_word
 returns-then-line-eq1 c =
-    simp (seen_words c.args.line c.if-line.false c.if-line-eq0.false c.if-line-eq0-2.false, done_1 c.args.line c.if-line-eq1.true, ← c.is_number.ensures, c.if-not-is_number.false, c.plain-then-line-eq1.ensures, c.one_number.ensures)
+    simp (
+      seen_words c.args.line c.if-line.false c.if-line-eq0.false c.if-line-eq0-2.false,
+      done_1 c.args.line c.if-line-eq1.true,
+      ← c.is_number.ensures,
+      c.if-not-is_number.false,
+      c.plain-then-line-eq1.ensures,
+      c.one_number.ensures,
+    )
 
 pub returns-then-line-eq2 : goal.returns-then-line-eq2
 unfolding replay_of meaning_of
 returns-then-line-eq2 c =
-    simp (seen_words c.args.line c.if-line.false c.if-line-eq0.false c.if-line-eq0-2.false, done_2 c.args.line c.if-line-eq2.true, c.plain-then-line-eq2.ensures, c.two_words.ensures)
+    simp (
+      seen_words c.args.line c.if-line.false c.if-line-eq0.false c.if-line-eq0-2.false,
+      done_2 c.args.line c.if-line-eq2.true,
+      c.plain-then-line-eq2.ensures,
+      c.two_words.ensures,
+    )
 
 pub returns : goal.returns
 unfolding many_words meaning_of

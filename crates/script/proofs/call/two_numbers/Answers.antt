@@ -38,4 +38,10 @@ returns-else-a-gt65535 c = simp (c.in-81.is, le-ltb _ _ c.if-a-gt65535.false)
 pub returns-in_default : goal.returns-in_default
 unfolding two_numbers
 returns-in_default c =
-    simp (ne_eqb _ _ c.in_default.in_default-own.rest.1, ne_eqb _ _ c.in_default.in_default-own.rest.0.1, ne_eqb _ _ c.in_default.in_default-own.rest.0.0.1, ne_eqb _ _ c.in_default.in_default-own.rest.0.0.0.1, ne_eqb _ _ c.in_default.in_default-own.rest.0.0.0.0.1)
+    simp (
+      ne_eqb _ _ c.in_default.in_default-own.rest.1,
+      ne_eqb _ _ c.in_default.in_default-own.rest.0.1,
+      ne_eqb _ _ c.in_default.in_default-own.rest.0.0.1,
+      ne_eqb _ _ c.in_default.in_default-own.rest.0.0.0.1,
+      ne_eqb _ _ c.in_default.in_default-own.rest.0.0.0.0.1,
+    )

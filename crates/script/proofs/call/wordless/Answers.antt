@@ -18,4 +18,8 @@ returns-in-75 c = simp c.in-75.is
 pub returns-in_default : goal.returns-in_default
 unfolding wordless
 returns-in_default c =
-    simp (ne_eqb _ _ c.in_default.in_default-own.rest.1, ne_eqb _ _ c.in_default.in_default-own.rest.0.1, ne_eqb _ _ c.in_default.in_default-own.rest.0.0.1)
+    simp (
+      ne_eqb _ _ c.in_default.in_default-own.rest.1,
+      ne_eqb _ _ c.in_default.in_default-own.rest.0.1,
+      ne_eqb _ _ c.in_default.in_default-own.rest.0.0.1,
+    )

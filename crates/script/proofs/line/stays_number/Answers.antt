@@ -13,4 +13,5 @@ returns-then-digit-ge10 c = simp (not-false c.args.line.number c.if-not-line.fal
 
 pub returns : goal.returns
 unfolding stays_number
-returns c = simp (not-false c.args.line.number c.if-not-line.false, lt-ltb _ _ c.if-digit-ge10.false, c.has_room.ensures)
+returns c =
+    simp (not-false c.args.line.number c.if-not-line.false, lt-ltb _ _ c.if-digit-ge10.false, c.has_room.ensures)

@@ -9,7 +9,8 @@ returns-then-b-eq10 c =
 
 pub loop-i-preserved : goal.loop-i-preserved
 loop-i-preserved c =
-    sym (take_on c.args.bytes.now c.loop-i.l c.loop-i.i _ c.loop-i-test.true c.if-b-eq10.false c.with_byte-longer.ensures) ∙ c.loop-i.invariant
+    sym (take_on c.args.bytes.now c.loop-i.l c.loop-i.i _ c.loop-i-test.true c.if-b-eq10.false
+    c.with_byte-longer.ensures) ∙ c.loop-i.invariant
 
 pub returns : goal.returns
 returns c =

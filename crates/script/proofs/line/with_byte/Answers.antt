@@ -14,14 +14,33 @@ returns-then-line-eq0 c = simp (ne_eqb _ _ c.if-b-eq32.false, eq-eqb _ _ c.if-li
 pub returns-then-line-eq0-2 : goal.returns-then-line-eq0-2
 unfolding grown
 returns-then-line-eq0-2 c =
-    simp (ne_eqb _ _ c.if-b-eq32.false, ne_eqb _ _ c.if-line-eq0.false, eq-eqb _ _ c.if-line-eq0-2.true, c.spoilt.ensures)
+    simp (
+      ne_eqb _ _ c.if-b-eq32.false,
+      ne_eqb _ _ c.if-line-eq0.false,
+      eq-eqb _ _ c.if-line-eq0-2.true,
+      c.spoilt.ensures,
+    )
 
 pub returns-then-digit-lt16 : goal.returns-then-digit-lt16
 unfolding grown
 returns-then-digit-lt16 c =
-    simp (ne_eqb _ _ c.if-b-eq32.false, ne_eqb _ _ c.if-line-eq0.false, ne_eqb _ _ c.if-line-eq0-2.false, ← c.hex_digit-digit.ensures, lt-ltb _ _ c.if-digit-lt16.true, c.with_digit.ensures)
+    simp (
+      ne_eqb _ _ c.if-b-eq32.false,
+      ne_eqb _ _ c.if-line-eq0.false,
+      ne_eqb _ _ c.if-line-eq0-2.false,
+      ← c.hex_digit-digit.ensures,
+      lt-ltb _ _ c.if-digit-lt16.true,
+      c.with_digit.ensures,
+    )
 
 pub returns : goal.returns
 unfolding grown
 returns c =
-    simp (ne_eqb _ _ c.if-b-eq32.false, ne_eqb _ _ c.if-line-eq0.false, ne_eqb _ _ c.if-line-eq0-2.false, ← c.hex_digit-digit.ensures, le-ltb _ _ c.if-digit-lt16.false, c.no_word.ensures)
+    simp (
+      ne_eqb _ _ c.if-b-eq32.false,
+      ne_eqb _ _ c.if-line-eq0.false,
+      ne_eqb _ _ c.if-line-eq0-2.false,
+      ← c.hex_digit-digit.ensures,
+      le-ltb _ _ c.if-digit-lt16.false,
+      c.no_word.ensures,
+    )

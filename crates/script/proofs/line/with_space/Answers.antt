@@ -15,14 +15,33 @@ returns-then-line-eq0-2 c =
 pub returns-then-line-ge5 : goal.returns-then-line-ge5
 unfolding with_space
 returns-then-line-ge5 c =
-    simp (ne_eqb _ _ c.if-line-eq0.false, ne_eqb _ _ c.if-line-eq0-2.false, le-leb _ _ c.if-line-ge5.true, c.spoilt-then-line-ge5.ensures)
+    simp (
+      ne_eqb _ _ c.if-line-eq0.false,
+      ne_eqb _ _ c.if-line-eq0-2.false,
+      le-leb _ _ c.if-line-ge5.true,
+      c.spoilt-then-line-ge5.ensures,
+    )
 
 pub returns-then-not-is_number : goal.returns-then-not-is_number
 unfolding with_space
 returns-then-not-is_number c =
-    simp (ne_eqb _ _ c.if-line-eq0.false, ne_eqb _ _ c.if-line-eq0-2.false, lt-leb _ _ c.if-line-ge5.false, ← c.is_number.ensures, c.if-not-is_number.true, c.spoilt-then-not-is_number.ensures)
+    simp (
+      ne_eqb _ _ c.if-line-eq0.false,
+      ne_eqb _ _ c.if-line-eq0-2.false,
+      lt-leb _ _ c.if-line-ge5.false,
+      ← c.is_number.ensures,
+      c.if-not-is_number.true,
+      c.spoilt-then-not-is_number.ensures,
+    )
 
 pub returns : goal.returns
 unfolding with_space
 returns c =
-    simp (ne_eqb _ _ c.if-line-eq0.false, ne_eqb _ _ c.if-line-eq0-2.false, lt-leb _ _ c.if-line-ge5.false, ← c.is_number.ensures, c.if-not-is_number.false, c.next_word-2.ensures)
+    simp (
+      ne_eqb _ _ c.if-line-eq0.false,
+      ne_eqb _ _ c.if-line-eq0-2.false,
+      lt-leb _ _ c.if-line-ge5.false,
+      ← c.is_number.ensures,
+      c.if-not-is_number.false,
+      c.next_word-2.ensures,
+    )

@@ -9,8 +9,11 @@ pub loop-i-init : goal.loop-i-init
 loop-i-init c = (omega arith, refl, bytes_start c.args.out.now c.args.n)
 
 pub loop-i-preserved : goal.loop-i-preserved
-loop-i-preserved c =
-    (omega arith, simp length-set c.loop-i.invariant.1, bytes_turn _ _ c.args.text.now _ c.loop-i.i (omega arith) c.loop-i-test.true c.loop-i.invariant.2)
+loop-i-preserved c = (
+  omega arith,
+  simp length-set c.loop-i.invariant.1,
+  bytes_turn _ _ c.args.text.now _ c.loop-i.i (omega arith) c.loop-i-test.true c.loop-i.invariant.2,
+)
 
 pub shape_of-out : goal.shape_of-out
 shape_of-out c = c.loop-i.invariant.1

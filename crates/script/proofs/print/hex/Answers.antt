@@ -22,7 +22,8 @@ loop-i-preserved c = (
   omega arith,
   omega arith,
   c.out-in-loop-i-1.given ∙ (c.out-1.given ∙ c.loop-i.invariant.2),
-  hex_turn _ _ _ (take c.args.n c.args.out.now) c.args.text.now c.loop-i.i _ _ c.loop-i-test.true c.loop-i.invariant.3 c.byte-high.ensures.out_after c.byte-low.ensures.out_after c.digit.ensures c.digit-in-loop-i.ensures,
+  hex_turn _ _ _ (take c.args.n c.args.out.now) c.args.text.now c.loop-i.i _ _ c.loop-i-test.true c.loop-i.invariant.3
+      c.byte-high.ensures.out_after c.byte-low.ensures.out_after c.digit.ensures c.digit-in-loop-i.ensures,
 )
 
 pub shape_of-out : goal.shape_of-out
@@ -32,5 +33,6 @@ pub returns : goal.returns
 returns c =
     record {
       value = omega arith;
-      out_after = hex_end _ (take c.args.n c.args.out.now) c.args.text.now c.loop-i.i c.loop-i-test.false c.loop-i.invariant.3;
+      out_after =
+          hex_end _ (take c.args.n c.args.out.now) c.args.text.now c.loop-i.i c.loop-i-test.false c.loop-i.invariant.3;
     }

@@ -7,7 +7,8 @@ use Rattle.shortest.proofs.lines.line_end.Given as goal
 
 abbrev pub invariant-loop-i : goal.invariant-loop-i
 invariant-loop-i l =
-    (l.i ≤ length l.bytes) × (l.i + length (line_in (drop l.i l.bytes)) ≡ l.from + length (line_in (drop l.from l.bytes)))
+    (l.i ≤ length l.bytes) × (l.i + length (line_in (drop l.i l.bytes))
+    ≡ l.from + length (line_in (drop l.from l.bytes)))
 
 abbrev pub decreases-loop-i : goal.decreases-loop-i
 decreases-loop-i l = length l.bytes - l.i

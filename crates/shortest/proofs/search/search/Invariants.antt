@@ -8,7 +8,8 @@ use Rattle.shortest.proofs.search.search.Given as goal
 abbrev pub invariant-loop-j : goal.invariant-loop-j
 invariant-loop-j l =
     (l.best < 2 ^ l.m)
-    × (best_from (size_in l.m) (ends_in (calls_in l.lines) l.m l.r) l.best l.j (l.span - l.j) ≡ best_in (calls_in l.lines) l.m l.r)
+    × (best_from (size_in l.m) (ends_in (calls_in l.lines) l.m l.r) l.best l.j (l.span - l.j)
+    ≡ best_in (calls_in l.lines) l.m l.r)
 
 abbrev pub decreases-loop-j : goal.decreases-loop-j
 decreases-loop-j l = l.span - l.j

@@ -31,5 +31,7 @@ returns c =
     record {
       n_in_bounds = c.put-count.ensures.upper_bound;
       long_value = sym (long_not _ c.keep-script.result h l);
-      out_after = prints_are _ c.keep-script.result h c.shortest-flags.result _ n l c.shortest-flags.ensures c.put-count.ensures.out_after;
+      out_after =
+          prints_are _ c.keep-script.result h c.shortest-flags.result _ n l c.shortest-flags.ensures
+          c.put-count.ensures.out_after;
     }
