@@ -61,14 +61,12 @@ fn is_given(rt: &impl Env, i: usize) -> bool {
 
 // How many arguments there are, the program's own name among them; four stands for more, too.
 pub fn count(rt: &impl Env) -> usize {
-    let mut n: usize = 0;
-    while n < 4 {
+    for n in 0..4usize {
         if !is_given(rt, n) {
             return n;
         }
-        n += 1;
     }
-    n
+    4
 }
 
 // Where the exit code goes: 0 for nowhere, 1 where the second argument is no descriptor.
