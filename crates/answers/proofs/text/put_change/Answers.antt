@@ -6,7 +6,7 @@ use Rattle.answers.proofs.TextLaws.{behind_6}
 use Rattle.answers.proofs.text.put_change.Goals as goal
 
 pub overflow_cast-kind : goal.overflow_cast-kind
-overflow_cast-kind c = omega (arith, c.shared_slice_known-2-1.given 8)
+overflow_cast-kind c = omega (arith, c.type_inv.bytes 8)
 
 pub returns : goal.returns
 unfolding change_text

@@ -22,7 +22,7 @@ pub loop-i-preserved : goal.loop-i-preserved
 loop-i-preserved c = (
   omega arith,
   omega arith,
-  c.out-1.given ∙ c.loop-i.invariant.2,
+  c.put_change-next.auto.out ∙ c.loop-i.invariant.2,
   changes_turn c.args.buffer.now _ _ c.loop-i.i (take c.loop-i.end c.loop-i.out) _ c.loop-i-test.true
       (rw (lent_part c.args.buffer.now (32 * c.loop-i.i) 32) at c.put_change-next.ensures.out_after)
       c.loop-i.invariant.3,

@@ -1,9 +1,8 @@
 -- Invariant: what is still to come, played from here, gives what the whole does from the start. A line prints at most
 -- 44 bytes and has one byte at least.
 use mathlib.Core.Path.{refl, sym, ap, ◌∙◌}
-use Prim.Native.Nat.{◌<◌, ◌≤◌}
 use native.Mathlib.Omega.{arith}
-use lib.ListN.{length, drop_of_length-le}
+use lib.ListN.{drop_of_length-le}
 use borrow.Author.Tests.{not-true, not-false}
 use Rattle.script.specs.Run.{play_of}
 use Rattle.script.proofs.TakeLaws.{step_on, step_stop}
@@ -57,32 +56,23 @@ returns-then-letter-eq0 c =
           ∙ c.loop-i.invariant.5;
     }
 
--- a line that ended was taken from the bytes behind those before it
-on : (c : goal.After-put-arg-then-letter-eq81-1) → (c.loop-i.i < c.take-taken.result.next)
-    × (c.take-taken.result.next ≤ length c.args.bytes.now)
-on c =
-    step_on c.args.bytes.now c.loop-i.line c.loop-i.i c.take-taken.result c.loop-i-test.true c.take-taken.ensures
-
 pub put-n-requires : goal.put-n-requires
-put-n-requires c = let w = on c in let v = c.loop-i.invariant in omega arith
-
--- a line that ended was taken from the bytes behind those before it
-on_at_loop_i_smaller_then_letter_eq81 : (c : goal.After-slice_known-then-letter-eq81-1)
-    → (c.loop-i.i < c.take-taken.result.next) × (c.take-taken.result.next ≤ length c.args.bytes.now)
-on_at_loop_i_smaller_then_letter_eq81 c =
-    step_on c.args.bytes.now c.loop-i.line c.loop-i.i c.take-taken.result c.loop-i-test.true c.take-taken.ensures
+put-n-requires c =
+    let w = step_on c.args.bytes.now _ c.loop-i.i c.take-taken.result c.loop-i-test.true c.take-taken.ensures in
+    let v = c.loop-i.invariant in omega arith
 
 pub loop-i-smaller-then-letter-eq81 : goal.loop-i-smaller-then-letter-eq81
-loop-i-smaller-then-letter-eq81 c = let w = on_at_loop_i_smaller_then_letter_eq81 c in omega arith
+loop-i-smaller-then-letter-eq81 c =
+    let w = step_on c.args.bytes.now _ c.loop-i.i c.take-taken.result c.loop-i-test.true c.take-taken.ensures in omega arith
 
 pub loop-i-preserved-then-letter-eq81 : goal.loop-i-preserved-then-letter-eq81
 loop-i-preserved-then-letter-eq81 c =
-    let w = on_at_loop_i_smaller_then_letter_eq81 c in
+    let w = step_on c.args.bytes.now _ c.loop-i.i c.take-taken.result c.loop-i-test.true c.take-taken.ensures in
     let v = c.loop-i.invariant in (
       w.1,
       v.1,
       v.2,
-      c.out-1.given ∙ v.3,
+      c.put-n.auto.out ∙ v.3,
       omega arith,
       step_query c.args.bytes.now c.loop-i.line c.loop-i.i c.take-taken.result c.loop-i-test.true c.take-taken.ensures
           (not-false c.take-taken.result.ended c.if-not-taken.false) _ _ _ _ c.meaning-asked.result
@@ -91,33 +81,23 @@ loop-i-preserved-then-letter-eq81 c =
           ∙ v.5,
     )
 
--- a line that ended was taken from the bytes behind those before it
-on_at_put_n_requires_else_letter_eq81 : (c : goal.After-put-arg-else-letter-eq81-1)
-    → (c.loop-i.i < c.take-taken.result.next) × (c.take-taken.result.next ≤ length c.args.bytes.now)
-on_at_put_n_requires_else_letter_eq81 c =
-    step_on c.args.bytes.now c.loop-i.line c.loop-i.i c.take-taken.result c.loop-i-test.true c.take-taken.ensures
-
 pub put-n-requires-else-letter-eq81 : goal.put-n-requires-else-letter-eq81
 put-n-requires-else-letter-eq81 c =
-    let w = on_at_put_n_requires_else_letter_eq81 c in let v = c.loop-i.invariant in omega arith
-
--- a line that ended was taken from the bytes behind those before it
-on_at_loop_i_smaller : (c : goal.After-slice_known-else-letter-eq81-3-1)
-    → (c.loop-i.i < c.take-taken.result.next) × (c.take-taken.result.next ≤ length c.args.bytes.now)
-on_at_loop_i_smaller c =
-    step_on c.args.bytes.now c.loop-i.line c.loop-i.i c.take-taken.result c.loop-i-test.true c.take-taken.ensures
+    let w = step_on c.args.bytes.now _ c.loop-i.i c.take-taken.result c.loop-i-test.true c.take-taken.ensures in
+    let v = c.loop-i.invariant in omega arith
 
 pub loop-i-smaller : goal.loop-i-smaller
-loop-i-smaller c = let w = on_at_loop_i_smaller c in omega arith
+loop-i-smaller c =
+    let w = step_on c.args.bytes.now _ c.loop-i.i c.take-taken.result c.loop-i-test.true c.take-taken.ensures in omega arith
 
 pub loop-i-preserved : goal.loop-i-preserved
 loop-i-preserved c =
-    let w = on_at_loop_i_smaller c in
+    let w = step_on c.args.bytes.now _ c.loop-i.i c.take-taken.result c.loop-i-test.true c.take-taken.ensures in
     let v = c.loop-i.invariant in (
       w.1,
-      c.medium-1.given ∙ v.1,
-      c.cache-1.given ∙ v.2,
-      c.out-else-letter-eq81-1.given ∙ v.3,
+      c.change-answer.auto.medium ∙ v.1,
+      c.change-answer.auto.cache ∙ v.2,
+      c.put-n-else-letter-eq81.auto.out ∙ v.3,
       omega arith,
       step_change c.args.bytes.now c.loop-i.line c.loop-i.i c.take-taken.result c.loop-i-test.true c.take-taken.ensures
           (not-false c.take-taken.result.ended c.if-not-taken.false) _ _ _ _ c.meaning-asked.result

@@ -11,7 +11,7 @@ differ-requires c = (
     arith,
     c.extent_of-e.ensures.len_bound,
     c.medium_part.ensures.upper_bound,
-    c.medium-1.given,
+    c.step-stepped.auto.medium,
     c.requires.medium_len,
   ),
   omega arith,
@@ -23,7 +23,7 @@ returns c =
     let s = state_of k.words.now k.tail.now in
     let e = c.step-stepped.ensures in
     let x = c.extent_of-e.ensures in
-    let h = c.medium-1.given ∙ c.requires.medium_len in
+    let h = c.step-stepped.auto.medium ∙ c.requires.medium_len in
     record {
       n_bound = e.n_bound;
       out_after = e.out_after;

@@ -1,4 +1,5 @@
 -- Each arm is that of the definition.
+use native.Mathlib.Omega.{arith}
 use borrow.Author.Tests.{lt-ltb, le-ltb, ne_eqb}
 use Rattle.script.specs.Replay.{at_most, one_number}
 use Rattle.script.proofs.call.one_number.Goals as goal
@@ -42,12 +43,13 @@ returns-in-86 c = simp c.in-86.is
 pub returns-in_default : goal.returns-in_default
 unfolding one_number
 returns-in_default c =
+    let k = c.args.letter in
     simp (
-      ne_eqb _ _ c.in_default.in_default-own.rest.1,
-      ne_eqb _ _ c.in_default.in_default-own.rest.0.1,
-      ne_eqb _ _ c.in_default.in_default-own.rest.0.0.1,
-      ne_eqb _ _ c.in_default.in_default-own.rest.0.0.0.1,
-      ne_eqb _ _ c.in_default.in_default-own.rest.0.0.0.0.1,
-      ne_eqb _ _ c.in_default.in_default-own.rest.0.0.0.0.0.1,
-      ne_eqb _ _ c.in_default.in_default-own.rest.0.0.0.0.0.0.1,
+      ne_eqb k 79 (omega arith),
+      ne_eqb k 111 (omega arith),
+      ne_eqb k 66 (omega arith),
+      ne_eqb k 65 (omega arith),
+      ne_eqb k 80 (omega arith),
+      ne_eqb k 77 (omega arith),
+      ne_eqb k 86 (omega arith),
     )

@@ -1,4 +1,5 @@
 -- Each arm is that of the definition.
+use native.Mathlib.Omega.{arith}
 use borrow.Author.Tests.{lt-ltb, le-ltb, ne_eqb}
 use Rattle.script.specs.Replay.{at_most, two_numbers}
 use Rattle.script.proofs.call.two_numbers.Goals as goal
@@ -38,10 +39,11 @@ returns-else-a-gt65535 c = simp (c.in-81.is, le-ltb _ _ c.if-a-gt65535.false)
 pub returns-in_default : goal.returns-in_default
 unfolding two_numbers
 returns-in_default c =
+    let k = c.args.letter in
     simp (
-      ne_eqb _ _ c.in_default.in_default-own.rest.1,
-      ne_eqb _ _ c.in_default.in_default-own.rest.0.1,
-      ne_eqb _ _ c.in_default.in_default-own.rest.0.0.1,
-      ne_eqb _ _ c.in_default.in_default-own.rest.0.0.0.1,
-      ne_eqb _ _ c.in_default.in_default-own.rest.0.0.0.0.1,
+      ne_eqb k 70 (omega arith),
+      ne_eqb k 69 (omega arith),
+      ne_eqb k 82 (omega arith),
+      ne_eqb k 67 (omega arith),
+      ne_eqb k 81 (omega arith),
     )

@@ -1,4 +1,5 @@
 -- Each arm is that of the definition.
+use native.Mathlib.Omega.{arith}
 use borrow.Author.Tests.{ne_eqb}
 use Rattle.script.specs.Replay.{wordless}
 use Rattle.script.proofs.call.wordless.Goals as goal
@@ -18,8 +19,9 @@ returns-in-75 c = simp c.in-75.is
 pub returns-in_default : goal.returns-in_default
 unfolding wordless
 returns-in_default c =
+    let k = c.args.letter in
     simp (
-      ne_eqb _ _ c.in_default.in_default-own.rest.1,
-      ne_eqb _ _ c.in_default.in_default-own.rest.0.1,
-      ne_eqb _ _ c.in_default.in_default-own.rest.0.0.1,
+      ne_eqb k 88 (omega arith),
+      ne_eqb k 83 (omega arith),
+      ne_eqb k 75 (omega arith),
     )

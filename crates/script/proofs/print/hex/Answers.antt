@@ -12,16 +12,16 @@ unfolding hex_of
 loop-i-init c = (omega arith, omega arith, refl, sym (append-nil (take c.args.n c.args.out.now)))
 
 pub digit-requires : goal.digit-requires
-digit-requires c = omega (arith, c.shared_slice_known-in-loop-i-1.given c.loop-i.i)
+digit-requires c = omega (arith, c.type_inv.text c.loop-i.i)
 
 pub digit-requires-in-loop-i : goal.digit-requires-in-loop-i
-digit-requires-in-loop-i c = omega (arith, c.shared_slice_known-in-loop-i-1.given c.loop-i.i)
+digit-requires-in-loop-i c = omega (arith, c.type_inv.text c.loop-i.i)
 
 pub loop-i-preserved : goal.loop-i-preserved
 loop-i-preserved c = (
   omega arith,
   omega arith,
-  c.out-in-loop-i-1.given ∙ (c.out-1.given ∙ c.loop-i.invariant.2),
+  c.byte-low.auto.out ∙ (c.byte-high.auto.out ∙ c.loop-i.invariant.2),
   hex_turn _ _ _ (take c.args.n c.args.out.now) c.args.text.now c.loop-i.i _ _ c.loop-i-test.true c.loop-i.invariant.3
       c.byte-high.ensures.out_after c.byte-low.ensures.out_after c.digit.ensures c.digit-in-loop-i.ensures,
 )

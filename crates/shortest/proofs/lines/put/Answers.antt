@@ -33,7 +33,7 @@ loop-i-preserved c =
     let p = c.put_line-next.ensures.upper_bound in (
       omega arith,
       h.1,
-      c.out-1.given ∙ h.2,
+      c.put_line-next.auto.out ∙ h.2,
       omega arith,
       omega arith,
       put_turn a.flags a.bytes.now _ c.loop-i.i c.loop-i.at c.line_end-end.result (omega arith)

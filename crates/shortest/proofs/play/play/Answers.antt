@@ -22,8 +22,8 @@ loop-i-preserved c =
       omega arith,
       h.1,
       h.2,
-      c.medium-in-loop-i-2-1.given,
-      c.cache-in-loop-i-2-1.given,
+      c.make_if-next.auto.medium ∙ h.3,
+      c.make_if-next.auto.cache ∙ h.4,
       play_turn a.flags a.lines c.loop-i.i _ (omega arith) (omega arith) _ _ _ _ _ refl
           c.make_if-next.ensures ∙ h.5,
     )
