@@ -68,7 +68,17 @@ fn play_all(
         if !r.on {
             return r;
         }
-        let next = play_out(output, r, &bytes[i..], words, tail, medium, cache, buffer, out);
+        let next = play_out(
+            output,
+            r,
+            &bytes[i..],
+            words,
+            tail,
+            medium,
+            cache,
+            buffer,
+            out,
+        );
         i += next.next;
         r = next;
     }
