@@ -1,4 +1,4 @@
--- The answers of the C library are signed: what a test of the sign, and a cast where it is not negative, say of one.
+-- The answers of the system's calls are signed: what a test of the sign, and a cast where it is not negative, say of one.
 use mathlib.Core.Path.{◌≡◌, refl, sym, ◌∙◌, subst}
 use mathlib.Core.Bool.{true, false, cond}
 use Prim.Native.Nat.{ℕ, zero, suc, ◌≤◌, ◌<◌}

@@ -1,4 +1,4 @@
-// A medium in a file: the system's calls on an open file, each made once. Their contracts tell what a call may answer, not
+// A medium in a file: std's calls on an open file. Their contracts tell what a call may answer, not
 // which bytes it reads or writes or what the disk then holds. So the statements here are about the answers: which outcome
 // each of them leads to.
 #![tactic(auto)]

@@ -57,7 +57,7 @@ pub fn run(
     requires valid { Valid from }
     requires pages_bound { (pages ≤ 64) × (length cache.old ≡ 512 * pages) }
     requires from_value { slots_below pages (rest_of medium.now blocks from) ≡ true }
-    ensures value { (result ≡ redo_ok (record { cache = cache.entry.now; first = first_of words.old }) (rest_of medium.now blocks from)) × (result ≡ true → record { cache = cache.exit.now; first = first_of words.new } ≡ redo (record { cache = cache.entry.now; first = first_of words.old }) (rest_of medium.now blocks from)) }
+    ensures value { (result ≡ redo_ok (record { cache = cache.old; first = first_of words.old }) (rest_of medium.now blocks from)) × (result ≡ true → record { cache = cache.new; first = first_of words.new } ≡ redo (record { cache = cache.old; first = first_of words.old }) (rest_of medium.now blocks from)) }
     ensures by_index { (tail : List ℕ) → state_of words.new tail ≡ with_first (state_of words.old tail) (first_of words.new) }
 {
     let mut c = from;

@@ -40,19 +40,19 @@ pub record Again (l d : ℕ) (es : List Event) (e : Event) (fs : List Event) (e'
   pub run : Run l d ((es ++ (e ∷ fs)) ++ (e' ∷ []))
   pub first : Accepted l d es e
 
--- 02, #102: "an as_of answer must survive a cut": a later read is answered, with the strip of the first
+-- 02, #102: "an as-of answer must survive a cut": a later read is answered, with the strip of the first
 pub record SameStrip (first later : Observation) : Type 0 where
   pub answered : later.refusal ≡ 0
   pub strip : later.strip ≡ first.strip
 
--- 02, #102: "an as_of answer must survive a cut": a later list, into a buffer of length `room`, is answered if there is
+-- 02, #102: "an as-of answer must survive a cut": a later list, into a buffer of length `room`, is answered if there is
 -- room for the lines of the first, 32 bytes each; it then has these lines, as many and byte for byte
 pub record SameLines (room : ℕ) (first later : Observation) : Type 0 where
   pub answered : 32 * first.result ≤ room → later.refusal ≡ 0
   pub count : later.refusal ≡ 0 → later.result ≡ first.result
   pub lines : later.refusal ≡ 0 → take (32 * first.result) later.buffer ≡ take (32 * first.result) first.buffer
 
--- 02, #102: "an as_of answer must survive a cut": if a read as of t is answered, so is every later read of the same
+-- 02, #102: "an as-of answer must survive a cut": if a read as of t is answered, so is every later read of the same
 -- record as of t, whatever comes between, and it gives the same strip
 unfoldable pub StableReads : Type 0
 StableReads =
