@@ -63,7 +63,8 @@ put-n-requires c =
 
 pub loop-i-smaller-then-letter-eq81 : goal.loop-i-smaller-then-letter-eq81
 loop-i-smaller-then-letter-eq81 c =
-    let w = step_on c.args.bytes.now _ c.loop-i.i c.take-taken.result c.loop-i-test.true c.take-taken.ensures in omega arith
+    let w = step_on c.args.bytes.now _ c.loop-i.i c.take-taken.result c.loop-i-test.true c.take-taken.ensures in
+    omega arith
 
 pub loop-i-preserved-then-letter-eq81 : goal.loop-i-preserved-then-letter-eq81
 loop-i-preserved-then-letter-eq81 c =
@@ -88,7 +89,8 @@ put-n-requires-else-letter-eq81 c =
 
 pub loop-i-smaller : goal.loop-i-smaller
 loop-i-smaller c =
-    let w = step_on c.args.bytes.now _ c.loop-i.i c.take-taken.result c.loop-i-test.true c.take-taken.ensures in omega arith
+    let w = step_on c.args.bytes.now _ c.loop-i.i c.take-taken.result c.loop-i-test.true c.take-taken.ensures in
+    omega arith
 
 pub loop-i-preserved : goal.loop-i-preserved
 loop-i-preserved c =
