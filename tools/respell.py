@@ -139,9 +139,6 @@ def main(argv):
         for path, olds in sorted(places):
             print(f"look: {path}: {', '.join(sorted(olds))} would all read {new}")
     print(f"{len(table)} names turn")
-    with open("/tmp/respell.tsv", "w") as f:
-        for a, b in sorted(table.items()):
-            f.write(f"{a}\t{b}\n")
 
     def turned(piece, leave, steps=False):
         """steps: the text is a function's proof, where a name with a dash behind a dot is Rattle's name of a step."""

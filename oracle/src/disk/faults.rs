@@ -8,6 +8,7 @@ use crate::disk::unfit::{medium, modelled, place};
 use crate::disk::{locks, stores, unfit};
 use crate::store::layout::*;
 use std::ffi::OsStr;
+use std::os::unix::ffi::OsStrExt;
 use std::os::unix::fs::{symlink, MetadataExt, PermissionsExt};
 use std::path::Path;
 use std::process::Command;
@@ -54,6 +55,7 @@ fn all(launch: &mut Launch, damaged: u64) -> Result<u64, String> {
         + lengths(launch)?
         + not_read(launch)?
         + names(launch)?
+        + no_text(launch)?
         + unfit::files(launch, damaged)?
         + unfit::scripts(launch, 5 * damaged)?
         + stores::failing(launch)?)
@@ -263,6 +265,23 @@ fn names(launch: &Launch) -> Result<u64, String> {
         }
     }
     Ok(names.len() as u64)
+}
+
+/// A name that is no UTF-8 text is no file's for the program: it makes none, and leaves one of that name alone.
+fn no_text(launch: &Launch) -> Result<u64, String> {
+    let folder = Folder::new(&launch.setup.disk.0)?;
+    let path = folder.0.join(OsStr::from_bytes(b"room \xff"));
+    refused(launch, &path, NO_ACCESS)?;
+    if path.exists() {
+        return Err("a name that is no text: a file was made".into());
+    }
+    let bytes = medium(5).medium;
+    place(&path, Some(&bytes))?;
+    refused(launch, &path, NO_ACCESS)?;
+    match std::fs::read(&path).ok() == Some(bytes) {
+        true => Ok(2),
+        false => Err("a name that is no text: the refusal changed the file".into()),
+    }
 }
 
 /// Modes of a file and its folder, as nobody.
