@@ -83,7 +83,9 @@ impl Arguments {
 }
 
 fn main() -> ExitCode {
-    let mut words = std::env::args().skip(1);
+    // a word that is no text has the replacement character in it
+    let words = std::env::args_os().skip(1);
+    let mut words = words.map(|word| word.to_string_lossy().into_owned());
     let command = words.next().unwrap_or_default();
     let arguments = Arguments(words.collect());
     if command == "striproom" {

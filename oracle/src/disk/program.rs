@@ -118,6 +118,10 @@ impl Program {
     }
 
     fn load<R: Rules>(&mut self) -> Result<RoomOf<R>, Trouble> {
+        // A name that is no text is no file's; `main` reads words so that it has this character.
+        if self.path.to_string_lossy().contains(char::REPLACEMENT_CHARACTER) {
+            return Err(NO_ACCESS);
+        }
         let mut options = OpenOptions::new();
         options.read(true).write(true);
         options.create(self.is(Spoilt::MadeAtStart));
