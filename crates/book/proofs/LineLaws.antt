@@ -1,8 +1,8 @@
 -- A line of numbers alone: its form closes with the last of them, so that the numbers of the form are those of the
 -- words. No letter of the script takes four numbers or more, and another byte takes none.
+use Rattle.std.specs.Prelude.{Option, None, Some}
 use mathlib.Core.Path.{◌≡◌, refl, sym, ap, ◌∙◌}
 use mathlib.Core.Bool.{Bool, true, false}
-use mathlib.Core.Option.{Option, none, some}
 use mathlib.Core.List.{List, [], ◌∷◌, ◌++◌}
 use Prim.Native.Nat.{ℕ, suc, ◌≤◌, ◌<◌}
 use native.Mathlib.Omega.{arith}
@@ -68,23 +68,23 @@ three_not k a b n h =
 
 -- the numbers of a form
 abbrev numbers_in : Form → Option (List ℕ)
-numbers_in other = none
-numbers_in (bare k) = some []
+numbers_in other = None
+numbers_in (bare k) = Some []
 numbers_in (ending k ns w) = closed ns w.number
 
-closed_one : (o : Option ℕ) → closed [] o ≡ joined o (some [])
-closed_one none = refl
-closed_one (some n) = refl
+closed_one : (o : Option ℕ) → closed [] o ≡ joined o (Some [])
+closed_one None = refl
+closed_one (Some n) = refl
 
-closed_more : (n : ℕ) (ns : List ℕ) (o : Option ℕ) → closed (n ∷ ns) o ≡ joined (some n) (closed ns o)
-closed_more n ns none = refl
-closed_more n ns (some m) = refl
+closed_more : (n : ℕ) (ns : List ℕ) (o : Option ℕ) → closed (n ∷ ns) o ≡ joined (Some n) (closed ns o)
+closed_more n ns None = refl
+closed_more n ns (Some m) = refl
 
 behind_numbers : (o : Option ℕ) (k : ℕ) (v : List ℕ) (vs : List (List ℕ))
     → numbers_in (behind o (after_letter k (v ∷ vs))) ≡ joined o (numbers_in (after_letter k (v ∷ vs)))
-behind_numbers none k v vs = refl
-behind_numbers (some n) k v vs =
-    after_case (λ f. numbers_in (behind (some n) f) ≡ joined (some n) (numbers_in f)) k v vs refl
+behind_numbers None k v vs = refl
+behind_numbers (Some n) k v vs =
+    after_case (λ f. numbers_in (behind (Some n) f) ≡ joined (Some n) (numbers_in f)) k v vs refl
     (λ ns x. closed_more n ns x.number)
 
 after_numbers : (k : ℕ) (ws : List (List ℕ)) → numbers_in (after_letter k ws) ≡ numbers_of ws
@@ -102,8 +102,8 @@ form_call_law k (v ∷ vs) = after_case (λ f. form_call f ≡ call_if k (number
 
 -- no letter takes more than three numbers
 many_closed : (k a b c d : ℕ) (ns : List ℕ) (o : Option ℕ) → call_if k (closed (a ∷ (b ∷ (c ∷ (d ∷ ns)))) o) ≡ Other
-many_closed k a b c d ns none = refl
-many_closed k a b c d ns (some n) = four k a b c d (ns ++ (n ∷ []))
+many_closed k a b c d ns None = refl
+many_closed k a b c d ns (Some n) = four k a b c d (ns ++ (n ∷ []))
 
 limited_call : (f : Form) → form_call (limited f) ≡ form_call f
 unfolding form_call limited
@@ -119,8 +119,8 @@ limited_call (ending k (a ∷ (b ∷ (c ∷ (d ∷ (e ∷ ns))))) w) =
     simp (lt-ltb _ _ h) (sym (many_closed k a b c d (e ∷ ns) w.number))
 
 not_call : (k : ℕ) (o : Option (List ℕ)) → is_letter k ≡ false → call_if k o ≡ Other
-not_call k none t = refl
-not_call k (some ns) t = not_letter k ns t
+not_call k None t = refl
+not_call k (Some ns) t = not_letter k ns t
 
 words_call : (ws : List (List ℕ)) → form_call (form_by ws) ≡ by_words ws
 unfolding form_call

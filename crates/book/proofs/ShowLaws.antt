@@ -1,6 +1,6 @@
 -- What a call shows is printed part by part, each behind the one before.
+use Rattle.std.specs.Prelude.{Option, None, Some}
 use mathlib.Core.Path.{◌≡◌, refl, ap, ◌∙◌}
-use mathlib.Core.Option.{Option, none, some}
 use mathlib.Core.List.{List, [], ◌∷◌, ◌++◌, append_assoc}
 use Prim.Native.Nat.{ℕ}
 use Rattle.store.specs.declared.Answer.{Answer}
@@ -11,13 +11,13 @@ use Rattle.book.specs.Room.{result_of, result_text, line_text}
 use Rattle.book.specs.Show.{shown_if, shown_of, shown_result}
 
 shown_refusal : (r : ℕ) (o : Option ℕ) → (shown_if r o).refusal ≡ r
-shown_refusal r none = refl
-shown_refusal r (some n) = refl
+shown_refusal r None = refl
+shown_refusal r (Some n) = refl
 
 shown_result_law : (r : ℕ) (o : Option ℕ) → shown_result (shown_if r o) ≡ o
 unfolding shown_result
-shown_result_law r none = refl
-shown_result_law r (some n) = refl
+shown_result_law r None = refl
+shown_result_law r (Some n) = refl
 
 pub shown_number : (a : Answer) (byte : ℕ) (s : Shown) → s ≡ shown_of a byte → s.refusal ≡ answer_number a
 unfolding shown_of

@@ -1,6 +1,5 @@
 -- What a line of `stripbook` means: from its bytes, without the newline, to the call that it asks for.
-use Rattle.std.specs.Prelude.{ℕ, cond, List, [], ◌∷◌, ◌++◌, eqb, ltb}
-use Rattle.std.proofs.Math.Option.{Option, none, some}
+use Rattle.std.specs.Prelude.{ℕ, cond, List, [], ◌∷◌, ◌++◌, eqb, ltb, Option, None, Some}
 use Rattle.script.specs.declared.line.Line.{Line}
 use Rattle.script.specs.Words.{words_of, numbers_of}
 use Rattle.script.specs.Form.{Form, other, bare, ending}
@@ -58,8 +57,8 @@ call_of letter ns =
 
 -- 01: "the first line of another form": so is a line whose words are not all numbers
 abbrev pub call_if : ℕ → Option (List ℕ) → Call
-call_if letter none = Other
-call_if letter (some ns) = call_of letter ns
+call_if letter None = Other
+call_if letter (Some ns) = call_of letter ns
 
 -- 01: "per line the letter": the first word is one letter, the others are its numbers
 abbrev pub by_words : List (List ℕ) → Call
@@ -74,8 +73,8 @@ line_of bs = by_words (words_of bs)
 
 -- 01: "Numbers are decimal": the last number behind the others, if the last word is one
 abbrev pub closed : List ℕ → Option ℕ → Option (List ℕ)
-closed ns none = none
-closed ns (some n) = some (ns ++ (n ∷ []))
+closed ns None = None
+closed ns (Some n) = Some (ns ++ (n ∷ []))
 
 -- 01: "the first line of another form": what the form of a line asks for
 unfoldable pub form_call : Form → Call

@@ -1,6 +1,5 @@
 -- What a line does to state, medium and cache, and what it prints.
-use Rattle.std.specs.Prelude.{ℕ, List, [], ◌∷◌, ◌++◌, length, replicate, get_or}
-use Rattle.std.proofs.Math.Option.{Option, none, some}
+use Rattle.std.specs.Prelude.{ℕ, List, [], ◌∷◌, ◌++◌, length, replicate, get_or, Option, None, Some}
 use Rattle.fields.specs.Block.{zeros}
 use Rattle.store.specs.declared.Answer.{Answer}
 use Rattle.store.specs.declared.Answer.TheVariants.{Refused, Done, Begun, Written, Committed, Opened, Missing, Erased}
@@ -28,21 +27,21 @@ outcome_of Other s m c = leaves Done s m c
 
 -- 01: "a result (number, slot, time, byte, last time; `-` for none, no time, erased or refused)"
 unfoldable pub result_of : Answer → ℕ → Option ℕ
-result_of (Refused r) byte = none
-result_of Done byte = none
-result_of (Begun n) byte = some n.0
-result_of (Written slot) byte = some slot
-result_of (Committed t) byte = some t.0
-result_of (Opened t) byte = some t.0
-result_of Missing byte = none
-result_of Erased byte = none
-result_of Present byte = some byte
-result_of (Listed k) byte = some k
+result_of (Refused r) byte = None
+result_of Done byte = None
+result_of (Begun n) byte = Some n.0
+result_of (Written slot) byte = Some slot
+result_of (Committed t) byte = Some t.0
+result_of (Opened t) byte = Some t.0
+result_of Missing byte = None
+result_of Erased byte = None
+result_of Present byte = Some byte
+result_of (Listed k) byte = Some k
 
 -- 01: "`-` for none"
 unfoldable pub result_text : Option ℕ → List ℕ
-result_text none = 45 ∷ []
-result_text (some n) = decimal n
+result_text None = 45 ∷ []
+result_text (Some n) = decimal n
 
 -- 01: "per line the letter, 0 or the refusal, and a result", with a space between two and a newline behind
 unfoldable pub line_text : ℕ → ℕ → Option ℕ → List ℕ

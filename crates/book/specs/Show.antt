@@ -1,6 +1,5 @@
 -- What an answer shows, as the program keeps it.
-use Rattle.std.specs.Prelude.{ℕ, true, false, cond}
-use Rattle.std.proofs.Math.Option.{Option, none, some}
+use Rattle.std.specs.Prelude.{ℕ, true, false, cond, Option, None, Some}
 use Rattle.store.specs.declared.Answer.{Answer}
 use Rattle.store.specs.Answer.{answer_number}
 use Rattle.book.specs.declared.room.Shown.{Shown}
@@ -8,8 +7,8 @@ use Rattle.book.specs.Room.{result_of}
 
 -- 01: "0 or the refusal, and a result": a result, if there is one
 abbrev pub shown_if : ℕ → Option ℕ → Shown
-shown_if r none = record { refusal = r; some = false; result = 0 }
-shown_if r (some n) = record { refusal = r; some = true; result = n }
+shown_if r None = record { refusal = r; Some = false; result = 0 }
+shown_if r (Some n) = record { refusal = r; Some = true; result = n }
 
 -- 01: "0 or the refusal, and a result": what an answer shows
 unfoldable pub shown_of : Answer → ℕ → Shown
@@ -17,4 +16,4 @@ shown_of answer byte = shown_if (answer_number answer) (result_of answer byte)
 
 -- 01: "`-` for none": the result, if there is one
 unfoldable pub shown_result : Shown → Option ℕ
-shown_result s = cond s.some (some s.result) none
+shown_result s = cond s.some (Some s.result) None

@@ -1,5 +1,6 @@
 -- A slot below the room lies within the cache, and its fields lie at fixed places in it; a state that fits has room for
 -- its slots. Assumes nothing.
+use Rattle.std.specs.Prelude.{Option, Some}
 use mathlib.Core.Path.{◌≡◌, ap, subst}
 use mathlib.Core.Bool.{true}
 use Prim.Native.Nat.{ℕ, suc, ◌+◌, ◌-◌, ◌%◌, ◌≤◌, ◌<◌}
@@ -14,8 +15,6 @@ use Rattle.layout.specs.Page.{cache_slot}
 use Rattle.layout.specs.Slot.{slot_state, slot_key, cell_of}
 use Rattle.layout.specs.declared.slot.Slot.{Slot}
 use Rattle.fields.proofs.PartLaws.{lent_part, part_part}
-use Rattle.store.specs.declared.Found.{Found}
-use Rattle.store.specs.declared.Found.TheVariants.{At}
 use Rattle.store.specs.declared.State.{State}
 use Rattle.store.specs.Chain.{cell_at}
 use Rattle.store.specs.State.{fits}
@@ -38,8 +37,8 @@ fit_room s m c e =
 pub room_lower : (l n m : ℕ) → Room l n → m ≤ n → Room l m
 room_lower l n m r h = record { pages = r.pages; few = r.few; size = r.size; below = omega arith }
 
-pub head_at : (head : Found) (l s : ℕ) → head ≡ At s → Head head l → Room l (suc s)
-head_at head l s e h = subst (λ (f : Found). Head f l) e h
+pub head_at : (head : Option ℕ) (l s : ℕ) → head ≡ Some s → Head head l → Room l (suc s)
+head_at head l s e h = subst (λ (f : Option ℕ). Head f l) e h
 
 -- the fields of slot n, which begins at a: v is what the code read
 pub state_read : (c : List ℕ) (n a : ℕ) (v : Slot) → a ≡ slot_at n → v ≡ slot_state (take (a + 32 - a) (drop a c)) → v ≡ (cell_at c n).state

@@ -1,5 +1,6 @@
 -- What a list of changes is, said by what is found as of times. A version found as of t is found as of each time from its own to
 -- t, so going from a version to the one found before it misses no change. By induction on these steps. Assumes nothing.
+use Rattle.std.specs.Prelude.{Option, Some, None}
 use mathlib.Core.Path.{◌≡◌, refl, sym, ap, subst, ◌∙◌}
 use mathlib.Core.Logic.{◌↔◌, ⊎_elim, ∥∥₁_elim}
 use mathlib.Core.Bool.{true, cond}
@@ -13,10 +14,6 @@ use lib.Dec.{ltb, leb}
 use borrow.Author.Tests.{ltb-true, ltb-false, leb-true, leb-false, le-leb, lt-leb}
 use Rattle.fields.proofs.Choose.{cond_elim, cond_cases}
 use Rattle.layout.specs.declared.CommitTime.{CommitTime}
-use Rattle.store.specs.declared.Found.{Found}
-use Rattle.store.specs.declared.Timing.{Timing}
-use Rattle.store.specs.declared.Best.{Best}
-use Rattle.store.specs.declared.Best.TheVariants.{Version, Neither}
 use Rattle.store.specs.declared.State.{State}
 use Rattle.store.specs.Places.{time_under}
 use Rattle.store.specs.Chain.{newest, cell_at, best_of}
@@ -27,11 +24,11 @@ use Rattle.chain.proofs.RankedLaws.{first_at, ranked_best}
 -- ---- a version found as of t is found as of each time from its own to t
 
 -- the time of the version found, 0 if there is none
-abbrev time_of : Best → ℕ
-time_of Neither = 0
-time_of (Version n u) = u.0
+abbrev time_of : Option (ℕ × CommitTime) → ℕ
+time_of None = 0
+time_of (Some (n, u)) = u.0
 
-first_since : (t : ℕ) (es : List Dated) {b : Best} → first_at es t ≡ b
+first_since : (t : ℕ) (es : List Dated) {b : Option (ℕ × CommitTime)} → first_at es t ≡ b
     → (time_of b ≤ t) × ((v : ℕ) → time_of b ≤ v → v ≤ t → first_at es v ≡ b)
 unfolding first_at
 first_since t [] q = (omega (arith, ap time_of q), λ v h l. q)
@@ -42,7 +39,7 @@ first_since t (e ∷ es) q =
     let r = first_since t es p in
     (r.0, λ v h l. simp (lt-leb e.time v (omega (arith, leb-false e.time t y))) (r.1 v h l)))
 
-best_since : (c : List ℕ) (pair : ℕ → Timing) (head : Found) (t : ℕ) {b : Best} → best_of head c pair t ≡ b
+best_since : (c : List ℕ) (pair : ℕ → Option CommitTime) (head : Option ℕ) (t : ℕ) {b : Option (ℕ × CommitTime)} → best_of head c pair t ≡ b
     → (time_of b ≤ t) × ((v : ℕ) → time_of b ≤ v → v ≤ t → best_of head c pair v ≡ b)
 best_since c pair head t e =
     let r = first_since t (ranked_of head c pair t) (ranked_best c pair t head t (omega arith) ∙ e) in
@@ -54,12 +51,12 @@ best_since c pair head t e =
 abbrev pub Rises : List Line → Type 0
 Rises = Pairwise (λ (x y : Line). x.time < y.time)
 
-module _ (c : List ℕ) (pair : ℕ → Timing) (head : Found) (t1 t2 : ℕ) where
+module _ (c : List ℕ) (pair : ℕ → Option CommitTime) (head : Option ℕ) (t1 t2 : ℕ) where
   -- x is the line of a change from t1 to t2: as of its time a version of just that time is found, and it differs from the one
   -- found as of the moment before
   pub record Change (x : Line) : Type 0 where
     pub slot : ℕ
-    pub found : best_of head c pair x.time ≡ Version slot (record { 0 = x.time })
+    pub found : best_of head c pair x.time ≡ Some (slot, (record { 0 = x.time }))
     pub from : t1 ≤ x.time
     pub up_to : x.time ≤ t2
     pub differs : differs_from c slot (before c pair head x.time) ≡ true
@@ -76,25 +73,25 @@ module _ (c : List ℕ) (pair : ℕ → Timing) (head : Found) (t1 t2 : ℕ) whe
   none t h = record { rise = Pairwise.nil; sound = λ x i. absurd (Memᴰ.not-nil i); whole = λ x k l. absurd (h x k l) }
 
   -- the line of a version, if it differs
-  abbrev line_if : Best → List Line
-  line_if Neither = []
-  line_if (Version n u) = cond (differs_from c n (before c pair head u.0)) (line_of c n u.0) []
+  abbrev line_if : Option (ℕ × CommitTime) → List Line
+  line_if None = []
+  line_if (Some (n, u)) = cond (differs_from c n (before c pair head u.0)) (line_of c n u.0) []
 
-  has_line : (x : Line) (h : Change x) → Memᴰ x (line_if (Version h.slot (record { 0 = x.time })))
+  has_line : (x : Line) (h : Change x) → Memᴰ x (line_if (Some (h.slot, (record { 0 = x.time }))))
   has_line x h = rw (h.differs, ← h.kind, ← h.value) (Memᴰ.head refl)
 
   -- a change no earlier than the version found as of t is that version
-  is_found : (t : ℕ) {b : Best} → best_of head c pair t ≡ b → (x : Line) (h : Change x) → time_of b ≤ x.time → x.time < suc t
-      → Version h.slot (record { 0 = x.time }) ≡ b
+  is_found : (t : ℕ) {b : Option (ℕ × CommitTime)} → best_of head c pair t ≡ b → (x : Line) (h : Change x) → time_of b ≤ x.time → x.time < suc t
+      → Some (h.slot, (record { 0 = x.time })) ≡ b
   is_found t e x h l g = sym h.found ∙ (best_since c pair head t e).1 x.time l (omega arith)
 
   -- the version found as of t, behind the lines of earlier changes
-  module _ (t n : ℕ) (u : CommitTime) (e : best_of head c pair t ≡ Version n u) (from : t1 ≤ u.0) (up_to : t ≤ t2)
+  module _ (t n : ℕ) (u : CommitTime) (e : best_of head c pair t ≡ Some (n, u)) (from : t1 ≤ u.0) (up_to : t ≤ t2)
       (ls : List Line) (r : Changes u.0 ls) where
     low : u.0 ≤ t
     low = (best_since c pair head t e).0
 
-    is_change : (x : Line) → Memᴰ x (line_if (Version n u)) → Change x × (x.time ≡ u.0)
+    is_change : (x : Line) → Memᴰ x (line_if (Some (n, u))) → Change x × (x.time ≡ u.0)
     is_change x =
         cond_elim (λ (l : List Line). Memᴰ x l → Change x × (x.time ≡ u.0)) (differs_from c n (before c pair head u.0))
         (λ y i.
@@ -112,12 +109,12 @@ module _ (c : List ℕ) (pair : ℕ → Timing) (head : Found) (t1 t2 : ℕ) whe
         ))
         (λ _ i. absurd (Memᴰ.not-nil i))
 
-    is_listed : (x : Line) → Change x → x.time < suc t → Dec (x.time < u.0) → Memᴰ x (ls ++ line_if (Version n u))
+    is_listed : (x : Line) → Change x → x.time < suc t → Dec (x.time < u.0) → Memᴰ x (ls ++ line_if (Some (n, u)))
     is_listed x h l (yes a) = Memᴰ.append_left _ (r.whole x h a)
     is_listed x h l (no a) =
-        Memᴰ.append_right ls (subst (λ (b : Best). Memᴰ x (line_if b)) (is_found t e x h (omega arith) l) (has_line x h))
+        Memᴰ.append_right ls (subst (λ (b : Option (ℕ × CommitTime)). Memᴰ x (line_if b)) (is_found t e x h (omega arith) l) (has_line x h))
 
-    more : Changes (suc t) (ls ++ line_if (Version n u))
+    more : Changes (suc t) (ls ++ line_if (Some (n, u)))
     more = record {
       rise =
           (Pairwise-append (λ x y. le_prop)).1 (
@@ -138,10 +135,10 @@ module _ (c : List ℕ) (pair : ℕ → Timing) (head : Found) (t1 t2 : ℕ) whe
   changes_below (suc k) zero h l = none zero (λ x _ g. omega arith)
   changes_below (suc k) (suc t) h l = step (best_of head c pair t) refl (λ u g. changes_below k u (omega arith) (omega arith))
     where
-      step : (b : Best) → best_of head c pair t ≡ b → ((u : ℕ) → u ≤ t → Changes u (lines_below c pair head t1 k u))
+      step : (b : Option (ℕ × CommitTime)) → best_of head c pair t ≡ b → ((u : ℕ) → u ≤ t → Changes u (lines_below c pair head t1 k u))
           → Changes (suc t) (lines_at c pair head (lines_below c pair head t1 k) t1 b)
-      step Neither e r = none (suc t) (λ x i g. let p = is_found t e x i (omega arith) g in let z : ◌≡◌ {A = ℕ} 0 1 = cc in omega arith)
-      step (Version n u) e r =
+      step None e r = none (suc t) (λ x i g. let p = is_found t e x i (omega arith) g in let z : ◌≡◌ {A = ℕ} 0 1 = cc in omega arith)
+      step (Some (n, u)) e r =
           cond_elim (Changes (suc t)) (ltb u.0 t1)
           (λ y.
           let m : u.0 < t1 = ltb-true _ _ y in

@@ -1,5 +1,7 @@
 -- The lines of the definition are those of the ranked versions: below a time the last version found is the first of the row,
 -- and those before it are the rest of the row. By induction on the row. Assumes nothing.
+use Rattle.layout.specs.declared.CommitTime.{CommitTime}
+use Rattle.std.specs.Prelude.{Option}
 use mathlib.Core.Path.{◌≡◌, refl, sym, ap, ◌∙◌}
 use mathlib.Core.Bool.{Bool, true, false, cond}
 use mathlib.Core.List.{List, [], ◌∷◌, ◌++◌, append-nil}
@@ -9,8 +11,6 @@ use lib.ListN.{length, length-append}
 use lib.Dec.{ltb}
 use borrow.Author.Tests.{le-leb, lt-leb}
 use Rattle.fields.proofs.Choose.{cond_elim}
-use Rattle.store.specs.declared.Found.{Found}
-use Rattle.store.specs.declared.Timing.{Timing}
 use Rattle.store.specs.Chain.{best_of}
 use Rattle.store.specs.Changes.{differs_from, line_of, before, lines_at, lines_below}
 use Rattle.chain.specs.Ranked.{Dated, Slots, Below, ranked_of, latest, if_differs, changed, lines_of}
@@ -18,7 +18,7 @@ use Rattle.chain.proofs.RankedLaws.{first_at, ranked_below, ranked_best}
 
 -- ---- a row in which the first at or before each time below t is the best there
 
-module _ (c : List ℕ) (pair : ℕ → Timing) (head : Found) where
+module _ (c : List ℕ) (pair : ℕ → Option CommitTime) (head : Option ℕ) where
   abbrev Bests : ℕ → List Dated → Type 0
   Bests t es = (u : ℕ) → u < t → first_at es u ≡ best_of head c pair u
 

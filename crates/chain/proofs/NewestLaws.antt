@@ -1,4 +1,5 @@
 -- The newest version: a slot that holds one is found, another is passed. Assumes nothing.
+use Rattle.std.specs.Prelude.{Option, Some, None}
 use mathlib.Core.Path.{◌≡◌, sym, ap, subst, ◌∙◌}
 use mathlib.Core.Bool.{Bool, true, false, and-true, and-false}
 use Prim.Native.Nat.{ℕ, zero, suc, ◌-◌, ◌%◌, ◌<◌}
@@ -7,8 +8,6 @@ use mathlib.Core.List.{List}
 use borrow.Author.Tests.{eq-eqb, ne_eqb}
 use Rattle.layout.specs.declared.slot.Slot.{Slot}
 use Rattle.fields.proofs.Choose.{cond_elim}
-use Rattle.store.specs.declared.Found.{Found}
-use Rattle.store.specs.declared.Found.TheVariants.{At, Nothing}
 use Rattle.store.specs.Chain.{cell_at, is_version, version_of, newest}
 use Rattle.cached.specs.Room.{Room, Head}
 use Rattle.cached.proofs.RoomLaws.{room_lower}
@@ -28,7 +27,7 @@ unfolding version_of
 holds_as c key n k s b e h f g = simp (← e, eq-eqb _ _ h, and-true, ← f, g)
 
 -- b is what the test of the slot below i gave
-pub newest_hit : (c : List ℕ) (key i : ℕ) (b : Bool) → 0 < i → b ≡ version_of c key (i - 1) → b ≡ true → newest c key i ≡ At (i - 1)
+pub newest_hit : (c : List ℕ) (key i : ℕ) (b : Bool) → 0 < i → b ≡ version_of c key (i - 1) → b ≡ true → newest c key i ≡ Some (i - 1)
 unfolding newest
 newest_hit c key i b h e t = let m : i ≡ suc (i - 1) = omega arith in ap (newest c key) m ∙ simp (← e, t)
 
@@ -36,7 +35,7 @@ pub newest_miss : (c : List ℕ) (key i : ℕ) (b : Bool) → 0 < i → b ≡ ve
 unfolding newest
 newest_miss c key i b h e t = let m : i ≡ suc (i - 1) = omega arith in sym (ap (newest c key) m ∙ simp (← e, t))
 
-pub newest_end : (c : List ℕ) (key i : ℕ) → i ≡ 0 → Nothing ≡ newest c key i
+pub newest_end : (c : List ℕ) (key i : ℕ) → i ≡ 0 → None ≡ newest c key i
 unfolding newest
 newest_end c key i h = rw h
 
@@ -45,7 +44,7 @@ in_room : (c : List ℕ) (key n l : ℕ) → Room l n → Head (newest c key n) 
 unfolding newest
 in_room c key zero l r = tt
 in_room c key (suc n) l r =
-    cond_elim (λ (f : Found). Head f l) (version_of c key n) (λ _. r) (λ _. in_room c key n l (room_lower l (suc n) n r (omega arith)))
+    cond_elim (λ (f : Option ℕ). Head f l) (version_of c key n) (λ _. r) (λ _. in_room c key n l (room_lower l (suc n) n r (omega arith)))
 
-pub newest_head : (c : List ℕ) (key n l : ℕ) (f : Found) → f ≡ newest c key n → Room l n → Head f l
-newest_head c key n l f e r = subst (λ (g : Found). Head g l) (sym e) (in_room c key n l r)
+pub newest_head : (c : List ℕ) (key n l : ℕ) (f : Option ℕ) → f ≡ newest c key n → Room l n → Head f l
+newest_head c key n l f e r = subst (λ (g : Option ℕ). Head g l) (sym e) (in_room c key n l r)

@@ -1,6 +1,5 @@
 // The version of a record as of a time.
-ghost use Rattle.std.specs.Prelude.{◌≡◌, suc, length};
-ghost use Rattle.store.specs.declared.Best.TheVariants.{Version, Neither};
+ghost use Rattle.std.specs.Prelude.{◌≡◌, suc, length, None};
 ghost use Rattle.store.specs.Places.{time_under};
 ghost use Rattle.store.specs.Chain.{version_time, better_of, best_from, best_of};
 ghost use Rattle.memory.specs.Memory.{places_of};
@@ -9,49 +8,48 @@ ghost use Rattle.chain.specs.Later.{or_later};
 
 use layout::CommitTime;
 use layout::slot::Slot;
-use store::{Best, Found, Timing};
 
 // The time of a version: its stamp or its pair's time.
-pub fn version_time(words: &[u64; 448], slot: Slot) -> Timing
+pub fn version_time(words: &[u64; 448], slot: Slot) -> Option<CommitTime>
     ensures { result ≡ version_time (time_under (places_of words.now)) slot }
 {
     match slot {
-        Slot::Empty => Timing::Untimed,
+        Slot::Empty => None,
         Slot::Waiting(n) => live::times::time_under(words, n.0),
-        Slot::Stamped(t) => Timing::Timed(t),
+        Slot::Stamped(t) => Some(t),
     }
 }
 
 // The version in slot s, if it has a time not above t.
-fn fitting(time: Timing, s: u64, t: u64) -> Best
-    ensures { result ≡ better_of time s t Neither }
+fn fitting(time: Option<CommitTime>, s: u64, t: u64) -> Option<(u64, CommitTime)>
+    ensures { result ≡ better_of time s t None }
 {
     match time {
-        Timing::Untimed => Best::Neither,
-        Timing::Timed(u) => {
+        None => None,
+        Some(u) => {
             if u.0 <= t {
-                return Best::Version(s, u);
+                return Some((s, u));
             }
-            Best::Neither
+            None
         }
     }
 }
 
 // The later of two versions, the first among equals. A version that stays is made anew: copied whole, the bytes between its
 // tag and its slot would pass through memory at each step of a search.
-fn later(first: Best, second: Best) -> Best
+fn later(first: Option<(u64, CommitTime)>, second: Option<(u64, CommitTime)>) -> Option<(u64, CommitTime)>
     ensures { result ≡ or_later first second }
 {
     match first {
-        Best::Neither => second,
-        Best::Version(r, u) => {
+        None => second,
+        Some((r, u)) => {
             match second {
-                Best::Neither => Best::Version(r, u),
-                Best::Version(s, v) => {
+                None => Some((r, u)),
+                Some((s, v)) => {
                     if v.0 <= u.0 {
-                        return Best::Version(r, u);
+                        return Some((r, u));
                     }
-                    Best::Version(s, v)
+                    Some((s, v))
                 }
             }
         }
@@ -59,11 +57,11 @@ fn later(first: Best, second: Best) -> Best
 }
 
 // The version with the greatest time not above t, following earlier slots from s; among equal times the highest slot.
-fn find_from(cache: &[u8], words: &[u64; 448], t: u64, s: u64) -> Best
+fn find_from(cache: &[u8], words: &[u64; 448], t: u64, s: u64) -> Option<(u64, CommitTime)>
     requires { Room (length cache.now) (suc s) }
     ensures { result ≡ best_from cache.now (time_under (places_of words.now)) t (suc s) s }
 {
-    let mut best = Best::Neither;
+    let mut best = None;
     let mut at = s;
     loop {
         let state = cached::state_at(cache, at);
@@ -81,12 +79,12 @@ fn find_from(cache: &[u8], words: &[u64; 448], t: u64, s: u64) -> Best
     }
 }
 
-pub fn find(head: Found, cache: &[u8], words: &[u64; 448], t: u64) -> Best
+pub fn find(head: Option<u64>, cache: &[u8], words: &[u64; 448], t: u64) -> Option<(u64, CommitTime)>
     requires { Head head (length cache.now) }
     ensures { result ≡ best_of head cache.now (time_under (places_of words.now)) t }
 {
     match head {
-        Found::At(s) => find_from(cache, words, t, s),
-        Found::Nothing => Best::Neither,
+        Some(s) => find_from(cache, words, t, s),
+        None => None,
     }
 }

@@ -1,8 +1,7 @@
 // The lines of a change list.
-ghost use Rattle.std.specs.Prelude.{◌≡◌, suc, ◌+◌, ◌-◌, ◌*◌, ◌<◌, ◌≤◌, cond, ◌++◌, length, leb};
+ghost use Rattle.std.specs.Prelude.{◌≡◌, suc, ◌+◌, ◌-◌, ◌*◌, ◌<◌, ◌≤◌, cond, ◌++◌, length, leb, Some, None};
 ghost use Rattle.fields.specs.Part.{splice};
 ghost use Rattle.fields.specs.Cells.{flat};
-ghost use Rattle.store.specs.declared.Found.TheVariants.{At, Nothing};
 ghost use Rattle.store.specs.Places.{time_under};
 ghost use Rattle.store.specs.Chain.{cell_at};
 ghost use Rattle.store.specs.Changes.{line_bytes, differs, differs_from, lines_below};
@@ -11,7 +10,6 @@ ghost use Rattle.cached.specs.Room.{Room, Head};
 ghost use Rattle.chain.specs.Ranked.{dated_at, pairs, Slots, latest, if_differs, changed, lines_of};
 
 use layout::CommitTime;
-use store::Found;
 
 // Do two slots differ in kind or value?
 fn differ(cache: &[u8], a: u64, b: u64) -> bool
@@ -126,23 +124,23 @@ fn write(cache: &[u8], ranked: &[u64], n: usize, out: &mut [u8])
 // Writes the lines of a record from t1 to t2 and answers how many there are; nothing where they are more than the buffer
 // has room for.
 pub fn list(
-    head: Found,
+    head: Option<u64>,
     cache: &[u8],
     words: &[u64; 448],
     t1: u64,
     t2: u64,
     buffer: &mut [u8],
-) -> Found
+) -> Option<u64>
     requires { Head head (length cache.now) }
-    ensures result_value { let ls = lines_below cache.now (time_under (places_of words.now)) head t1 (suc (suc t2)) (suc t2) in result ≡ cond (leb (32 * length ls) (length buffer.old)) (At (length ls)) Nothing }
+    ensures result_value { let ls = lines_below cache.now (time_under (places_of words.now)) head t1 (suc (suc t2)) (suc t2) in result ≡ cond (leb (32 * length ls) (length buffer.old)) (Some (length ls)) None }
     ensures buffer_after { let ls = lines_below cache.now (time_under (places_of words.now)) head t1 (suc (suc t2)) (suc t2) in buffer.new ≡ cond (leb (32 * length ls) (length buffer.old)) (splice buffer.old 0 (flat line_bytes ls)) buffer.old }
 {
     let mut ranked = [0u64; 1920];
     let n = crate::ranked::gather(head, cache, words, t2, &mut ranked);
     let k = pick(cache, &mut ranked, n, t1);
     if buffer.len() < 32 * k {
-        return Found::Nothing;
+        return None;
     }
     write(cache, &ranked, k, buffer);
-    Found::At(k as u64)
+    Some(k as u64)
 }

@@ -5,7 +5,6 @@ ghost use Rattle.memory.specs.Memory.{places_of};
 ghost use Rattle.cached.specs.Room.{Room, Head};
 
 use layout::slot::Slot;
-use store::Found;
 
 // Does a slot hold a version of the record?
 pub fn holds(cache: &[u8], key: u16, n: u64) -> bool
@@ -23,18 +22,18 @@ pub fn holds(cache: &[u8], key: u16, n: u64) -> bool
 }
 
 // The highest slot below n that holds a version of the record.
-pub fn find(cache: &[u8], key: u16, n: u64) -> Found
+pub fn find(cache: &[u8], key: u16, n: u64) -> Option<u64>
     requires { Room (length cache.now) n }
     ensures { result ≡ newest cache.now key n }
 {
     let mut i = n;
     while 0 < i {
         if holds(cache, key, i - 1) {
-            return Found::At(i - 1);
+            return Some(i - 1);
         }
         i = i - 1;
     }
-    Found::Nothing
+    None
 }
 
 // Does a slot wait under another active number?
@@ -49,8 +48,8 @@ fn holds_against(slot: Slot, words: &[u64; 448], n: u64) -> bool
             }
             let f = live::places::find_active(words, m.0);
             match f {
-                Found::At(_) => true,
-                Found::Nothing => false,
+                Some(_) => true,
+                None => false,
             }
         }
         Slot::Stamped(_) => false,
@@ -58,12 +57,12 @@ fn holds_against(slot: Slot, words: &[u64; 448], n: u64) -> bool
 }
 
 // Does a record's newest version hold it against transaction n?
-pub fn is_held(newest: Found, cache: &[u8], words: &[u64; 448], n: u64) -> bool
+pub fn is_held(newest: Option<u64>, cache: &[u8], words: &[u64; 448], n: u64) -> bool
     requires { Head newest (length cache.now) }
     ensures { result ≡ held_at newest cache.now (places_of words.now) n }
 {
     match newest {
-        Found::At(s) => holds_against(cached::state_at(cache, s), words, n),
-        Found::Nothing => false,
+        Some(s) => holds_against(cached::state_at(cache, s), words, n),
+        None => false,
     }
 }

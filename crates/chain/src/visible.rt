@@ -6,7 +6,6 @@ ghost use Rattle.memory.specs.Memory.{places_of};
 ghost use Rattle.cached.specs.Room.{Room, Head};
 
 use layout::slot::Slot;
-use store::Found;
 
 // Is a number committed? Then its pair has a time.
 fn is_committed(words: &[u64; 448], n: u64) -> bool
@@ -14,8 +13,8 @@ fn is_committed(words: &[u64; 448], n: u64) -> bool
 {
     let f = live::places::find_committed(words, n);
     match f {
-        Found::At(_) => true,
-        Found::Nothing => false,
+        Some(_) => true,
+        None => false,
     }
 }
 
@@ -36,7 +35,7 @@ fn sees(slot: Slot, words: &[u64; 448], n: u64) -> bool
 }
 
 // The first version that n sees, following earlier slots from s.
-fn find_from(cache: &[u8], words: &[u64; 448], n: u64, s: u64) -> Found
+fn find_from(cache: &[u8], words: &[u64; 448], n: u64, s: u64) -> Option<u64>
     requires { Room (length cache.now) (suc s) }
     ensures { result ≡ visible_from cache.now (time_under (places_of words.now)) n (suc s) s }
 {
@@ -44,25 +43,25 @@ fn find_from(cache: &[u8], words: &[u64; 448], n: u64, s: u64) -> Found
     loop {
         let state = cached::state_at(cache, at);
         if !cached::is_version(state) {
-            return Found::Nothing;
+            return None;
         }
         if sees(state, words, n) {
-            return Found::At(at);
+            return Some(at);
         }
         let earlier = cached::earlier_at(cache, at);
         if at <= earlier {
-            return Found::Nothing;
+            return None;
         }
         at = earlier;
     }
 }
 
-pub fn find(head: Found, cache: &[u8], words: &[u64; 448], n: u64) -> Found
+pub fn find(head: Option<u64>, cache: &[u8], words: &[u64; 448], n: u64) -> Option<u64>
     requires { Head head (length cache.now) }
     ensures { result ≡ visible_of head cache.now (time_under (places_of words.now)) n }
 {
     match head {
-        Found::At(s) => find_from(cache, words, n, s),
-        Found::Nothing => Found::Nothing,
+        Some(s) => find_from(cache, words, n, s),
+        None => None,
     }
 }

@@ -1,9 +1,9 @@
 -- The laws of loops over the log: what a step of the cursor leaves of the records, that it leads to a valid cursor and nearer
 -- to the end, and that end places rise. By the item that is read; assumes nothing.
+use Rattle.std.specs.Prelude.{Option, None, Some}
 use mathlib.Core.Path.{◌≡◌, refl, sym, ap, ◌∙◌}
 use mathlib.Core.Bool.{Bool, true, false, cond}
 use mathlib.Core.Logic.{◌⊎◌, inl, inr, ⊎_elim}
-use mathlib.Core.Option.{Option, none, some}
 use Prim.Native.Nat.{ℕ, zero, suc, ◌+◌, ◌-◌, ◌*◌, ◌≤◌, ◌<◌, ◌^◌}
 use native.Mathlib.Nat.{add-zero, zero-add, sub-zero}
 use native.Mathlib.Omega.{arith}
@@ -322,16 +322,16 @@ rising_above low (y ∷ ys) x xs r = let q : low < y.end = r.0 in let w : y.end 
 
 -- and so above a commit record that was found before it
 pub commit_below : (low n : ℕ) (seen : List Placed) (x : Placed) (xs : List Placed) (y : Commitment)
-    → Rising low (seen ++ (x ∷ xs)) → commit_under seen n ≡ some y → y.end < x.end
+    → Rising low (seen ++ (x ∷ xs)) → commit_under seen n ≡ Some y → y.end < x.end
 unfolding Rising commit_under
 commit_below low n [] x xs y r e = let z : ◌≡◌ {A = ℕ} 0 1 = cc in absurd (omega arith)
 commit_below low n (z ∷ zs) x xs y r e = go z.rec e (λ f. commit_below z.end n zs x xs y r.1 f)
   where
-    either : (p : Pair) (b : Bool) → or_else (cond b (some (record { time = p.time.0; end = z.end })) none) (commit_under zs n) ≡ some y → (z.end ≡ y.end) ⊎ (commit_under zs n ≡ some y)
+    either : (p : Pair) (b : Bool) → or_else (cond b (Some (record { time = p.time.0; end = z.end })) None) (commit_under zs n) ≡ Some y → (z.end ≡ y.end) ⊎ (commit_under zs n ≡ Some y)
     either p true f = inl (cc)
     either p false f = inr f
 
-    go : (q : Record) → or_else (commit_in q z.end n) (commit_under zs n) ≡ some y → (commit_under zs n ≡ some y → y.end < x.end) → y.end < x.end
+    go : (q : Record) → or_else (commit_in q z.end n) (commit_under zs n) ≡ Some y → (commit_under zs n ≡ Some y → y.end < x.end) → y.end < x.end
     go (version h v) f more = more f
     go (commit p) f more = ⊎_elim (λ q. rw q at (rising_above z.end zs x xs r.1)) more (either p (eqb p.number.0 n) f)
 
@@ -342,5 +342,5 @@ commit_append [] ys n = refl
 commit_append (x ∷ xs) ys n = ap (or_else (commit_in x.rec x.end n)) (commit_append xs ys n) ∙ grouped (commit_in x.rec x.end n) (commit_under xs n) (commit_under ys n)
   where
     grouped : (a b c : Option Commitment) → or_else a (or_else b c) ≡ or_else (or_else a b) c
-    grouped none b c = refl
-    grouped (some y) b c = refl
+    grouped None b c = refl
+    grouped (Some y) b c = refl

@@ -1,8 +1,8 @@
 -- The commits of a log as numbers: each commit record adds three behind those before it, and the first three under a number
 -- are those of its first commit record. By the records, one after the other; assumes nothing.
+use Rattle.std.specs.Prelude.{Option, None, Some}
 use mathlib.Core.Path.{◌≡◌, refl, sym, ap, ◌∙◌}
 use mathlib.Core.Bool.{Bool, true, false, cond}
-use mathlib.Core.Option.{Option, none, some}
 use mathlib.Core.List.{List, [], ◌∷◌, ◌++◌, append-nil}
 use Prim.Native.Nat.{ℕ, suc, ◌+◌, ◌-◌, ◌*◌, ◌≤◌, ◌<◌}
 use native.Mathlib.Omega.{arith}
@@ -43,7 +43,7 @@ module _ (cs : List ℕ) (i n : ℕ) (more : 2 < length cs - i) where
   unfolding commit_among
   among_miss e = rw (three cs i more, ne_eqb (get_or cs i 0) n e)
 
-pub among_short : (xs : List ℕ) (n : ℕ) → length xs ≤ 2 → commit_among xs n ≡ none
+pub among_short : (xs : List ℕ) (n : ℕ) → length xs ≤ 2 → commit_among xs n ≡ None
 unfolding commit_among
 among_short [] n h = refl
 among_short (a ∷ []) n h = refl
@@ -57,7 +57,7 @@ unfolding commits_of commit_among commit_under
 among_commits [] n = refl
 among_commits (x ∷ xs) n = go x.rec (among_commits xs n)
   where
-    either : (b : Bool) (y : Commitment) (z w : Option Commitment) → z ≡ w → cond b (some y) z ≡ or_else (cond b (some y) none) w
+    either : (b : Bool) (y : Commitment) (z w : Option Commitment) → z ≡ w → cond b (Some y) z ≡ or_else (cond b (Some y) None) w
     either true y z w e = refl
     either false y z w e = e
 

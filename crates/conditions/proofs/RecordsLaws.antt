@@ -1,8 +1,8 @@
 -- The log's records: each is judged by those before it, and a commit record is the first under its number just where the
 -- first one of the whole log ends at the same place, since end places rise. Assumes nothing.
+use Rattle.std.specs.Prelude.{Option, None, Some}
 use mathlib.Core.Path.{◌≡◌, refl, sym, ap, subst, ◌∙◌}
 use mathlib.Core.Bool.{Bool, true, false, not, ◌&&◌, and-true, and-false}
-use mathlib.Core.Option.{Option, none, some}
 use mathlib.Core.List.{List, [], ◌∷◌, ◌++◌, append_assoc}
 use Prim.Native.Nat.{ℕ, zero, suc, ◌+◌, ◌-◌, ◌<◌, ◌^◌, max}
 use native.Mathlib.Omega.{arith}
@@ -32,14 +32,14 @@ module _ (m : List ℕ) (low s e : ℕ) (p : Pair) (seen xs log : List Placed) (
   once_from : (o : Option Commitment) → o ≡ commit_under seen p.number.0
       → once_in (commit p) m o ≡ same_time (table_find m p.number.0) m p.time.0 && eqb (end_of_commitment (commit_under log p.number.0)) e
   unfolding commit_under
-  once_from none h =
-      let found : commit_under log p.number.0 ≡ some (record { time = p.time.0; end = e }) =
+  once_from None h =
+      let found : commit_under log p.number.0 ≡ Some (record { time = p.time.0; end = e }) =
       ap (λ (l : List Placed). commit_under l p.number.0) whole
       ∙ commit_append seen (record { seq = s; end = e; rec = commit p } ∷ xs) p.number.0
       ∙ simp (← h, eq-eqb p.number.0 p.number.0 refl) in
       sym (simp (found, eq-eqb e e refl, and-true))
-  once_from (some y) h =
-      let found : commit_under log p.number.0 ≡ some y =
+  once_from (Some y) h =
+      let found : commit_under log p.number.0 ≡ Some y =
       ap (λ (l : List Placed). commit_under l p.number.0) whole
       ∙ commit_append seen (record { seq = s; end = e; rec = commit p } ∷ xs) p.number.0
       ∙ simp (← h) in

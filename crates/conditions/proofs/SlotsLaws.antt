@@ -1,5 +1,7 @@
 -- The pages and slots of a cache, judged one after the other: pages full before the last used, and a slot against what
 -- is known of its record from the slots below it. Assumes nothing.
+use Rattle.layout.specs.declared.CommitTime.{CommitTime}
+use Rattle.std.specs.Prelude.{Option, Some, None}
 use mathlib.Core.Path.{◌≡◌, refl, sym, subst, ◌∙◌}
 use mathlib.Core.Bool.{Bool, true, false, ◌&&◌, ◌||◌}
 use mathlib.Core.List.{List, []}
@@ -15,8 +17,6 @@ use Rattle.layout.specs.Page.{page_used}
 use Rattle.layout.specs.declared.slot.Slot.{Slot}
 use Rattle.layout.specs.declared.slot.Slot.TheVariants.{Empty, Waiting, Stamped}
 use Rattle.fields.proofs.PartLaws.{lent_part}
-use Rattle.store.specs.declared.Timing.{Timing}
-use Rattle.store.specs.declared.Timing.TheVariants.{Timed, Untimed}
 use Rattle.store.specs.Write.{or_none}
 use Rattle.store.specs.Chain.{cell_at, is_version, version_of, version_time, newest}
 use Rattle.store.specs.OpenLog.{read_log, next_number, last_time}
@@ -63,11 +63,11 @@ empty_one (Waiting n) e = let z : ◌≡◌ {A = ℕ} 0 1 = cc in absurd (omega 
 empty_one (Stamped t) e = let z : ◌≡◌ {A = ℕ} 0 1 = cc in absurd (omega arith)
 
 -- a time against the newest before it
-fits_as : (p t : Timing) (times : List ℕ) (key : ℕ) → get_or times key 0 ≡ time_or_zero p → time_fits times key t ≡ not_above p t
-fits_as (Timed a) (Timed b) times key e = rw e
-fits_as (Timed a) Untimed times key e = refl
-fits_as Untimed (Timed b) times key e = rw e (le-leb 0 b.0 (omega arith))
-fits_as Untimed Untimed times key e = refl
+fits_as : (p t : Option CommitTime) (times : List ℕ) (key : ℕ) → get_or times key 0 ≡ time_or_zero p → time_fits times key t ≡ not_above p t
+fits_as (Some a) (Some b) times key e = rw e
+fits_as (Some a) None times key e = refl
+fits_as None (Some b) times key e = rw e (le-leb 0 b.0 (omega arith))
+fits_as None None times key e = refl
 
 -- ---- slot n of a cache: s and t are the newest slots and times below it
 
@@ -84,15 +84,15 @@ module _ (m : List ℕ) (l d : ℕ) (c : List ℕ) where
   }
 
   -- slot n holds a version of record `key` with time u
-  timed_same : (u p : Timing) (t : List ℕ) (key : ℕ) → key < length t → get_or t key 0 ≡ time_or_zero p → get_or (times_after t key u) key 0 ≡ time_or_zero (time_or true u p)
-  timed_same Untimed p t key h e = e
-  timed_same (Timed x) p t key h e = get_or-set_same t key x.0 0 h
+  timed_same : (u p : Option CommitTime) (t : List ℕ) (key : ℕ) → key < length t → get_or t key 0 ≡ time_or_zero p → get_or (times_after t key u) key 0 ≡ time_or_zero (time_or true u p)
+  timed_same None p t key h e = e
+  timed_same (Some x) p t key h e = get_or-set_same t key x.0 0 h
 
-  timed_other : (u : Timing) (t : List ℕ) (key k : ℕ) → (k ≡ key → ⊥) → get_or (times_after t key u) k 0 ≡ get_or t k 0
-  timed_other Untimed t key k h = refl
-  timed_other (Timed x) t key k h = get_or-set_other t key k x.0 0 h
+  timed_other : (u : Option CommitTime) (t : List ℕ) (key k : ℕ) → (k ≡ key → ⊥) → get_or (times_after t key u) k 0 ≡ get_or t k 0
+  timed_other None t key k h = refl
+  timed_other (Some x) t key k h = get_or-set_other t key k x.0 0 h
 
-  pub tracks_version : (n key : ℕ) (u : Timing) (s t : List ℕ) → is_version (cell_at c n).state ≡ true → key ≡ (cell_at c n).key
+  pub tracks_version : (n key : ℕ) (u : Option CommitTime) (s t : List ℕ) → is_version (cell_at c n).state ≡ true → key ≡ (cell_at c n).key
       → u ≡ version_time (pair_time m (read_log m l)) (cell_at c n).state → length s ≡ 1024 → length t ≡ 1024 → key < 1024
       → Tracks m l d c n s t → Tracks m l d c (suc n) (set s key n) (times_after t key u)
   unfolding newest time_below version_of
@@ -124,7 +124,7 @@ module _ (m : List ℕ) (l d : ℕ) (c : List ℕ) where
   ok_earlier n key e s t v ek ee hk w h =
       simp (v, ← ek, ← ee, ← w.newest_slot key hk, ne_eqb e (get_or s key 0) (λ q. h (sym q)))
 
-  module _ (n key e : ℕ) (u : Timing) (s t : List ℕ) (b : Bool) (v : is_version (cell_at c n).state ≡ true) (ek : key ≡ (cell_at c n).key) (ee : e ≡ (cell_at c n).earlier)
+  module _ (n key e : ℕ) (u : Option CommitTime) (s t : List ℕ) (b : Bool) (v : is_version (cell_at c n).state ≡ true) (ek : key ≡ (cell_at c n).key) (ee : e ≡ (cell_at c n).earlier)
       (eu : u ≡ version_time (pair_time m (read_log m l)) (cell_at c n).state) (hk : key < 1024) (w : Tracks m l d c n s t) (h : get_or s key 0 ≡ e) (eb : b ≡ time_fits t key u) where
     falls : b ≡ not_falling m l d c n
     unfolding not_falling

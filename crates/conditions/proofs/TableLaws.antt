@@ -1,7 +1,7 @@
 -- The pair table: the search for a number's place, and what is asked of a place. Assumes nothing.
+use Rattle.std.specs.Prelude.{Option, None, Some}
 use mathlib.Core.Path.{◌≡◌, refl, sym, ap, ◌∙◌}
 use mathlib.Core.Bool.{Bool, false, not}
-use mathlib.Core.Option.{Option, none, some}
 use mathlib.Core.List.{List}
 use Prim.Native.Nat.{ℕ, zero, suc, ◌+◌, ◌-◌, ◌≤◌, ◌<◌}
 use native.Mathlib.Nat.{zero-add}
@@ -15,9 +15,6 @@ use Rattle.layout.specs.declared.item.Pair.{Pair}
 use Rattle.layout.specs.declared.CommitTime.{CommitTime}
 use Rattle.layout.specs.declared.EndPlace.{EndPlace}
 use Rattle.fields.proofs.Choose.{cond_cases}
-use Rattle.store.specs.declared.Found.{Found as Finding}
-use Rattle.store.specs.declared.Found.TheVariants.{At, Nothing}
-use Rattle.store.specs.declared.Timing.TheVariants.{Timed, Untimed}
 use Rattle.store.specs.Places.{first, is_at}
 use Rattle.store.specs.OpenLog.{Placed, Commitment, commit_under}
 use Rattle.store.specs.OpenPairs.{table_find, pair_time}
@@ -43,14 +40,14 @@ module _ (m : List ℕ) (n k i : ℕ) (p : Pair) (below : i < k) (read : p ≡ t
   number_is : eqb p.number.0 n ≡ numbered m n i
   number_is = ap (λ (q : Pair). eqb q.number.0 n) read
 
-  pub pair_hit : p.number.0 ≡ n → first (numbered m n) (k - i) i ≡ At i
+  pub pair_hit : p.number.0 ≡ n → first (numbered m n) (k - i) i ≡ Some i
   pair_hit e = first_hit (numbered m n) k i _ below number_is (eq-eqb _ _ e)
 
   pub pair_miss : (p.number.0 ≡ n → ⊥) → first (numbered m n) (k - (i + 1)) (i + 1) ≡ first (numbered m n) (k - i) i
   pair_miss e = first_miss (numbered m n) k i _ below number_is (ne_eqb _ _ e)
 
 -- the place of a number
-pub find_none : (m : List ℕ) (n : ℕ) → n ≡ 0 → table_find m n ≡ Nothing
+pub find_none : (m : List ℕ) (n : ℕ) → n ≡ 0 → table_find m n ≡ None
 unfolding table_find
 find_none m n e = simp e
 
@@ -59,7 +56,7 @@ unfolding table_find
 find_some m n e = simp (ne_eqb _ _ e)
 
 -- empty places at the end add nothing to the search for a number
-first_none_of : (p : ℕ → Bool) (k i : ℕ) → ((j : ℕ) → i ≤ j → j < i + k → p j ≡ false) → first p k i ≡ Nothing
+first_none_of : (p : ℕ → Bool) (k i : ℕ) → ((j : ℕ) → i ≤ j → j < i + k → p j ≡ false) → first p k i ≡ None
 unfolding first
 first_none_of p zero i h = refl
 first_none_of p (suc k) i h = rw (h i (omega arith) (omega arith)) (first_none_of p k (i + 1) (λ j a b. h j (omega arith) (omega arith)))
@@ -93,37 +90,37 @@ extent_turn m k p h x e z = record {
     go i a b (yes l) = let q : i ≡ k - 1 = omega arith in rw (q, ← e) z
     go i a b (no l) = x.empty i (omega (arith, l)) b
 
-pub found_below : (m : List ℕ) (n i : ℕ) → table_find m n ≡ At i → i < 64
+pub found_below : (m : List ℕ) (n i : ℕ) → table_find m n ≡ Some i → i < 64
 unfolding table_find
 found_below m n i e =
-    cond_cases (eqb n 0) e (λ t (r : ◌≡◌ {A = Finding} Nothing (At i)). let z : ◌≡◌ {A = ℕ} 0 1 = cc in absurd (omega arith))
+    cond_cases (eqb n 0) e (λ t (r : ◌≡◌ {A = Option ℕ} None (Some i)). let z : ◌≡◌ {A = ℕ} 0 1 = cc in absurd (omega arith))
     (λ t r. (first_found (numbered m n) 64 0 i r).1)
 
 -- what was looked for in the log
-pub match_some : (o : Option Commitment) (t : CommitTime) (e : EndPlace) → Found t e ≡ match_of o → o ≡ some (record { time = t.0; end = e.0 })
+pub match_some : (o : Option Commitment) (t : CommitTime) (e : EndPlace) → Found t e ≡ match_of o → o ≡ Some (record { time = t.0; end = e.0 })
 unfolding match_of
-match_some none t e q = let z : ◌≡◌ {A = ℕ} 0 1 = cc in absurd (omega arith)
-match_some (some y) t e q =
+match_some None t e q = let z : ◌≡◌ {A = ℕ} 0 1 = cc in absurd (omega arith)
+match_some (Some y) t e q =
     let a : t ≡ record { 0 = y.time } = cc in
     let b : e ≡ record { 0 = y.end } = cc in
     rw (a, b)
 
-pub match_none : (o : Option Commitment) → Absent ≡ match_of o → o ≡ none
+pub match_none : (o : Option Commitment) → Absent ≡ match_of o → o ≡ None
 unfolding match_of
-match_none none q = refl
-match_none (some y) q = let z : ◌≡◌ {A = ℕ} 0 1 = cc in absurd (omega arith)
+match_none None q = refl
+match_none (Some y) q = let z : ◌≡◌ {A = ℕ} 0 1 = cc in absurd (omega arith)
 
 -- a number's time: the table's, else that of a commitment of the log
-module _ (m : List ℕ) (log : List Placed) (n : ℕ) (f : Finding) (found : f ≡ table_find m n) where
-  pub time_found : (i : ℕ) (p : Pair) → f ≡ At i → p ≡ table_pair m i → Timed p.time ≡ pair_time m log n
+module _ (m : List ℕ) (log : List Placed) (n : ℕ) (f : Option ℕ (found : f ≡ table_find m n) where
+  pub time_found : (i : ℕ) (p : Pair) → f ≡ Some i → p ≡ table_pair m i → Some p.time ≡ pair_time m log n
   unfolding pair_time
   time_found i p e r = simp (← found, e, r)
 
-  pub time_logged : (t : CommitTime) (e : EndPlace) (x : Match) → f ≡ Nothing → x ≡ match_of (commit_under log n) → x ≡ Found t e → Timed t ≡ pair_time m log n
+  pub time_logged : (t : CommitTime) (e : EndPlace) (x : Match) → f ≡ None → x ≡ match_of (commit_under log n) → x ≡ Found t e → Some t ≡ pair_time m log n
   unfolding pair_time
   time_logged t e x g h k = simp (← found, g, match_some (commit_under log n) t e (sym k ∙ h))
 
-  pub time_none : (x : Match) → f ≡ Nothing → x ≡ match_of (commit_under log n) → x ≡ Absent → Untimed ≡ pair_time m log n
+  pub time_none : (x : Match) → f ≡ None → x ≡ match_of (commit_under log n) → x ≡ Absent → None ≡ pair_time m log n
   unfolding pair_time
   time_none x g h k = simp (← found, g, match_none (commit_under log n) (sym k ∙ h))
 

@@ -1,10 +1,8 @@
 -- What was looked up and gathered, as the code has it.
-use Rattle.std.specs.Prelude.{ℕ, ◌+◌, ◌<◌, ◌≤◌, ◌*◌, ◌≡◌, Bool, true, cond, ◌&&◌, List, [], ◌∷◌, get_or, set, eqb, leb, ltb}
-use Rattle.std.proofs.Math.Option.{Option, none, some}
+use Rattle.layout.specs.declared.CommitTime.{CommitTime}
+use Rattle.std.specs.Prelude.{ℕ, ◌+◌, ◌<◌, ◌≤◌, ◌*◌, ◌≡◌, Bool, true, cond, ◌&&◌, List, [], ◌∷◌, get_or, set, eqb, leb, ltb, Option, None, Some}
 use Rattle.layout.specs.Journal.{Record, version, commit}
 use Rattle.layout.specs.Table.{table_pair}
-use Rattle.store.specs.declared.Timing.{Timing}
-use Rattle.store.specs.declared.Timing.TheVariants.{Timed, Untimed}
 use Rattle.store.specs.Write.{or_none}
 use Rattle.store.specs.Chain.{cell_at, newest}
 use Rattle.store.specs.OpenLog.{Placed, Commitment, read_log}
@@ -13,8 +11,8 @@ use Rattle.conditions.specs.declared.log.Match.{Match}
 use Rattle.conditions.specs.declared.log.Match.TheVariants.{Found, Absent}
 
 unfoldable pub match_of : Option Commitment → Match
-match_of none = Absent
-match_of (some x) = Found (record { 0 = x.time }) (record { 0 = x.end })
+match_of None = Absent
+match_of (Some x) = Found (record { 0 = x.time }) (record { 0 = x.end })
 
 -- the commit records of a log as numbers: number, time and end place of one behind the other
 abbrev pub commit_words : Record → ℕ → List ℕ → List ℕ
@@ -27,10 +25,10 @@ commits_of (x ∷ xs) = commit_words x.rec x.end (commits_of xs)
 
 -- the first of them under a number
 unfoldable pub commit_among : List ℕ → ℕ → Option Commitment
-commit_among [] n = none
-commit_among (a ∷ []) n = none
-commit_among (a ∷ b ∷ []) n = none
-commit_among (a ∷ b ∷ c ∷ rest) n = cond (eqb a n) (some (record { time = b; end = c })) (commit_among rest n)
+commit_among [] n = None
+commit_among (a ∷ []) n = None
+commit_among (a ∷ b ∷ []) n = None
+commit_among (a ∷ b ∷ c ∷ rest) n = cond (eqb a n) (Some (record { time = b; end = c })) (commit_among rest n)
 
 -- the table's places from `used` on are empty
 pub record Extent (m : List ℕ) (used : ℕ) : Type 0 where
@@ -43,14 +41,14 @@ pub record Known (m : List ℕ) (l used : ℕ) (commits : List ℕ) : Type 0 whe
   pub log : commits ≡ commits_of (read_log m l)
 
 -- one more than a commit time, 0 for none: the least that may follow it
-abbrev pub low_of : Timing → ℕ
-low_of Untimed = 0
-low_of (Timed t) = t.0 + 1
+abbrev pub low_of : Option CommitTime → ℕ
+low_of None = 0
+low_of (Some t) = t.0 + 1
 
 -- a time, or 0 for none
-abbrev pub time_or_zero : Timing → ℕ
-time_or_zero Untimed = 0
-time_or_zero (Timed t) = t.0
+abbrev pub time_or_zero : Option CommitTime → ℕ
+time_or_zero None = 0
+time_or_zero (Some t) = t.0
 
 -- every version record has a slot below 15 × d
 abbrev pub slot_below : ℕ → Record → Bool
@@ -71,10 +69,10 @@ pub record Tracks (m : List ℕ) (l d : ℕ) (c : List ℕ) (n : ℕ) (slots tim
   pub newest_time : (k : ℕ) → k < 1024 → get_or times k 0 ≡ time_or_zero (time_below m l d c k n)
 
 -- is a time not below the record's newest one, and the newest times with it
-abbrev pub time_fits : List ℕ → ℕ → Timing → Bool
-time_fits times key Untimed = true
-time_fits times key (Timed t) = leb (get_or times key 0) t.0
+abbrev pub time_fits : List ℕ → ℕ → Option CommitTime → Bool
+time_fits times key None = true
+time_fits times key (Some t) = leb (get_or times key 0) t.0
 
-abbrev pub times_after : List ℕ → ℕ → Timing → List ℕ
-times_after times key Untimed = times
-times_after times key (Timed t) = set times key t.0
+abbrev pub times_after : List ℕ → ℕ → Option CommitTime → List ℕ
+times_after times key None = times
+times_after times key (Some t) = set times key t.0

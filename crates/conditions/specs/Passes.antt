@@ -1,7 +1,6 @@
 -- 01's "well formed?" as the code goes through the medium: master, log blocks, pages, redo, table, log records, slots.
 -- Every item is judged once for all the conditions that concern it.
-use Rattle.std.specs.Prelude.{ℕ, zero, suc, ◌+◌, ◌-◌, ◌*◌, ◌^◌, Bool, true, cond, not, ◌&&◌, List, [], ◌∷◌, ◌++◌, length, eqb, leb, ltb}
-use Rattle.std.proofs.Math.Option.{Option}
+use Rattle.std.specs.Prelude.{ℕ, zero, suc, ◌+◌, ◌-◌, ◌*◌, ◌^◌, Bool, true, cond, not, ◌&&◌, List, [], ◌∷◌, ◌++◌, length, eqb, leb, ltb, Option}
 use Rattle.fields.specs.Block.{blk, page_block_at}
 use Rattle.layout.specs.Page.{page_form, page_end}
 use Rattle.layout.specs.Journal.{Record, used_form, record_form, parsed}

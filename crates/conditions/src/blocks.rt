@@ -10,13 +10,12 @@ ghost use Rattle.conditions.specs.Passes.{all_of, records_ok, blocks_ok, page_ok
 
 use layout::CommitTime;
 use layout::item::{Item, VersionHead};
-use store::Timing;
 
 // Whether a block's records keep what is asked of them, and the last commit time up to them.
 #[derive(Clone, Copy)]
 pub struct Checked {
     pub ok: bool,
-    pub last: Timing,
+    pub last: Option<CommitTime>,
 }
 
 // Has a version record a key, a kind and a value in form, and a slot in range?
@@ -34,17 +33,17 @@ fn version_ok(h: VersionHead, value: &[u8], pages: u64) -> bool
 }
 
 // Is a time above the last one, if there is one?
-fn rises(last: Timing, time: CommitTime) -> bool
+fn rises(last: Option<CommitTime>, time: CommitTime) -> bool
     ensures { result ≡ leb (low_of last) time.0 }
 {
     match last {
-        Timing::Untimed => true,
-        Timing::Timed(t) => t.0 < time.0,
+        None => true,
+        Some(t) => t.0 < time.0,
     }
 }
 
 // The records of a block, one after the other.
-pub fn records_ok(block: &[u8], pages: u64, before: Timing) -> Checked
+pub fn records_ok(block: &[u8], pages: u64, before: Option<CommitTime>) -> Checked
     requires block_len { length block.now ≡ 512 }
     requires pages_bound { pages ≤ 64 }
     ensures { (result.ok ≡ records_ok pages (low_of before) (parsed block.now).records && (parsed block.now).whole) × (result.ok ≡ true → low_of result.last ≡ low_after_all (low_of before) (parsed block.now).records) }
@@ -80,7 +79,7 @@ pub fn records_ok(block: &[u8], pages: u64, before: Timing) -> Checked
                         last: last,
                     };
                 }
-                last = Timing::Timed(time);
+                last = Some(time);
                 at = at + 19;
             }
             Item::Number(_, _) => {
@@ -106,7 +105,7 @@ pub fn blocks_ok(medium: &[u8], blocks: u64, pages: u64, oldest: u64, count: u64
     requires oldest_bound { (oldest < 2 ^ 48) × (count ≤ 32) }
     ensures { result ≡ blocks_ok medium.now blocks pages 0 oldest count }
 {
-    let mut last = Timing::Untimed;
+    let mut last = None;
     let mut k: u64 = 0;
     while k < count {
         let s = oldest + k;

@@ -11,7 +11,6 @@ use crate::cursor::{Cursor, Step};
 use crate::log::Match;
 use layout::item::Pair;
 use layout::{EndPlace, TxNumber};
-use store::Found;
 
 // Whether all records keep what is asked of them; one more than the highest number, and the highest time.
 #[derive(Clone, Copy)]
@@ -39,8 +38,8 @@ fn same_time(medium: &[u8], used: usize, pair: Pair) -> bool
 {
     let f = crate::table::find(medium, used, pair.number.0);
     match f {
-        Found::At(i) => layout::table::read(medium, i as usize).time.0 == pair.time.0,
-        Found::Nothing => true,
+        Some(i) => layout::table::read(medium, i as usize).time.0 == pair.time.0,
+        None => true,
     }
 }
 

@@ -9,8 +9,8 @@ ghost use Rattle.conditions.specs.Cursor.{Ready};
 ghost use Rattle.conditions.specs.Lookup.{Known, KeysBelow, Tracks, time_fits, times_after};
 ghost use Rattle.conditions.specs.Passes.{all_of, slot_ok};
 
+use layout::CommitTime;
 use layout::slot::Slot;
-use store::Timing;
 
 // Is the page full, the last one, or the one behind it unused?
 fn page_full(cache: &[u8], pages: u64, p: u64) -> bool
@@ -67,28 +67,28 @@ fn in_bounds(slot: Slot, next: u64, last: u64) -> bool
 }
 
 // The time of a version: its stamp, or its pair's in table or log.
-fn time_of(medium: &[u8], blocks: u64, used: usize, commits: &[u64], slot: Slot) -> Timing
+fn time_of(medium: &[u8], blocks: u64, used: usize, commits: &[u64], slot: Slot) -> Option<CommitTime>
     requires ready { Ready blocks (length medium.now) }
     requires known { Known medium.now blocks used commits.now }
     ensures { result ≡ version_time (pair_time medium.now (read_log medium.now blocks)) slot }
 {
     match slot {
-        Slot::Empty => Timing::Untimed,
+        Slot::Empty => None,
         Slot::Waiting(n) => crate::table::pair_time(medium, blocks, used, commits, n.0),
-        Slot::Stamped(t) => Timing::Timed(t),
+        Slot::Stamped(t) => Some(t),
     }
 }
 
 // Is the time not below the record's newest one before it? It is then the newest.
-fn follows(times: &mut [u64], key: u16, time: Timing) -> bool
+fn follows(times: &mut [u64], key: u16, time: Option<CommitTime>) -> bool
     requires times_len { length times.old ≡ 1024 }
     requires key_bound { key < 1024 }
     ensures { (result ≡ time_fits times.old key time) × (times.new ≡ times_after times.old key time) }
 {
     let k = key as usize;
     match time {
-        Timing::Untimed => true,
-        Timing::Timed(t) => {
+        None => true,
+        Some(t) => {
             let ok = times[k] <= t.0;
             times[k] = t.0;
             ok

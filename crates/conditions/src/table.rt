@@ -8,11 +8,11 @@ ghost use Rattle.conditions.specs.Cursor.{Ready};
 ghost use Rattle.conditions.specs.Lookup.{Extent, Known};
 ghost use Rattle.conditions.specs.Passes.{all_of, place_ok};
 
+use layout::CommitTime;
 use crate::log::Match;
-use store::{Found, Timing};
 
 // The first of the first k places that holds the number.
-fn find_below(medium: &[u8], n: u64, k: usize) -> Found
+fn find_below(medium: &[u8], n: u64, k: usize) -> Option<u64>
     requires in_bounds { 1536 ≤ length medium.now }
     requires k_bound { k ≤ 64 }
     ensures { result ≡ first (λ i. eqb (table_pair medium.now i).number.0 n) k 0 }
@@ -21,11 +21,11 @@ fn find_below(medium: &[u8], n: u64, k: usize) -> Found
     while i < k {
         let p = layout::table::read(medium, i);
         if p.number.0 == n {
-            return Found::At(i as u64);
+            return Some(i as u64);
         }
         i += 1;
     }
-    Found::Nothing
+    None
 }
 
 // How many places of the table there are up to the last one in use.
@@ -45,35 +45,35 @@ pub fn extent(medium: &[u8]) -> usize
 }
 
 // The table place of a number; 0 has none.
-pub fn find(medium: &[u8], used: usize, n: u64) -> Found
+pub fn find(medium: &[u8], used: usize, n: u64) -> Option<u64>
     requires in_bounds { 1536 ≤ length medium.now }
     requires extent { Extent medium.now used }
     ensures { result ≡ table_find medium.now n }
 {
     if n == 0 {
-        return Found::Nothing;
+        return None;
     }
     find_below(medium, n, used)
 }
 
 // The commit time of a number: the table's, else the log's.
-pub fn pair_time(medium: &[u8], blocks: u64, used: usize, commits: &[u64], n: u64) -> Timing
+pub fn pair_time(medium: &[u8], blocks: u64, used: usize, commits: &[u64], n: u64) -> Option<CommitTime>
     requires ready { Ready blocks (length medium.now) }
     requires known { Known medium.now blocks used commits.now }
     ensures { result ≡ pair_time medium.now (read_log medium.now blocks) n }
 {
     let f = find(medium, used, n);
     match f {
-        Found::At(i) => {
+        Some(i) => {
             let p = layout::table::read(medium, i as usize);
             let t = p.time;
-            Timing::Timed(t)
+            Some(t)
         }
-        Found::Nothing => {
+        None => {
             let c = crate::log::commit_under(commits, n);
             match c {
-                Match::Found(t, _) => Timing::Timed(t),
-                Match::Absent => Timing::Untimed,
+                Match::Found(t, _) => Some(t),
+                Match::Absent => None,
             }
         }
     }
@@ -102,8 +102,8 @@ fn place_ok(medium: &[u8], i: usize, next: u64, last: u64) -> bool
     }
     let f = find_below(medium, n, i);
     match f {
-        Found::At(_) => false,
-        Found::Nothing => true,
+        Some(_) => false,
+        None => true,
     }
 }
 

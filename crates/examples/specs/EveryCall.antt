@@ -1,6 +1,5 @@
 -- One run in which every call is made and accepted and every kind of answer comes: demand 3 says something of each.
-use Rattle.std.specs.Prelude.{ℕ, ◌≡◌, Bool, true, ◌&&◌, List, [], ◌∷◌, ◌++◌, map, replicate, eqb}
-use Rattle.std.proofs.Math.Option.{some}
+use Rattle.std.specs.Prelude.{ℕ, ◌≡◌, Bool, true, ◌&&◌, List, [], ◌∷◌, ◌++◌, map, replicate, eqb, Some}
 use Rattle.runs.specs.Event.{Event, cut, call, begin, write, erase, current_read, commit, abort, as_of, changes}
 use Rattle.runs.specs.Event.{store_log, store_page, checkpoint, missing, erased, present, Observation}
 use Rattle.runs.specs.Moments.{Run, trace_at}
@@ -56,7 +55,7 @@ lines =
     ∷ line cut (answers 0)
     -- a value and an erasure with their times, and a version that has none
     ∷ line (opened 1)
-    (finds 11 (at 10 7 65 ∷ record { key = 7; kind = 1; value = bytes 0; time = some 11 } ∷ waits 8 66 ∷ []))
+    (finds 11 (at 10 7 65 ∷ record { key = 7; kind = 1; value = bytes 0; time = Some 11 } ∷ waits 8 66 ∷ []))
     ∷ []
 
 abbrev pub events : List Event

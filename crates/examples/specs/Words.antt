@@ -1,6 +1,5 @@
 -- Words for runs and for what is seen of them.
-use Rattle.std.specs.Prelude.{ℕ, ◌*◌, true, false, List, [], replicate}
-use Rattle.std.proofs.Math.Option.{none, some}
+use Rattle.std.specs.Prelude.{ℕ, ◌*◌, true, false, List, [], replicate, None, Some}
 use Rattle.runs.specs.Event.{Event, opening, Strip, missing, Sight, Observation}
 
 -- sixteen equal bytes
@@ -36,7 +35,7 @@ refuses n = record { refusal = n; result = 0; strip = missing; changed = false; 
 
 -- a slot of a record with a value of equal bytes: at a time, and without one
 abbrev pub at : ℕ → ℕ → ℕ → Sight
-at t key b = record { key = key; kind = 0; value = bytes b; time = some t }
+at t key b = record { key = key; kind = 0; value = bytes b; time = Some t }
 
 abbrev pub waits : ℕ → ℕ → Sight
-waits key b = record { key = key; kind = 0; value = bytes b; time = none }
+waits key b = record { key = key; kind = 0; value = bytes b; time = None }

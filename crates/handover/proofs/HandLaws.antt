@@ -1,9 +1,9 @@
 -- What follows a call is chosen by its answer: once the call is known to have left x, it is what follows x. An answer's variant
 -- says whether it is a refusal, whether a strip is there, and what its number is.
+use Rattle.std.specs.Prelude.{Option, None, Some}
 use mathlib.Core.Path.{◌≡◌, refl, sym, ap, ◌∙◌}
 use Prim.Native.Nat.{ℕ}
 use mathlib.Core.Bool.{false, not}
-use mathlib.Core.Option.{Option, none, some}
 use mathlib.Core.List.{List, [], ◌∷◌}
 use lib.ListN.{get_or}
 use lib.Dec.{eqb}
@@ -19,21 +19,21 @@ use Rattle.handover.specs.declared.HandAnswer.TheVariants.{Handed}
 use Rattle.handover.specs.Hand.{HandOutcome, hand_ends, refusal_in, is_present, may_hand, reads, after_begin, after_read, after_commit}
 
 module _ (follows : Option Refusal → Outcome → HandOutcome) (x o : Outcome) (e : x ≡ o) where
-  pub by_refusal : (r : Refusal) → x.answer ≡ Refused r → follows (some r) x ≡ follows (refusal_in o.answer) o
+  pub by_refusal : (r : Refusal) → x.answer ≡ Refused r → follows (Some r) x ≡ follows (refusal_in o.answer) o
   by_refusal r a = ap (λ (y : Answer). follows (refusal_in y) x) (sym a) ∙ ap (λ (y : Outcome). follows (refusal_in y.answer) y) e
 
-  pub by_answer : refusal_in x.answer ≡ none → follows none x ≡ follows (refusal_in o.answer) o
+  pub by_answer : refusal_in x.answer ≡ None → follows None x ≡ follows (refusal_in o.answer) o
   by_answer a = ap (λ (y : Option Refusal). follows y x) (sym a) ∙ ap (λ (y : Outcome). follows (refusal_in y.answer) y) e
 
 -- the begin's number is the one that its answer gives
 pub under_number : (n : ℕ) (x : Outcome) (h : Transfer) → n ≡ answer_value x.answer
-    → after_begin none (leaves (Begun (record { 0 = n })) x.state x.medium x.cache) h ≡ after_begin none x h
+    → after_begin None (leaves (Begun (record { 0 = n })) x.state x.medium x.cache) h ≡ after_begin None x h
 unfolding after_begin answer_value
 under_number n x h e = ap (λ (m : ℕ). after_read (refusal_in (reads x m h).answer) (reads x m h) m h) e
 
 -- the time answered is the one in the commit's answer
 pub handed_at : (t : ℕ) (x : Outcome) (n : ℕ) → t ≡ answer_value x.answer
-    → hand_ends (Handed (record { 0 = t })) x.state x.medium x.cache ≡ after_commit none x n
+    → hand_ends (Handed (record { 0 = t })) x.state x.medium x.cache ≡ after_commit None x n
 unfolding after_commit
 handed_at t x n e = ap (λ (v : ℕ). hand_ends (Handed (record { 0 = v })) x.state x.medium x.cache) e
 
@@ -44,7 +44,7 @@ unfolding may_hand
 owner_left a strip h p e z = simp (p, eq-eqb _ _ e, ne_eqb _ _ z)
 
 -- an answer that is no refusal
-pub not_refused : (a : Answer) → ((r : Refusal) → a ≡ Refused r → ⊥) → refusal_in a ≡ none
+pub not_refused : (a : Answer) → ((r : Refusal) → a ≡ Refused r → ⊥) → refusal_in a ≡ None
 not_refused (Refused r) o = absurd (o r refl)
 not_refused Done o = refl
 not_refused (Begun n) o = refl

@@ -1,14 +1,12 @@
 -- What a refused handover leaves, stage by stage: a refused call leaves all as it was, an abort frees the place of its number and
 -- nothing else, and so what stays is what begin, and where it was accepted the write, have put in.
+use Rattle.std.specs.Prelude.{Option, None, Some}
 use Prim.Native.Nat.{ℕ, ◌<◌}
 use native.Mathlib.Omega.{arith}
 use mathlib.Core.Path.{◌≡◌, refl, sym, ap, ◌∙◌}
 use mathlib.Core.Bool.{Bool, true, false, false≢true}
-use mathlib.Core.Option.{Option, none, some}
 use mathlib.Core.List.{List}
 use Rattle.store.specs.declared.Answer.TheVariants.{Done}
-use Rattle.store.specs.declared.Found.{Found}
-use Rattle.store.specs.declared.Found.TheVariants.{At, Nothing}
 use Rattle.store.specs.declared.Refusal.{Refusal}
 use Rattle.store.specs.declared.State.{State}
 use Rattle.store.specs.Answer.{Outcome, leaves, answer_value}
@@ -41,14 +39,14 @@ record Begun (s : State) (m c : List ℕ) (clock : ℕ) (o : Outcome) : Type 0 w
   cache : o.cache ≡ c
   number : answer_value o.answer ≡ s.next.0
 
-begin_left : {m c : List ℕ} {s : State} {clock : ℕ} {o : Outcome} → Way m c s (begin clock) o → refusal_in o.answer ≡ none → Begun s m c clock o
+begin_left : {m c : List ℕ} {s : State} {clock : ℕ} {o : Outcome} → Way m c s (begin clock) o → refusal_in o.answer ≡ None → Begun s m c clock o
 unfolding answer_value
 begin_left (refused k r w) e = none_some (sym e)
 begin_left (begins_way clock i p w) e = record { place = _; state = refl; medium = refl; cache = refl; number = refl }
 begin_left (looks k a v b h p n w) e = absurd (false≢true h)
 
-write_left : {m c : List ℕ} {s : State} {n key : ℕ} {v : List ℕ} {o : Outcome} → Way m c s (write n key v) o → refusal_in o.answer ≡ none
-    → (j : ℕ) × ((find_active s.places n ≡ At j) × (o ≡ write_step s m c j (new_head s c n key 0) v))
+write_left : {m c : List ℕ} {s : State} {n key : ℕ} {v : List ℕ} {o : Outcome} → Way m c s (write n key v) o → refusal_in o.answer ≡ None
+    → (j : ℕ) × ((find_active s.places n ≡ Some j) × (o ≡ write_step s m c j (new_head s c n key 0) v))
 write_left (refused k r w) e = none_some (sym e)
 write_left (writes_way n key i v p w) e = (i, (w, refl))
 write_left (looks k a v b h p n w) e = absurd (false≢true h)
@@ -56,16 +54,16 @@ write_left (looks k a v b h p n w) e = absurd (false≢true h)
 -- an abort frees the place of its number
 record Freed (o : Outcome) (n : ℕ) : Type 0 where
   place : ℕ
-  found : find_active o.state.places n ≡ At place
+  found : find_active o.state.places n ≡ Some place
   left : aborts o n ≡ leaves Done (with_place o.state place free_place) o.medium o.cache
 
 abort_left : (o : Outcome) (n : ℕ) → Abortable o n → Freed o n
 unfolding abort_of abort_if
 abort_left o n a = go (find_active o.state.places n) refl a.active
   where
-    go : (f : Found) → find_active o.state.places n ≡ f → is_at f ≡ true → Freed o n
-    go (At j) e z = record { place = j; found = e; left = simp (a.fit, e) }
-    go Nothing e z = absurd (false≢true z)
+    go : (f : Option ℕ) → find_active o.state.places n ≡ f → is_at f ≡ true → Freed o n
+    go (Some j) e z = record { place = j; found = e; left = simp (a.fit, e) }
+    go None e z = absurd (false≢true z)
 
 -- ---- the stages
 
@@ -106,25 +104,25 @@ module _ (s : State) (m c : List ℕ) (h : Transfer) where
         x = commits w n h
 
         -- the commit is refused: the abort frees the place in which the write counted its version
-        ended : (r : Refusal) → refusal_in w.answer ≡ none → refusal_in x.answer ≡ some r → Left (gives_up (Denied r) x n)
+        ended : (r : Refusal) → refusal_in w.answer ≡ None → refusal_in x.answer ≡ Some r → Left (gives_up (Denied r) x n)
         ended r a y p =
             let k1 = way o.medium o.cache o.state (write n h.flight (with_owner o.value h.to)) in
             let v = write_left k1 a in
             let u = refusal_leaves w.medium w.cache w.state (commit n h.ended) r (in_refusal x.answer r y) in
             let z = abort_left x n (commit_abortable w n h (write_abortable o n h q) r y) in
-            let t : At z.place ≡ At v.0 = sym z.found ∙ ap (λ (st : State). find_active st.places n) u.state ∙ written_active k1 n ∙ v.1.0 in
+            let t : Some z.place ≡ Some v.0 = sym z.found ∙ ap (λ (st : State). find_active st.places n) u.state ∙ written_active k1 n ∙ v.1.0 in
             let j : z.place ≡ v.0 = cc in
             version_freed i v.0 z.place o.value w x (aborts x n) (v.1.1 ∙ write_to v.0 (with_owner o.value h.to)) u.state u.medium u.cache j z.left
 
-        after : refusal_in w.answer ≡ none → (a : Option Refusal) → refusal_in x.answer ≡ a → Left (after_commit a x n)
-        after a (some r) y p = ended r a y p
-        after a none y p = absurd (omega (arith, p))
+        after : refusal_in w.answer ≡ None → (a : Option Refusal) → refusal_in x.answer ≡ a → Left (after_commit a x n)
+        after a (Some r) y p = ended r a y p
+        after a None y p = absurd (omega (arith, p))
 
         go : (a : Option Refusal) → refusal_in w.answer ≡ a → Left (after_write a w n h)
-        go (some r) y =
+        go (Some r) y =
             let u = refusal_leaves o.medium o.cache o.state (write n h.flight (with_owner o.value h.to)) r (in_refusal w.answer r y) in
             number_left (Denied r) w n i (u.state ∙ e) (u.medium ∙ f) (u.cache ∙ g) (write_abortable o n h q)
-        go none y = after y (refusal_in x.answer) refl
+        go None y = after y (refusal_in x.answer) refl
 
     check_stage : (a : Bool) → Left (after_check a o n h)
     unfolding after_check
@@ -133,13 +131,13 @@ module _ (s : State) (m c : List ℕ) (h : Transfer) where
 
     read_stage : (a : Option Refusal) → Left (after_read a o n h)
     unfolding after_read
-    read_stage (some r) = number_left (Denied r) o n i e f g q
-    read_stage none = check_stage (may_hand o.answer o.value h)
+    read_stage (Some r) = number_left (Denied r) o n i e f g q
+    read_stage None = check_stage (may_hand o.answer o.value h)
 
   begin_stage : (a : Option Refusal) → refusal_in (begins s m c h).answer ≡ a → Left (after_begin a (begins s m c h) h)
   unfolding after_begin called
-  begin_stage (some r) e p = let u = refusal_leaves m c s (begin h.began) r (in_refusal _ r e) in rw (u.state, u.medium, u.cache) nothing
-  begin_stage none e p =
+  begin_stage (Some r) e p = let u = refusal_leaves m c s (begin h.began) r (in_refusal _ r e) in rw (u.state, u.medium, u.cache) nothing
+  begin_stage None e p =
       let o = begins s m c h in
       let n = answer_value o.answer in
       let b = begin_left (way m c s (begin h.began)) e in

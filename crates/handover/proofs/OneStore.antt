@@ -1,12 +1,12 @@
 -- A handover makes at most one store. Begin, read and abort store nothing. Where the write stores the tail, the next tail holds its
 -- record alone, and the commit record fits behind it; where the write stores nothing, the tail stays in its block, and the commit
 -- stores that block or none.
+use Rattle.std.specs.Prelude.{Option, None, Some}
 use Prim.Native.Nat.{ℕ, zero, suc, ◌+◌}
 use native.Mathlib.Omega.{arith}
 use mathlib.Core.Logic.{◌⊎◌, inl, inr}
 use mathlib.Core.Path.{◌≡◌, refl, sym, ap, ◌∙◌}
 use mathlib.Core.Bool.{Bool, true, false, false≢true}
-use mathlib.Core.Option.{Option, none, some}
 use mathlib.Core.List.{List, [], ◌∷◌, ◌++◌}
 use lib.ListN.{length, replicate}
 use borrow.Author.Tests.{le-leb}
@@ -148,8 +148,8 @@ module _ (l d : ℕ) where
   committed : (a : Option Refusal) (x : Outcome) (n : ℕ)
       → (j : ℕ) × (x.medium ∷ media_after l d (after x) (events_of (commit_calls a n)) ≡ replicate j x.medium)
   unfolding media_after events_of
-  committed (some r) x n = (2, aborted x n)
-  committed none x n = (1, refl)
+  committed (Some r) x n = (2, aborted x n)
+  committed None x n = (1, refl)
 
   abort_once : (o : Outcome) (n : ℕ) → Once o.medium (tail_block o.state) (media_after l d (after o) (events_of (abort n ∷ [])))
   unfolding media_after events_of step
@@ -182,17 +182,17 @@ module _ (l d : ℕ) where
             (ap (λ (ms : List (List ℕ)). w.medium ∷ ms) (j.1 ∙ ap (replicate j.0) (commit_fits (way w.medium w.cache w.state (commit n h.ended)) f)))
 
         go : (a : Option Refusal) → Once o.medium (tail_block o.state) (w.medium ∷ media_after l d (after w) (events_of (write_calls a w n h)))
-        go (some r) = once_all 2 stored (aborted w n)
-        go none = by (write_logs (way o.medium o.cache o.state (write n h.flight (with_owner o.value h.to))))
+        go (Some r) = once_all 2 stored (aborted w n)
+        go None = by (write_logs (way o.medium o.cache o.state (write n h.flight (with_owner o.value h.to))))
 
     read_once : (a : Option Refusal) (o : Outcome) → Once o.medium (tail_block o.state) (media_after l d (after o) (events_of (read_calls a o n h)))
-    read_once (some r) o = abort_once o n
-    read_once none o = check_once (may_hand o.answer o.value h) o
+    read_once (Some r) o = abort_once o n
+    read_once None o = check_once (may_hand o.answer o.value h) o
 
   begin_once : (a : Option Refusal) (o : Outcome) (h : Transfer) → Once o.medium (tail_block o.state) (media_after l d (after o) (events_of (begin_calls a o h)))
   unfolding media_after events_of step called
-  begin_once (some r) o h = once_all 0 nothing refl
-  begin_once none o h =
+  begin_once (Some r) o h = once_all 0 nothing refl
+  begin_once None o h =
       let n = answer_value o.answer in
       let x = hand_reads o n h in
       let e = (quiet_leaves o.medium o.cache o.state (current_read n h.flight) refl).medium in

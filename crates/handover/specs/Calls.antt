@@ -1,6 +1,5 @@
 -- A handover in a run: the calls that it makes, one after the other, so that demand 3 speaks of each.
-use Rattle.std.specs.Prelude.{ℕ, Bool, true, false, ◌&&◌, List, [], ◌∷◌, ltb}
-use Rattle.std.proofs.Math.Option.{Option, none, some}
+use Rattle.std.specs.Prelude.{ℕ, Bool, true, false, ◌&&◌, List, [], ◌∷◌, ltb, Option, None, Some}
 use Rattle.store.specs.declared.Refusal.{Refusal}
 use Rattle.store.specs.declared.State.{State}
 use Rattle.store.specs.Answer.{Outcome, answer_value}
@@ -19,13 +18,13 @@ hand_typed h =
 
 -- 02, #101: "any refusal aborts": after the commit
 abbrev pub commit_calls : Option Refusal → ℕ → List Call
-commit_calls (some r) n = abort n ∷ []
-commit_calls none n = []
+commit_calls (Some r) n = abort n ∷ []
+commit_calls None n = []
 
 -- 02, #101: "and commits": after the write o
 abbrev pub write_calls : Option Refusal → Outcome → ℕ → Transfer → List Call
-write_calls (some r) o n h = abort n ∷ []
-write_calls none o n h = commit n h.ended ∷ commit_calls (refusal_in (commits o n h).answer) n
+write_calls (Some r) o n h = abort n ∷ []
+write_calls None o n h = commit n h.ended ∷ commit_calls (refusal_in (commits o n h).answer) n
 
 -- 02, #101: "checks, writes the strip read with b in byte 0": after the check of what the read o gave
 abbrev pub check_calls : Bool → Outcome → ℕ → Transfer → List Call
@@ -35,13 +34,13 @@ check_calls true o n h =
 
 -- 02, #101: "checks": after the read o
 abbrev pub read_calls : Option Refusal → Outcome → ℕ → Transfer → List Call
-read_calls (some r) o n h = abort n ∷ []
-read_calls none o n h = check_calls (may_hand o.answer o.value h) o n h
+read_calls (Some r) o n h = abort n ∷ []
+read_calls None o n h = check_calls (may_hand o.answer o.value h) o n h
 
 -- 02, #101: "reads": after the begin o
 abbrev pub begin_calls : Option Refusal → Outcome → Transfer → List Call
-begin_calls (some r) o h = []
-begin_calls none o h =
+begin_calls (Some r) o h = []
+begin_calls None o h =
     let n = answer_value o.answer in current_read n h.flight ∷ read_calls (refusal_in (reads o n h).answer) (reads o n h) n h
 
 -- 02, #101: "It begins, reads, checks, writes .. and commits .. any refusal aborts"

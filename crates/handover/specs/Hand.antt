@@ -1,6 +1,5 @@
 -- A handover: the whole outcome for every input, from the outcomes of the store's calls.
-use Rattle.std.specs.Prelude.{ℕ, Bool, true, false, not, ◌&&◌, List, get_or, set, eqb}
-use Rattle.std.proofs.Math.Option.{Option, none, some}
+use Rattle.std.specs.Prelude.{ℕ, Bool, true, false, not, ◌&&◌, List, get_or, set, eqb, Option, None, Some}
 use Rattle.store.specs.declared.Answer.{Answer}
 use Rattle.store.specs.declared.Answer.TheVariants.{Refused, Done, Begun, Written, Committed, Opened, Missing, Erased, Present, Listed}
 use Rattle.store.specs.declared.Refusal.{Refusal}
@@ -36,16 +35,16 @@ pub record HandOutcome : Type 0 where
 
 -- 02, #101: "any refusal": the one in an answer of the store, if there is one
 abbrev pub refusal_in : Answer → Option Refusal
-refusal_in (Refused r) = some r
-refusal_in Done = none
-refusal_in (Begun n) = none
-refusal_in (Written k) = none
-refusal_in (Committed t) = none
-refusal_in (Opened t) = none
-refusal_in Missing = none
-refusal_in Erased = none
-refusal_in Present = none
-refusal_in (Listed k) = none
+refusal_in (Refused r) = Some r
+refusal_in Done = None
+refusal_in (Begun n) = None
+refusal_in (Written k) = None
+refusal_in (Committed t) = None
+refusal_in (Opened t) = None
+refusal_in Missing = None
+refusal_in Erased = None
+refusal_in Present = None
+refusal_in (Listed k) = None
 
 -- 02, #101: "is the strip present": by the read's answer
 abbrev pub is_present : Answer → Bool
@@ -111,13 +110,13 @@ gives_up a o n = hand_leaves a (aborts o n)
 
 -- 02, #101: "and commits, answering the commit time": after the commit o
 unfoldable pub after_commit : Option Refusal → Outcome → ℕ → HandOutcome
-after_commit (some r) o n = gives_up (Denied r) o n
-after_commit none o n = hand_leaves (Handed (record { 0 = answer_value o.answer })) o
+after_commit (Some r) o n = gives_up (Denied r) o n
+after_commit None o n = hand_leaves (Handed (record { 0 = answer_value o.answer })) o
 
 -- 02, #101: "writes .. and commits": after the write o
 unfoldable pub after_write : Option Refusal → Outcome → ℕ → Transfer → HandOutcome
-after_write (some r) o n h = gives_up (Denied r) o n
-after_write none o n h = after_commit (refusal_in (commits o n h).answer) (commits o n h) n
+after_write (Some r) o n h = gives_up (Denied r) o n
+after_write None o n h = after_commit (refusal_in (commits o n h).answer) (commits o n h) n
 
 -- 02, #101: "checks, writes": after the check of what the read o gave
 unfoldable pub after_check : Bool → Outcome → ℕ → Transfer → HandOutcome
@@ -126,13 +125,13 @@ after_check true o n h = after_write (refusal_in (writes o n h).answer) (writes 
 
 -- 02, #101: "It follows the store's own numbers for the read": after the read o
 unfoldable pub after_read : Option Refusal → Outcome → ℕ → Transfer → HandOutcome
-after_read (some r) o n h = gives_up (Denied r) o n
-after_read none o n h = after_check (may_hand o.answer o.value h) o n h
+after_read (Some r) o n h = gives_up (Denied r) o n
+after_read None o n h = after_check (may_hand o.answer o.value h) o n h
 
 -- 02, #101: "It begins, reads": after the begin o; where it is refused there is nothing to abort
 unfoldable pub after_begin : Option Refusal → Outcome → Transfer → HandOutcome
-after_begin (some r) o h = hand_leaves (Denied r) o
-after_begin none o h =
+after_begin (Some r) o h = hand_leaves (Denied r) o
+after_begin None o h =
     let n = answer_value o.answer in after_read (refusal_in (reads o n h).answer) (reads o n h) n h
 
 -- 02, #101: "It begins, reads, checks, writes .. and commits .. any refusal aborts and is answered"

@@ -1,7 +1,6 @@
 // Handing a flight over: begin, read, check, write, commit, each by the store's public call. Once a number is given, a refusal
 // aborts it and is answered.
-ghost use Rattle.std.specs.Prelude.{◌≡◌, true};
-ghost use Rattle.std.proofs.Math.Option.{none};
+ghost use Rattle.std.specs.Prelude.{◌≡◌, true, None};
 ghost use Rattle.store.specs.declared.Answer.TheVariants.{Done, Begun, Present};
 ghost use Rattle.store.specs.Answer.{answer_value, leaves};
 ghost use Rattle.store.specs.CurrentRead.{reads as CurrentRead·reads};
@@ -68,7 +67,7 @@ fn commit(
     number: u64,
     asked: Transfer,
 ) -> HandAnswer
-    ensures { hand_ends result (state_of words.new tail.new) medium.new cache.now ≡ after_write none (leaves Done (state_of words.old tail.old) medium.old cache.now) number asked }
+    ensures { hand_ends result (state_of words.new tail.new) medium.new cache.now ≡ after_write None (leaves Done (state_of words.old tail.old) medium.old cache.now) number asked }
 {
     let answer = transactions::commit::commit(words, tail, medium, cache, number, asked.ended);
     match answer {
@@ -122,7 +121,7 @@ fn check(
     asked: Transfer,
     reading: Reading,
 ) -> HandAnswer
-    ensures { hand_ends result (state_of words.new tail.new) medium.new cache.new ≡ after_read none (CurrentRead·reads reading.answer reading.value (state_of words.old tail.old) medium.old cache.old) number asked }
+    ensures { hand_ends result (state_of words.new tail.new) medium.new cache.new ≡ after_read None (CurrentRead·reads reading.answer reading.value (state_of words.old tail.old) medium.old cache.old) number asked }
 {
     if !may_hand(reading, asked) {
         return give_up(words, tail, medium, cache, number, HandAnswer::NotOwner);
@@ -140,7 +139,7 @@ fn read(
     number: u64,
     asked: Transfer,
 ) -> HandAnswer
-    ensures { hand_ends result (state_of words.new tail.new) medium.new cache.new ≡ after_begin none (leaves (Begun (record { 0 = number })) (state_of words.old tail.old) medium.old cache.old) asked }
+    ensures { hand_ends result (state_of words.new tail.new) medium.new cache.new ≡ after_begin None (leaves (Begun (record { 0 = number })) (state_of words.old tail.old) medium.old cache.old) asked }
 {
     let reading = reads::current_read::current_read(
         words,

@@ -1,5 +1,6 @@
 -- A place is read from five words: what the questions about it ask of these words, and which place the words give once some
 -- of them are set. By the cases of its kind. Assumes nothing.
+use Rattle.std.specs.Prelude.{Some, None}
 use mathlib.Core.Path.{◌≡◌, refl, sym, ap, ◌∙◌}
 use mathlib.Core.Bool.{Bool, true, false, cond, false≢true}
 use mathlib.Core.List.{List}
@@ -10,7 +11,6 @@ use borrow.Author.Tests.{eq-eqb, ne_eqb, eqb-true}
 use Rattle.store.specs.declared.Life.{Life}
 use Rattle.store.specs.declared.Life.TheVariants.{Free, Active, Committed}
 use Rattle.store.specs.declared.Place.{Place}
-use Rattle.store.specs.declared.Timing.TheVariants.{Timed, Untimed}
 use Rattle.store.specs.Places.{place_at, active_as, committed_as, time_of}
 use Rattle.memory.specs.Memory.{life_by, place_in, places_of}
 use Rattle.memory.proofs.ColumnLaws.{place_at_law}
@@ -71,11 +71,11 @@ module _ (w : List ℕ) (i : ℕ) (h : i < 64) where
       go false p false q = refl
 
   -- the commit time of a committed place
-  pub committed_time : (n : ℕ) → committed_as (place_at (places_of w) i).life n ≡ true → time_of (place_at (places_of w) i).life ≡ Timed (record { 0 = get_or w (256 + i) 0 })
+  pub committed_time : (n : ℕ) → committed_as (place_at (places_of w) i).life n ≡ true → time_of (place_at (places_of w) i).life ≡ Some (record { 0 = get_or w (256 + i) 0 })
   committed_time n e = life_at time_of ∙ go (eqb (get_or w (128 + i) 0) 1) (eqb (get_or w (128 + i) 0) 2) (sym (life_at (λ l. committed_as l n)) ∙ e)
     where
       go : (a b : Bool) → cond a false (cond b (eqb (get_or w (192 + i) 0) n) false) ≡ true
-          → cond a Untimed (cond b (Timed (record { 0 = get_or w (256 + i) 0 })) Untimed) ≡ Timed (record { 0 = get_or w (256 + i) 0 })
+          → cond a None (cond b (Some (record { 0 = get_or w (256 + i) 0 })) None) ≡ Some (record { 0 = get_or w (256 + i) 0 })
       go true b q = absurd (false≢true q)
       go false true q = refl
       go false false q = absurd (false≢true q)

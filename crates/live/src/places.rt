@@ -7,7 +7,6 @@ ghost use Rattle.memory.specs.Memory.{places_of, state_of};
 
 use layout::{CommitTime, EndPlace, TxNumber};
 use memory::{COUNTS, ENDS, KINDS, NUMBERS, TIMES};
-use store::Found;
 
 // Is place i active under the number?
 fn is_active(words: &[u64], i: usize, n: u64) -> bool
@@ -46,37 +45,37 @@ fn is_free(words: &[u64], i: usize) -> bool
 }
 
 // The first place that is active under the number.
-pub fn find_active(words: &[u64], n: u64) -> Found
+pub fn find_active(words: &[u64], n: u64) -> Option<u64>
     requires { length words.now ≡ 448 }
     ensures { result ≡ find_active (places_of words.now) n }
 {
     let mut i: usize = 0;
     while i < 64 {
         if is_active(words, i, n) {
-            return Found::At(i as u64);
+            return Some(i as u64);
         }
         i += 1;
     }
-    Found::Nothing
+    None
 }
 
 // The first place that is committed under the number.
-pub fn find_committed(words: &[u64], n: u64) -> Found
+pub fn find_committed(words: &[u64], n: u64) -> Option<u64>
     requires { length words.now ≡ 448 }
     ensures { result ≡ find_committed (places_of words.now) n }
 {
     let mut i: usize = 0;
     while i < 64 {
         if is_committed(words, i, n) {
-            return Found::At(i as u64);
+            return Some(i as u64);
         }
         i += 1;
     }
-    Found::Nothing
+    None
 }
 
 // How far behind `ring` the first free place is, round the ring.
-pub fn find_free(words: &[u64], ring: u64) -> Found
+pub fn find_free(words: &[u64], ring: u64) -> Option<u64>
     requires { length words.now ≡ 448 }
     ensures { result ≡ find_free (places_of words.now) ring }
 {
@@ -85,11 +84,11 @@ pub fn find_free(words: &[u64], ring: u64) -> Found
     while k < 64 {
         let i = ((from + k) % 64) as usize;
         if is_free(words, i) {
-            return Found::At(k);
+            return Some(k);
         }
         k += 1;
     }
-    Found::Nothing
+    None
 }
 
 // The clock at begin of the transaction in place i; 0 if none is active there.

@@ -5,17 +5,16 @@ ghost use Rattle.memory.specs.Memory.{places_of};
 
 use layout::CommitTime;
 use memory::TIMES;
-use store::{Found, Timing};
 
 // The commit time of a number by its place.
-pub fn time_under(words: &[u64], n: u64) -> Timing
+pub fn time_under(words: &[u64], n: u64) -> Option<CommitTime>
     requires { length words.now ≡ 448 }
     ensures { result ≡ time_under (places_of words.now) n }
 {
     let f = crate::places::find_committed(words, n);
     match f {
-        Found::At(i) => Timing::Timed(CommitTime(words[TIMES + (i as usize)])),
-        Found::Nothing => Timing::Untimed,
+        Some(i) => Some(CommitTime(words[TIMES + (i as usize)])),
+        None => None,
     }
 }
 

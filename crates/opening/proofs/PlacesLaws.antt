@@ -1,8 +1,8 @@
 -- The places that table and log give: how many slots wait under a number, the table's places one after the other, and
 -- the log's: leaving a number out when its turn comes is leaving it out of the list. Assumes nothing.
+use Rattle.std.specs.Prelude.{Option, Some, None}
 use mathlib.Core.Path.{◌≡◌, refl, sym, ap, ◌∙◌}
 use mathlib.Core.Bool.{Bool, true, false, cond, not, ◌&&◌, and-true, false≢true}
-use mathlib.Core.Option.{Option}
 use mathlib.Core.List.{List, [], ◌∷◌}
 use Prim.Native.Nat.{ℕ, zero, suc, ◌+◌, ◌%◌, ◌≤◌, ◌<◌}
 use native.Mathlib.Numerals.{add-one}
@@ -26,8 +26,6 @@ use Rattle.memory.specs.Memory.{listed, places_of, state_by, state_of, with_plac
 use Rattle.memory.proofs.ColumnLaws.{length_listed, get_d_listed, length_places}
 use Rattle.live.proofs.SetLaws.{state_count}
 use Rattle.store.specs.declared.Life.TheVariants.{Committed}
-use Rattle.store.specs.declared.Found.{Found as Finding}
-use Rattle.store.specs.declared.Found.TheVariants.{At, Nothing}
 use Rattle.store.specs.Places.{first, is_at, is_free, place_at, free_place, ring_place, find_free}
 use Rattle.store.specs.Chain.{cell_at, is_timed}
 use Rattle.store.specs.OpenLog.{Placed, Commitment, commit_under}
@@ -183,9 +181,9 @@ tabled_paired : (m : List ℕ) (log : List Placed) (i n : ℕ) → i < 64 → (t
 unfolding is_paired pair_time table_find
 tabled_paired m log i n h e z = rw (ne_eqb n 0 z) (go (first (λ j. eqb (table_pair m j).number.0 n) 64 0) refl)
   where
-    go : (x : Finding) → first (λ j. eqb (table_pair m j).number.0 n) 64 0 ≡ x → is_timed (table_or x m (time_of_commitment (commit_under log n))) ≡ true
-    go (At j) q = refl
-    go Nothing q = absurd (false≢true (sym (first_nothing _ 64 0 q i (omega arith) (omega arith)) ∙ eq-eqb (table_pair m i).number.0 n e))
+    go : (x : Option ℕ → first (λ j. eqb (table_pair m j).number.0 n) 64 0 ≡ x → is_timed (table_or x m (time_of_commitment (commit_under log n))) ≡ true
+    go (Some j) q = refl
+    go None q = absurd (false≢true (sym (first_nothing _ 64 0 q i (omega arith) (omega arith)) ∙ eq-eqb (table_pair m i).number.0 n e))
 
 module _ (m : List ℕ) (log : List Placed) (c : List ℕ) (slots : ℕ) (f : ℕ → ℕ) (counted : (n : ℕ) → is_paired m log n ≡ true → f n ≡ count_waiting c n slots) where
   tabled_same : (i k : ℕ) → i + k ≤ 64 → listed (table_place m log f) i k ≡ table_places m log c slots i k
@@ -210,26 +208,26 @@ free_first ps =
 
 -- where a number's place is: f is what the code found in the table, g what it found among the places
 
-pub free_tabled : (ps : List Place) (f g : Finding) (i : ℕ) → g ≡ f → g ≡ At i → Nothing ≡ free_unless f ps
+pub free_tabled : (ps : List Place) (f g : Option ℕ (i : ℕ) → g ≡ f → g ≡ Some i → None ≡ free_unless f ps
 unfolding free_unless
 free_tabled ps f g i e h = rw (sym e ∙ h)
 
-pub free_untabled : (ps : List Place) (f g r : Finding) → g ≡ f → g ≡ Nothing → r ≡ find_free ps 0 → r ≡ free_unless f ps
+pub free_untabled : (ps : List Place) (f g r : Option ℕ → g ≡ f → g ≡ None → r ≡ find_free ps 0 → r ≡ free_unless f ps
 unfolding free_unless
 free_untabled ps f g r e h d = d ∙ free_first ps ∙ rw (sym e ∙ h)
 
-pub free_found : (ps : List Place) (f : Finding) (i : ℕ) → free_unless f ps ≡ At i → i < 64
+pub free_found : (ps : List Place) (f : Option ℕ (i : ℕ) → free_unless f ps ≡ Some i → i < 64
 unfolding free_unless
-free_found ps (At j) i e = let z : ◌≡◌ {A = ℕ} 0 1 = cc in absurd (omega arith)
-free_found ps Nothing i e = (first_found _ 64 0 i e).1
+free_found ps (Some j) i e = let z : ◌≡◌ {A = ℕ} 0 1 = cc in absurd (omega arith)
+free_found ps None i e = (first_found _ 64 0 i e).1
 
 -- ---- a place for number n: f is where the code found that it is
 
-pub taken_none : (w : List ℕ) (f g : Finding) (p : Place) → f ≡ g → f ≡ Nothing → (tail : List ℕ) → state_of w tail ≡ with_places (state_of w tail) (take_at g (places_of w) p)
+pub taken_none : (w : List ℕ) (f g : Option ℕ (p : Place) → f ≡ g → f ≡ None → (tail : List ℕ) → state_of w tail ≡ with_places (state_of w tail) (take_at g (places_of w) p)
 unfolding state_of state_by with_places
 taken_none w f g p e h = λ tail. rw (sym e ∙ h)
 
-pub taken_at : (w v : List ℕ) (f g : Finding) (i : ℕ) (p q : Place) → f ≡ g → f ≡ At i → q ≡ p → ((tail : List ℕ) → state_of v tail ≡ with_place (state_of w tail) i q)
+pub taken_at : (w v : List ℕ) (f g : Option ℕ (i : ℕ) (p q : Place) → f ≡ g → f ≡ Some i → q ≡ p → ((tail : List ℕ) → state_of v tail ≡ with_place (state_of w tail) i q)
     → (tail : List ℕ) → state_of v tail ≡ with_places (state_of w tail) (take_at g (places_of w) p)
 unfolding state_of state_by with_place with_places
 taken_at w v f g i p q e h d one = λ tail. rw (sym e ∙ h, ← d) (one tail)
@@ -301,18 +299,18 @@ module _ (m : List ℕ) (log : List Placed) (c : List ℕ) (slots : ℕ) where
   take_kept ps [] = refl
   take_kept ps (n ∷ ns) = go (table_find m n) refl (λ qs. take_kept qs ns)
     where
-      go : (f : Finding) → table_find m n ≡ f → ((qs : List Place) → take_all m log c slots qs ns ≡ take_free m log c slots qs (keep untabled ns))
+      go : (f : Option ℕ → table_find m n ≡ f → ((qs : List Place) → take_all m log c slots qs ns ≡ take_free m log c slots qs (keep untabled ns))
           → take_all m log c slots ps (n ∷ ns) ≡ take_free m log c slots ps (keep untabled (n ∷ ns))
-      go (At i) e ih = simp e (ih ps)
-      go Nothing e ih = simp e (ih _)
+      go (Some i) e ih = simp e (ih ps)
+      go None e ih = simp e (ih _)
 
   alone : (n : ℕ) → is_paired m log n && untabled n ≡ in_log_alone m log n
   unfolding is_paired in_log_alone pair_time untabled
   alone n = go (table_find m n)
     where
-      go : (f : Finding) → is_timed (table_or f m (time_of_commitment (commit_under log n))) && not (is_at f) ≡ not (is_at f) && is_timed (time_of_commitment (commit_under log n))
-      go (At i) = refl
-      go Nothing = and-true (is_timed (time_of_commitment (commit_under log n)))
+      go : (f : Option ℕ → is_timed (table_or f m (time_of_commitment (commit_under log n))) && not (is_at f) ≡ not (is_at f) && is_timed (time_of_commitment (commit_under log n))
+      go (Some i) = refl
+      go None = and-true (is_timed (time_of_commitment (commit_under log n)))
 
   pub take_all_waiting : (ps : List Place) → take_all m log c slots ps (waiting_numbers c (is_paired m log) slots) ≡ take_free m log c slots ps (waiting_numbers c (in_log_alone m log) slots)
   take_all_waiting ps = take_kept ps (waiting_numbers c (is_paired m log) slots) ∙ ap (take_free m log c slots ps) (keep_waiting (is_paired m log) untabled (in_log_alone m log) alone c slots)

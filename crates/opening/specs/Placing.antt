@@ -1,13 +1,10 @@
 -- The places that table and log give, as the code lays them.
-use Rattle.std.specs.Prelude.{ℕ, cond, not, ◌&&◌, List, [], ◌∷◌, eqb, ltb}
-use Rattle.std.proofs.Math.Option.{Option}
+use Rattle.std.specs.Prelude.{ℕ, cond, not, ◌&&◌, List, [], ◌∷◌, eqb, ltb, Option, Some, None}
 use Rattle.layout.specs.Table.{table_pair}
 use Rattle.layout.specs.declared.TxNumber.{TxNumber}
 use Rattle.layout.specs.declared.CommitTime.{CommitTime}
 use Rattle.store.specs.declared.Life.TheVariants.{Committed}
 use Rattle.store.specs.declared.Place.{Place}
-use Rattle.store.specs.declared.Found.{Found}
-use Rattle.store.specs.declared.Found.TheVariants.{At, Nothing}
 use Rattle.store.specs.Places.{first, is_free, place_at, free_place}
 use Rattle.store.specs.OpenLog.{Placed, Commitment, commit_under}
 use Rattle.store.specs.OpenPairs.{end_of_commitment, table_find, live_place, take_at, time_or_zero}
@@ -27,9 +24,9 @@ table_place m log f i =
     free_place
 
 -- the first free place, if the table has none for a number
-unfoldable pub free_unless : Found → List Place → Found
-free_unless (At i) ps = Nothing
-free_unless Nothing ps = first (λ i. is_free (place_at ps i).life) 64 0
+unfoldable pub free_unless : Option ℕ → List Place → Option ℕ
+free_unless (Some i) ps = None
+free_unless None ps = first (λ i. is_free (place_at ps i).life) 64 0
 
 -- the places with a number's, and with those of a list
 unfoldable pub take_one : List ℕ → List Placed → List ℕ → ℕ → List Place → ℕ → List Place

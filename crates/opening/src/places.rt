@@ -15,7 +15,6 @@ use crate::waiting::Inserted;
 use conditions::log::Match;
 use layout::{CommitTime, EndPlace, TxNumber};
 use memory::COUNTS;
-use store::Found;
 
 // How many versions wait under a number, by the list.
 fn waiting_under(list: &[u64; 128], total: u64, n: u64) -> u64
@@ -24,8 +23,8 @@ fn waiting_under(list: &[u64; 128], total: u64, n: u64) -> u64
 {
     let f = crate::waiting::find(list, total, n);
     match f {
-        Found::At(i) => list[64 + (i as usize)],
-        Found::Nothing => 0,
+        Some(i) => list[64 + (i as usize)],
+        None => 0,
     }
 }
 
@@ -110,15 +109,15 @@ fn table_places(
 }
 
 // Where a live pair of the log is put: the first free place, if the table has none for it.
-fn place_for(medium: &[u8], used: usize, words: &[u64; 448], n: u64) -> Found
+fn place_for(medium: &[u8], used: usize, words: &[u64; 448], n: u64) -> Option<u64>
     requires in_bounds { 1536 ≤ length medium.now }
     requires extent { Extent medium.now used }
     ensures { result ≡ free_unless (table_find medium.now n) (places_of words.now) }
 {
     let f = conditions::table::find(medium, used, n);
     match f {
-        Found::At(_) => Found::Nothing,
-        Found::Nothing => live::places::find_free(words, 0),
+        Some(_) => None,
+        None => live::places::find_free(words, 0),
     }
 }
 
@@ -136,7 +135,7 @@ fn take_log(
     ensures { (tail : List ℕ) → state_of words.new tail ≡ with_places (state_of words.old tail) (take_at (free_unless (table_find medium.now n) (places_of words.old)) (places_of words.old) (place_of (commit_among commits.now n) (record { 0 = n }) (record { 0 = time_or_zero (commit_among commits.now n) }) waiting)) }
 {
     let f = place_for(medium, used, words, n);
-    let Found::At(k) = f else {
+    let Some(k) = f else {
         return;
     };
     let i = k as usize;

@@ -1,6 +1,8 @@
 -- The place found for a slot gives the time with which the slot is stamped, and is the place that its stamp counts down. Stamping
 -- changes no other slot, and the places are looked up before any is counted down, so stamping and settling a page by the
 -- places found is what the definitions say. Assumes nothing.
+use Rattle.layout.specs.declared.CommitTime.{CommitTime}
+use Rattle.std.specs.Prelude.{Option, Some, None}
 use mathlib.Core.Path.{◌≡◌, refl, sym, ap, ◌∙◌}
 use mathlib.Core.Bool.{Bool, true, false, cond, false≢true}
 use mathlib.Core.List.{List}
@@ -14,11 +16,7 @@ use Rattle.layout.specs.Slot.{slot_state}
 use Rattle.layout.specs.Page.{page_slot}
 use Rattle.layout.specs.declared.slot.Slot.{Slot}
 use Rattle.layout.specs.declared.slot.Slot.TheVariants.{Empty, Waiting, Stamped}
-use Rattle.store.specs.declared.Found.{Found}
-use Rattle.store.specs.declared.Found.TheVariants.{At, Nothing}
 use Rattle.store.specs.declared.Place.{Place}
-use Rattle.store.specs.declared.Timing.{Timing}
-use Rattle.store.specs.declared.Timing.TheVariants.{Timed, Untimed}
 use Rattle.store.specs.Places.{place_at, committed_as, find_committed, time_up_to, at_found, stored_under}
 use Rattle.store.specs.StorePage.{stamp_time, stamp_with, stamp_from, settle_with, settle_from}
 use Rattle.store.proofs.SearchLaws.{first_found}
@@ -30,22 +28,22 @@ use Rattle.pages.specs.Stamped.{stamped_under, settled_under, stored_place, plac
 use Rattle.pages.proofs.StampLaws.{stamp_with_other}
 
 module _ (w : List ℕ) where
-  abbrev pair : ℕ → Timing
+  abbrev pair : ℕ → Option CommitTime
   pair = stored_under (places_of w) (get_or w 6 0)
 
   -- ---- the place found for a slot
 
   -- the time of a place that was found, if its commit record is stored
-  time_found : (n i : ℕ) → find_committed (places_of w) n ≡ At i
+  time_found : (n i : ℕ) → find_committed (places_of w) n ≡ Some i
       → time_up_to (place_at (places_of w) i).life (get_or w 6 0)
-      ≡ cond (leb (get_or w (320 + i) 0) (get_or w 6 0)) (Timed (record { 0 = get_or w (256 + i) 0 })) Untimed
+      ≡ cond (leb (get_or w (320 + i) 0) (get_or w 6 0)) (Some (record { 0 = get_or w (256 + i) 0 })) None
   unfolding find_committed
   time_found n i e =
       let h : i < 64 = (first_found _ 64 0 i e).1 in
       life_at w i h (λ l. time_up_to l (get_or w 6 0))
       ∙ go (eqb (get_or w (128 + i) 0) 1) (eqb (get_or w (128 + i) 0) 2) (sym (life_at w i h (λ l. committed_as l n)) ∙ (first_found _ 64 0 i e).2)
     where
-      go : {t : Timing} (a b : Bool) → cond a false (cond b (eqb (get_or w (192 + i) 0) n) false) ≡ true → cond a Untimed (cond b t Untimed) ≡ t
+      go : {t : Option CommitTime} (a b : Bool) → cond a false (cond b (eqb (get_or w (192 + i) 0) n) false) ≡ true → cond a None (cond b t None) ≡ t
       go true b q = absurd (false≢true q)
       go false true q = refl
       go false false q = absurd (false≢true q)
@@ -55,14 +53,14 @@ module _ (w : List ℕ) where
   found_time Empty = refl
   found_time (Waiting n) = sym (go (find_committed (places_of w) n.0) refl)
     where
-      by : (i : ℕ) → i < 64 → (b : Bool) → cond b (Timed (record { 0 = get_or w (256 + i) 0 })) Untimed ≡ time_by w (cond b i 64)
+      by : (i : ℕ) → i < 64 → (b : Bool) → cond b (Some (record { 0 = get_or w (256 + i) 0 })) None ≡ time_by w (cond b i 64)
       by i h true = simp (lt-ltb _ _ h)
       by i h false = refl
 
-      go : (f : Found) → find_committed (places_of w) n.0 ≡ f
+      go : (f : Option ℕ) → find_committed (places_of w) n.0 ≡ f
           → at_found f (λ i. time_up_to (place_at (places_of w) i).life (get_or w 6 0)) ≡ time_by w (stored_place w f)
-      go (At i) e = time_found n.0 i e ∙ by i (committed_below _ _ _ e) (leb (get_or w (320 + i) 0) (get_or w 6 0))
-      go Nothing e = refl
+      go (Some i) e = time_found n.0 i e ∙ by i (committed_below _ _ _ e) (leb (get_or w (320 + i) 0) (get_or w 6 0))
+      go None e = refl
   found_time (Stamped t) = refl
 
   found_lower : (slot : Slot) (ps : List Place) → lower_by (place_for w slot) ps ≡ settle_with (stamp_time pair slot) slot (places_of w) ps
@@ -70,17 +68,17 @@ module _ (w : List ℕ) where
   found_lower Empty ps = refl
   found_lower (Waiting n) ps = sym (go (find_committed (places_of w) n.0) refl)
     where
-      by : (i : ℕ) → find_committed (places_of w) n.0 ≡ At i → i < 64 → (b : Bool)
-          → settle_with (cond b (Timed (record { 0 = get_or w (256 + i) 0 })) Untimed) (Waiting n) (places_of w) ps ≡ lower_by (cond b i 64) ps
+      by : (i : ℕ) → find_committed (places_of w) n.0 ≡ Some i → i < 64 → (b : Bool)
+          → settle_with (cond b (Some (record { 0 = get_or w (256 + i) 0 })) None) (Waiting n) (places_of w) ps ≡ lower_by (cond b i 64) ps
       by i e h true = simp (e, lt-ltb _ _ h)
       by i e h false = refl
 
-      go : (f : Found) → find_committed (places_of w) n.0 ≡ f
+      go : (f : Option ℕ) → find_committed (places_of w) n.0 ≡ f
           → settle_with (at_found f (λ i. time_up_to (place_at (places_of w) i).life (get_or w 6 0))) (Waiting n) (places_of w) ps ≡ lower_by (stored_place w f) ps
-      go (At i) e =
-          ap (λ (t : Timing). settle_with t (Waiting n) (places_of w) ps) (time_found n.0 i e)
+      go (Some i) e =
+          ap (λ (t : Option CommitTime). settle_with t (Waiting n) (places_of w) ps) (time_found n.0 i e)
           ∙ by i e (committed_below _ _ _ e) (leb (get_or w (320 + i) 0) (get_or w 6 0))
-      go Nothing e = refl
+      go None e = refl
   found_lower (Stamped t) ps = refl
 
   -- ---- the places found for the slots of a page

@@ -1,5 +1,7 @@
 -- The laws of stamping a page by the places found for its slots: a stamp changes its own slot and nothing else, so slot i of the
 -- stamped page is slot i stamped, the header stays, and lengths stay. Assumes nothing.
+use Rattle.layout.specs.declared.CommitTime.{CommitTime}
+use Rattle.std.specs.Prelude.{Option, Some, None}
 use mathlib.Core.Path.{◌≡◌, refl, ap, ◌∙◌}
 use mathlib.Core.Logic.{◌≢◌}
 use Prim.Native.Nat.{ℕ, zero, suc, ◌+◌, ◌*◌, ◌<◌}
@@ -14,32 +16,30 @@ use Rattle.fields.specs.Block.{slot_in}
 use Rattle.fields.proofs.PartLaws.{part_before}
 use Rattle.layout.proofs.CacheLaws.{stamp_cell_same, stamp_cell_other}
 use Rattle.store.specs.StorePage.{stamp_with}
-use Rattle.store.specs.declared.Timing.{Timing}
-use Rattle.store.specs.declared.Timing.TheVariants.{Timed, Untimed}
 use Rattle.store.proofs.LengthLaws.{length_stamp_with}
 use Rattle.pages.specs.Stamped.{time_by, stamped_by, stamp_by}
 
 -- ---- one slot
 
-stamp_with_same : (t : Timing) (page : List ℕ) (i : ℕ) → length page ≡ 512 → i < 15
+stamp_with_same : (t : Option CommitTime) (page : List ℕ) (i : ℕ) → length page ≡ 512 → i < 15
     → page_slot (stamp_with t page i) i ≡ stamped_by t (page_slot page i)
-stamp_with_same (Timed t) page i n h = stamp_cell_same page i t.0 n h
-stamp_with_same Untimed page i n h = refl
+stamp_with_same (Some t) page i n h = stamp_cell_same page i t.0 n h
+stamp_with_same None page i n h = refl
 
-pub stamp_with_other : (t : Timing) (page : List ℕ) (i j : ℕ) → j ≢ i → page_slot (stamp_with t page i) j ≡ page_slot page j
-stamp_with_other (Timed t) page i j d = stamp_cell_other page i t.0 j d
-stamp_with_other Untimed page i j d = refl
+pub stamp_with_other : (t : Option CommitTime) (page : List ℕ) (i j : ℕ) → j ≢ i → page_slot (stamp_with t page i) j ≡ page_slot page j
+stamp_with_other (Some t) page i j d = stamp_cell_other page i t.0 j d
+stamp_with_other None page i j d = refl
 
-stamp_with_header : (t : Timing) (page : List ℕ) (i : ℕ) → part (stamp_with t page i) 0 32 ≡ part page 0 32
+stamp_with_header : (t : Option CommitTime) (page : List ℕ) (i : ℕ) → part (stamp_with t page i) 0 32 ≡ part page 0 32
 unfolding stamp_cell slot_in
-stamp_with_header (Timed t) page i = part_before page (32 + 32 * i) (stamped (page_slot page i) t.0) 0 32 (omega arith)
-stamp_with_header Untimed page i = refl
+stamp_with_header (Some t) page i = part_before page (32 + 32 * i) (stamped (page_slot page i) t.0) 0 32 (omega arith)
+stamp_with_header None page i = refl
 
 -- ---- the k slots from slot i on
 
 module _ (w found : List ℕ) where
   -- the time of slot i, and the page with slot i stamped
-  abbrev time_at : ℕ → Timing
+  abbrev time_at : ℕ → Option CommitTime
   time_at i = time_by w (get_or found i 0)
 
   abbrev turn : List ℕ → ℕ → List ℕ

@@ -1,14 +1,11 @@
 -- Storing a page: what it leaves of page and places, and the same by the places found for its slots, which are looked up once.
-use Rattle.std.specs.Prelude.{ℕ, zero, suc, ◌+◌, cond, List, get_or, set, leb, ltb}
+use Rattle.layout.specs.declared.CommitTime.{CommitTime}
+use Rattle.std.specs.Prelude.{ℕ, zero, suc, ◌+◌, cond, List, get_or, set, leb, ltb, Option, Some, None}
 use Rattle.layout.specs.Slot.{slot_state, stamped}
 use Rattle.layout.specs.Page.{page_slot}
 use Rattle.layout.specs.declared.slot.Slot.{Slot}
 use Rattle.layout.specs.declared.slot.Slot.TheVariants.{Empty, Waiting, Stamped}
-use Rattle.store.specs.declared.Found.{Found}
-use Rattle.store.specs.declared.Found.TheVariants.{At, Nothing}
 use Rattle.store.specs.declared.Place.{Place}
-use Rattle.store.specs.declared.Timing.{Timing}
-use Rattle.store.specs.declared.Timing.TheVariants.{Timed, Untimed}
 use Rattle.store.specs.Places.{place_at, find_committed, stored_under, lowered}
 use Rattle.store.specs.StorePage.{stamp_with, stamp_from, settle_from}
 use Rattle.memory.specs.Memory.{listed, places_of}
@@ -23,9 +20,9 @@ settled_under w page = settle_from (stored_under (places_of w) (get_or w 6 0)) (
 -- ---- by the places found for the slots
 
 -- the place found, if its commit record is stored; 64 for none
-abbrev pub stored_place : List ℕ → Found → ℕ
-stored_place w (At i) = cond (leb (get_or w (320 + i) 0) (get_or w 6 0)) i 64
-stored_place w Nothing = 64
+abbrev pub stored_place : List ℕ → Option ℕ → ℕ
+stored_place w (Some i) = cond (leb (get_or w (320 + i) 0) (get_or w 6 0)) i 64
+stored_place w None = 64
 
 -- the place by which a slot is stamped
 unfoldable pub place_for : List ℕ → Slot → ℕ
@@ -38,13 +35,13 @@ unfoldable pub places_for : List ℕ → List ℕ → List ℕ
 places_for w page = listed (λ i. place_for w (slot_state (page_slot page i))) 0 15
 
 -- the time of place p, none from 64 on
-unfoldable pub time_by : List ℕ → ℕ → Timing
-time_by w p = cond (ltb p 64) (Timed (record { 0 = get_or w (256 + p) 0 })) Untimed
+unfoldable pub time_by : List ℕ → ℕ → Option CommitTime
+time_by w p = cond (ltb p 64) (Some (record { 0 = get_or w (256 + p) 0 })) None
 
 -- a slot with a time
-abbrev pub stamped_by : Timing → List ℕ → List ℕ
-stamped_by (Timed t) slot = stamped slot t.0
-stamped_by Untimed slot = slot
+abbrev pub stamped_by : Option CommitTime → List ℕ → List ℕ
+stamped_by (Some t) slot = stamped slot t.0
+stamped_by None slot = slot
 
 -- the k slots of a page from slot i on, each with the time of the place found for it
 unfoldable pub stamp_by : List ℕ → List ℕ → List ℕ → ℕ → ℕ → List ℕ

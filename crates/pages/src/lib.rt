@@ -11,7 +11,6 @@ ghost use Rattle.pages.specs.Stamped.{stamped_under, settled_under, place_for, p
 use layout::CommitTime;
 use layout::slot::Slot;
 use memory::{END, ENDS, TIMES};
-use store::Found;
 
 // The place by which a slot is stamped; 64 for none.
 fn place_for(words: &[u64], slot: Slot) -> u64
@@ -23,13 +22,13 @@ fn place_for(words: &[u64], slot: Slot) -> u64
         Slot::Waiting(n) => {
             let f = live::places::find_committed(words, n.0);
             match f {
-                Found::At(i) => {
+                Some(i) => {
                     if words[ENDS + (i as usize)] <= words[END] {
                         return i;
                     }
                     64
                 }
-                Found::Nothing => 64,
+                None => 64,
             }
         }
         Slot::Stamped(_) => 64,

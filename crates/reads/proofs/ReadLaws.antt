@@ -1,5 +1,7 @@
 -- What the reads need: what a search finds lies in the cache's room, the bytes of a slot are what its version says, and
 -- each read is answered by what its search found once its questions are. Assumes nothing.
+use Rattle.layout.specs.declared.CommitTime.{CommitTime}
+use Rattle.std.specs.Prelude.{Option, Some, None}
 use mathlib.Core.Path.{◌≡◌, refl, sym, ap, subst, ◌∙◌}
 use mathlib.Core.Bool.{Bool, true, false, cond}
 use mathlib.Core.List.{List}
@@ -19,10 +21,6 @@ use Rattle.fields.proofs.PartLaws.{lent_part}
 use Rattle.store.specs.declared.Answer.TheVariants.{Refused, Erased, Present, Listed}
 use Rattle.store.specs.declared.Refusal.TheVariants.{ShortBuffer}
 use Rattle.store.specs.declared.Reading.{Reading}
-use Rattle.store.specs.declared.Found.{Found}
-use Rattle.store.specs.declared.Found.TheVariants.{At, Nothing}
-use Rattle.store.specs.declared.Best.{Best}
-use Rattle.store.specs.declared.Timing.{Timing}
 use Rattle.store.specs.declared.State.{State}
 use Rattle.store.specs.Places.{find_active, time_under}
 use Rattle.store.specs.State.{fits}
@@ -36,27 +34,27 @@ use Rattle.reads.specs.Said.{reading_of}
 
 -- ---- the room
 
-unless_head : (l : ℕ) (st : Slot) (f : Found) → Head f l → Head (unless_empty st Nothing f) l
+unless_head : (l : ℕ) (st : Slot) (f : Option ℕ) → Head f l → Head (unless_empty st None f) l
 unless_head l Empty f h = tt
 unless_head l (Waiting n) f h = h
 unless_head l (Stamped t) f h = h
 
-visible_in : (c : List ℕ) (pair : ℕ → Timing) (n l k s : ℕ) → Room l (suc s) → Head (visible_from c pair n k s) l
+visible_in : (c : List ℕ) (pair : ℕ → Option CommitTime) (n l k s : ℕ) → Room l (suc s) → Head (visible_from c pair n k s) l
 unfolding visible_from
 visible_in c pair n l zero s r = tt
 visible_in c pair n l (suc k) s r =
     let e = (cell_at c s).earlier in
     unless_head l (cell_at c s).state _
-    (cond_elim (λ (f : Found). Head f l) (visible (cell_at c s).state pair n) (λ _. r) (λ _.
-    cond_elim (λ (f : Found). Head f l) (ltb e s) (λ t.
+    (cond_elim (λ (f : Option ℕ). Head f l) (visible (cell_at c s).state pair n) (λ _. r) (λ _.
+    cond_elim (λ (f : Option ℕ). Head f l) (ltb e s) (λ t.
     let h : e < s = ltb-true e s t in
     visible_in c pair n l k e (room_lower l (suc s) (suc e) r (omega arith))) (λ _. tt)))
 
 -- f is what was found
-pub visible_head : (head : Found) (c : List ℕ) (pair : ℕ → Timing) (n l : ℕ) (f : Found) → f ≡ visible_of head c pair n → Head head l → Head f l
+pub visible_head : (head : Option ℕ) (c : List ℕ) (pair : ℕ → Option CommitTime) (n l : ℕ) (f : Option ℕ) → f ≡ visible_of head c pair n → Head head l → Head f l
 unfolding visible_of
-visible_head (At s) c pair n l f e h = subst (λ (g : Found). Head g l) (sym e) (visible_in c pair n l (suc s) s h)
-visible_head Nothing c pair n l f e h = subst (λ (g : Found). Head g l) (sym e) tt
+visible_head (Some s) c pair n l f e h = subst (λ (g : Option ℕ). Head g l) (sym e) (visible_in c pair n l (suc s) s h)
+visible_head None c pair n l f e h = subst (λ (g : Option ℕ). Head g l) (sym e) tt
 
 -- ---- what a version says; a is where its slot begins, v the bytes copied
 
@@ -83,19 +81,19 @@ read_cell_law r v s m c e = ap (λ (x : Reading). reads x.answer x.value s m c) 
 
 -- ---- the reads, once their questions are answered
 
-pub current_done : (s : State) (m c : List ℕ) (n key i : ℕ) (head f : Found) → fits s (length m) (length c) ≡ true
-    → key_form key ≡ true → find_active s.places n ≡ At i → held c s.places s.slots key n ≡ false
+pub current_done : (s : State) (m c : List ℕ) (n key i : ℕ) (head f : Option ℕ) → fits s (length m) (length c) ≡ true
+    → key_form key ≡ true → find_active s.places n ≡ Some i → held c s.places s.slots key n ≡ false
     → head ≡ newest c key s.slots → f ≡ visible_of head c (time_under s.places) n → current_of s m c n key ≡ current_at f s m c
 unfolding current_of current_if
 current_done s m c n key i head f e k a h eh ef = simp (e, k, a, h, ef, eh)
 
-pub as_of_done : (s : State) (m c : List ℕ) (key t : ℕ) (head : Found) (b : Best) → fits s (length m) (length c) ≡ true
+pub as_of_done : (s : State) (m c : List ℕ) (key t : ℕ) (head : Option ℕ) (b : Option (ℕ × CommitTime)) → fits s (length m) (length c) ≡ true
     → key_form key ≡ true → t ≤ s.saved.0 → head ≡ newest c key s.slots → b ≡ best_of head c (time_under s.places) t → as_of_of s m c key t ≡ as_of_at b s m c
 unfolding as_of_of as_of_if
 as_of_done s m c key t head b e k l eh eb = simp (e, k, le-leb t s.saved.0 l, eb, eh)
 
 -- a list of changes: b is the buffer before it and d behind it, r what writing its lines answered
-module _ (s : State) (m c b d : List ℕ) (key t1 t2 : ℕ) (head r : Found) (e : fits s (length m) (length c) ≡ true) (k : key_form key ≡ true)
+module _ (s : State) (m c b d : List ℕ) (key t1 t2 : ℕ) (head r : Option ℕ) (e : fits s (length m) (length c) ≡ true) (k : key_form key ≡ true)
     (l : t2 ≤ s.saved.0) (eh : head ≡ newest c key s.slots) where
   abbrev found : List Line
   found = lines_below c (time_under s.places) head t1 (suc (suc t2)) (suc t2)
@@ -104,26 +102,26 @@ module _ (s : State) (m c b d : List ℕ) (key t1 t2 : ℕ) (head r : Found) (e 
   unfolding change_lines
   lines_are = rw eh
 
-  module _ (er : r ≡ cond (leb (32 * length found) (length b)) (At (length found)) Nothing)
+  module _ (er : r ≡ cond (leb (32 * length found) (length b)) (Some (length found)) None)
       (ed : d ≡ cond (leb (32 * length found) (length b)) (splice b 0 (flat line_bytes found)) b) where
-    pub changes_listed : (n : ℕ) → r ≡ At n
+    pub changes_listed : (n : ℕ) → r ≡ Some n
         → record { answer = Listed n; value = zeros 16; state = s; medium = m; cache = c; buffer = d } ≡ changes_of s m c b key t1 t2
     unfolding changes_of changes_if
     changes_listed n en = go (leb (32 * length found) (length b)) refl er ed
       where
-        go : (t : Bool) → leb (32 * length found) (length b) ≡ t → r ≡ cond t (At (length found)) Nothing → d ≡ cond t (splice b 0 (flat line_bytes found)) b
+        go : (t : Bool) → leb (32 * length found) (length b) ≡ t → r ≡ cond t (Some (length found)) None → d ≡ cond t (splice b 0 (flat line_bytes found)) b
             → record { answer = Listed n; value = zeros 16; state = s; medium = m; cache = c; buffer = d } ≡ changes_of s m c b key t1 t2
         go true q x y =
             let z : n ≡ length found = cc in
             simp (e, k, le-leb t2 s.saved.0 l, ← lines_are, q, z, y)
         go false q x y = let z : ◌≡◌ {A = ℕ} 0 1 = cc in absurd (omega arith)
 
-    pub changes_short : r ≡ Nothing
+    pub changes_short : r ≡ None
         → record { answer = Refused ShortBuffer; value = zeros 16; state = s; medium = m; cache = c; buffer = d } ≡ changes_of s m c b key t1 t2
     unfolding changes_of changes_if
     changes_short en = go (leb (32 * length found) (length b)) refl er ed
       where
-        go : (t : Bool) → leb (32 * length found) (length b) ≡ t → r ≡ cond t (At (length found)) Nothing → d ≡ cond t (splice b 0 (flat line_bytes found)) b
+        go : (t : Bool) → leb (32 * length found) (length b) ≡ t → r ≡ cond t (Some (length found)) None → d ≡ cond t (splice b 0 (flat line_bytes found)) b
             → record { answer = Refused ShortBuffer; value = zeros 16; state = s; medium = m; cache = c; buffer = d } ≡ changes_of s m c b key t1 t2
         go true q x y = let z : ◌≡◌ {A = ℕ} 0 1 = cc in absurd (omega arith)
         go false q x y = simp (e, k, le-leb t2 s.saved.0 l, ← lines_are, q, y)

@@ -4,8 +4,9 @@ ghost use Rattle.store.specs.CurrentRead.{reads};
 ghost use Rattle.store.specs.AsOf.{as_of_of};
 ghost use Rattle.memory.specs.Memory.{state_of};
 
+use layout::CommitTime;
 use memory::{SAVED, SLOTS};
-use store::{Best, RECORDS, Reading, Refusal};
+use store::{RECORDS, Reading, Refusal};
 
 pub fn as_of(
     words: &[u64; 448],
@@ -30,7 +31,7 @@ pub fn as_of(
     let head = chain::newest::find(cache, key, words[SLOTS]);
     let best = chain::best::find(head, cache, words, time);
     match best {
-        Best::Version(n, _) => crate::current_read::read_slot(cache, n),
-        Best::Neither => crate::current_read::missing(),
+        Some((n, _)) => crate::current_read::read_slot(cache, n),
+        None => crate::current_read::missing(),
     }
 }

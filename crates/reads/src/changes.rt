@@ -5,7 +5,7 @@ ghost use Rattle.store.specs.Changes.{changes_of};
 ghost use Rattle.memory.specs.Memory.{state_of};
 
 use memory::{SAVED, SLOTS};
-use store::{Answer, Found, RECORDS, Refusal};
+use store::{Answer, RECORDS, Refusal};
 
 pub fn changes(
     words: &[u64; 448],
@@ -32,7 +32,7 @@ pub fn changes(
     let head = chain::newest::find(cache, key, words[SLOTS]);
     let listed = chain::lines::list(head, cache, words, t1, t2, buffer);
     match listed {
-        Found::At(n) => Answer::Listed(n),
-        Found::Nothing => Answer::Refused(Refusal::ShortBuffer),
+        Some(n) => Answer::Listed(n),
+        None => Answer::Refused(Refusal::ShortBuffer),
     }
 }

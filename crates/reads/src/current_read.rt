@@ -9,7 +9,7 @@ ghost use Rattle.store.specs.declared.Answer.TheVariants.{Missing};
 ghost use Rattle.reads.specs.Said.{reading_of};
 
 use memory::SLOTS;
-use store::{Answer, Found, RECORDS, Reading, Refusal};
+use store::{Answer, RECORDS, Reading, Refusal};
 
 // What the version in a slot says.
 pub(crate) fn read_slot(cache: &[u8], n: u64) -> Reading
@@ -59,7 +59,7 @@ pub fn current_read(
         return questions::refuse::reading(Refusal::NoRecord);
     }
     let f = live::places::find_active(words, number);
-    let Found::At(_) = f else {
+    let Some(_) = f else {
         return questions::refuse::reading(Refusal::NotActive);
     };
     let newest = chain::newest::find(cache, key, words[SLOTS]);
@@ -68,7 +68,7 @@ pub fn current_read(
     }
     let found = chain::visible::find(newest, cache, words, number);
     match found {
-        Found::At(n) => read_slot(cache, n),
-        Found::Nothing => missing(),
+        Some(n) => read_slot(cache, n),
+        None => missing(),
     }
 }

@@ -1,11 +1,12 @@
 -- The questions put to a call, and how it ends. It passes when every answer is "yes", and its refusal is that of the
 -- first "no", by induction on the list of questions; so a call ends refused by its first "no", or by its step once all
 -- are passed.
+use Rattle.layout.specs.declared.CommitTime.{CommitTime}
+use Rattle.std.specs.Prelude.{Option, None, Some}
 use Prim.Native.Nat.{ℕ}
 use native.Mathlib.Omega.{arith}
 use mathlib.Core.Path.{◌≡◌, refl, ap}
 use mathlib.Core.Bool.{Bool, true, false}
-use mathlib.Core.Option.{Option, none, some}
 use mathlib.Core.List.{List, [], ◌∷◌}
 use lib.ListN.{length}
 use lib.Dec.{eqb}
@@ -18,10 +19,6 @@ use Rattle.fields.proofs.PartLaws.{length_splice}
 use Rattle.store.specs.declared.Answer.{Answer}
 use Rattle.store.specs.declared.Answer.TheVariants.{Refused, Done, Begun, Written, Committed, Opened, Missing, Erased}
 use Rattle.store.specs.declared.Answer.TheVariants.{Present, Listed}
-use Rattle.store.specs.declared.Best.{Best}
-use Rattle.store.specs.declared.Best.TheVariants.{Version, Neither}
-use Rattle.store.specs.declared.Found.{Found}
-use Rattle.store.specs.declared.Found.TheVariants.{At, Nothing}
 use Rattle.store.specs.declared.Phase.{Phase}
 use Rattle.store.specs.declared.Refusal.{Refusal}
 use Rattle.store.specs.declared.State.{State}
@@ -51,31 +48,31 @@ pub data Stops (r : Refusal) : List (Bool × Refusal) → Type 0 where
   here : {b : Bool} {qs : List (Bool × Refusal)} → b ≡ false → Stops r ((b, r) ∷ qs)
   later : {q : Bool × Refusal} {qs : List (Bool × Refusal)} → q.0 ≡ true → Stops r qs → Stops r (q ∷ qs)
 
-pub stops : (qs : List (Bool × Refusal)) (r : Refusal) → ask qs ≡ some r → Stops r qs
+pub stops : (qs : List (Bool × Refusal)) (r : Refusal) → ask qs ≡ Some r → Stops r qs
 stops [] r e = let z : ◌≡◌ {A = ℕ} 0 1 = cc in absurd (omega arith)
 stops ((true, n) ∷ qs) r e = later refl (stops qs r e)
 stops ((false, n) ∷ qs) r e = let h : n ≡ r = cc in rw h (here refl)
 
-pub stopped : (qs : List (Bool × Refusal)) (r : Refusal) → Stops r qs → ask qs ≡ some r
+pub stopped : (qs : List (Bool × Refusal)) (r : Refusal) → Stops r qs → ask qs ≡ Some r
 stopped qs r s = go s
   where
-    go : {qs : List (Bool × Refusal)} → Stops r qs → ask qs ≡ some r
+    go : {qs : List (Bool × Refusal)} → Stops r qs → ask qs ≡ Some r
     go (here e) = rw e
     go (later e t) = rw e (go t)
 
 -- what holds for each refusal, and where all are passed, holds of the outcome of the questions
-pub asked : (P : Option Refusal → Type 0) (qs : List (Bool × Refusal)) → ((r : Refusal) → ask qs ≡ some r → P (some r))
-    → (Passed qs → P none) → P (ask qs)
+pub asked : (P : Option Refusal → Type 0) (qs : List (Bool × Refusal)) → ((r : Refusal) → ask qs ≡ Some r → P (Some r))
+    → (Passed qs → P None) → P (ask qs)
 asked P qs f g = go (ask qs) refl
   where
     go : (a : Option Refusal) → ask qs ≡ a → P a
-    go (some r) e = f r e
-    go none e = g (passed qs e)
+    go (Some r) e = f r e
+    go None e = g (passed qs e)
 
 -- what was found, where a question asked for it
-pub found : (P : Found → Type 0) (f : Found) → is_at f ≡ true → ((i : ℕ) → f ≡ At i → P (At i)) → P f
-found P (At i) h g = g i refl
-found P Nothing h g = let z : ◌≡◌ {A = ℕ} 0 1 = cc in absurd (omega arith)
+pub found : (P : Option ℕ → Type 0) (f : Option ℕ) → is_at f ≡ true → ((i : ℕ) → f ≡ Some i → P (Some i)) → P f
+found P (Some i) h g = g i refl
+found P None h g = let z : ◌≡◌ {A = ℕ} 0 1 = cc in absurd (omega arith)
 
 -- ---- an answer that is no refusal
 
@@ -143,26 +140,26 @@ told a v b s m c = record { answer = a; value = v; state = s; medium = m; cache 
 
 -- what was asked and found, and what the call then leaves
 pub data Way (m c : List ℕ) (s : State) : Call → Outcome → Type 0 where
-  refused : (k : Call) (r : Refusal) → ask (asks m c s k) ≡ some r
+  refused : (k : Call) (r : Refusal) → ask (asks m c s k) ≡ Some r
       → Way m c s k (told (Refused r) (zeros 16) (given k) s m c)
-  begins : (clock i : ℕ) → Passed (begin_asks s m c) → find_free s.places s.ring ≡ At i
+  begins : (clock i : ℕ) → Passed (begin_asks s m c) → find_free s.places s.ring ≡ Some i
       → Way m c s (begin clock) (leaves (Begun s.next) (begun s (ring_place s.ring i) clock) m c)
-  writes : (n key i : ℕ) (v : List ℕ) → Passed (write_asks s m c n key) → find_active s.places n ≡ At i
+  writes : (n key i : ℕ) (v : List ℕ) → Passed (write_asks s m c n key) → find_active s.places n ≡ Some i
       → Way m c s (write n key v) (write_step s m c i (new_head s c n key 0) v)
-  erases : (n key i : ℕ) → Passed (write_asks s m c n key) → find_active s.places n ≡ At i
+  erases : (n key i : ℕ) → Passed (write_asks s m c n key) → find_active s.places n ≡ Some i
       → Way m c s (erase n key) (write_step s m c i (new_head s c n key 1) (zeros 16))
   looks : (k : Call) (a : Answer) (v b : List ℕ) → is_reading k ≡ true → Passed (asks m c s k) → is_refused a ≡ false
       → length b ≡ length (given k) → Way m c s k (told a v b s m c)
-  commits : (n clock i : ℕ) → Passed (commit_asks s m c n) → find_active s.places n ≡ At i
+  commits : (n clock i : ℕ) → Passed (commit_asks s m c n) → find_active s.places n ≡ Some i
       → eqb (place_at s.places i).waiting 0 ≡ false
       → Way m c s (commit n clock) (commit_step s m c i n (commit_time s i clock))
-  ends : (n clock i : ℕ) → Passed (commit_asks s m c n) → find_active s.places n ≡ At i
+  ends : (n clock i : ℕ) → Passed (commit_asks s m c n) → find_active s.places n ≡ Some i
       → eqb (place_at s.places i).waiting 0 ≡ true
       → Way m c s (commit n clock) (leaves Done (with_place s i free_place) m c)
-  aborts : (n i : ℕ) → Passed (abort_asks s m c n) → find_active s.places n ≡ At i
+  aborts : (n i : ℕ) → Passed (abort_asks s m c n) → find_active s.places n ≡ Some i
       → Way m c s (abort n) (leaves Done (with_place s i free_place) m c)
-  logs : Passed (store_log_asks s m c) → Way m c s store_log (store_log_if none s m c)
-  pages : (p : ℕ) → Passed (store_page_asks s m c p) → Way m c s (store_page p) (store_page_if none s m c p)
+  logs : Passed (store_log_asks s m c) → Way m c s store_log (store_log_if None s m c)
+  pages : (p : ℕ) → Passed (store_page_asks s m c p) → Way m c s (store_page p) (store_page_if None s m c p)
   checks : (ph : Phase) → Passed (checkpoint_asks s m c) → s.phase ≡ ph
       → Way m c s checkpoint (checkpoint_step ph s m c)
 
@@ -172,7 +169,7 @@ module _ (m c : List ℕ) (s : State) where
   begin_way clock =
       asked (λ (a : Option Refusal). Way m c s (begin clock) (begin_if a s m c clock))
       (begin_asks s m c) (refused (begin clock)) (λ p.
-      found (λ (f : Found). Way m c s (begin clock) (begin_at f s m c clock))
+      found (λ (f : Option ℕ). Way m c s (begin clock) (begin_at f s m c clock))
       (find_free s.places s.ring) p.1.1.0 (λ i e.
       begins clock i p e))
 
@@ -181,7 +178,7 @@ module _ (m c : List ℕ) (s : State) where
   write_way n key v =
       asked (λ (a : Option Refusal). Way m c s (write n key v) (write_if a s m c n key 0 v))
       (write_asks s m c n key) (refused (write n key v)) (λ p.
-      found (λ (f : Found). Way m c s (write n key v) (write_at f s m c (new_head s c n key 0) v))
+      found (λ (f : Option ℕ). Way m c s (write n key v) (write_at f s m c (new_head s c n key 0) v))
       (find_active s.places n) p.1.1.0 (λ i e.
       writes n key i v p e))
 
@@ -190,7 +187,7 @@ module _ (m c : List ℕ) (s : State) where
   erase_way n key =
       asked (λ (a : Option Refusal). Way m c s (erase n key) (write_if a s m c n key 1 (zeros 16)))
       (write_asks s m c n key) (refused (erase n key)) (λ p.
-      found (λ (f : Found). Way m c s (erase n key) (write_at f s m c (new_head s c n key 1) (zeros 16)))
+      found (λ (f : Option ℕ). Way m c s (erase n key) (write_at f s m c (new_head s c n key 1) (zeros 16)))
       (find_active s.places n) p.1.1.0 (λ i e.
       erases n key i p e))
 
@@ -209,9 +206,9 @@ module _ (m c : List ℕ) (s : State) where
       (current_asks s m c n key) (refused (current_read n key)) (λ p.
       at (visible_of (newest c key s.slots) c (time_under s.places) n) p)
     where
-      at : (f : Found) → Passed (current_asks s m c n key) → Way m c s (current_read n key) (current_at f s m c)
-      at Nothing p = looks (current_read n key) Missing (zeros 16) [] refl p refl refl
-      at (At i) p = cell_way (current_read n key) (cell_at c i) refl refl p
+      at : (f : Option ℕ) → Passed (current_asks s m c n key) → Way m c s (current_read n key) (current_at f s m c)
+      at None p = looks (current_read n key) Missing (zeros 16) [] refl p refl refl
+      at (Some i) p = cell_way (current_read n key) (cell_at c i) refl refl p
 
   as_of_way : (key t : ℕ) → Way m c s (as_of key t) (as_of_of s m c key t)
   unfolding as_of_of as_of_if
@@ -220,16 +217,16 @@ module _ (m c : List ℕ) (s : State) where
       (as_of_asks s m c key t) (refused (as_of key t)) (λ p.
       at (best_of (newest c key s.slots) c (time_under s.places) t) p)
     where
-      at : (f : Best) → Passed (as_of_asks s m c key t) → Way m c s (as_of key t) (as_of_at f s m c)
-      at Neither p = looks (as_of key t) Missing (zeros 16) [] refl p refl refl
-      at (Version n u) p = cell_way (as_of key t) (cell_at c n) refl refl p
+      at : (f : Option (ℕ × CommitTime)) → Passed (as_of_asks s m c key t) → Way m c s (as_of key t) (as_of_at f s m c)
+      at None p = looks (as_of key t) Missing (zeros 16) [] refl p refl refl
+      at (Some (n, u)) p = cell_way (as_of key t) (cell_at c n) refl refl p
 
   commit_way : (n clock : ℕ) → Way m c s (commit n clock) (commit_of s m c n clock)
   unfolding commit_of commit_if
   commit_way n clock =
       asked (λ (a : Option Refusal). Way m c s (commit n clock) (commit_if a s m c n clock))
       (commit_asks s m c n) (refused (commit n clock)) (λ p.
-      found (λ (f : Found). Way m c s (commit n clock) (commit_at f s m c n clock))
+      found (λ (f : Option ℕ). Way m c s (commit n clock) (commit_at f s m c n clock))
       (find_active s.places n) p.1.0 (λ i e.
       cond_elim (Way m c s (commit n clock)) (eqb (place_at s.places i).waiting 0)
       (ends n clock i p e) (commits n clock i p e)))
@@ -239,7 +236,7 @@ module _ (m c : List ℕ) (s : State) where
   abort_way n =
       asked (λ (a : Option Refusal). Way m c s (abort n) (abort_if a s m c n))
       (abort_asks s m c n) (refused (abort n)) (λ p.
-      found (λ (f : Found). Way m c s (abort n) (abort_at f s m c))
+      found (λ (f : Option ℕ). Way m c s (abort n) (abort_at f s m c))
       (find_active s.places n) p.1.0 (λ i e.
       aborts n i p e))
 

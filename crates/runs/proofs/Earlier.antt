@@ -1,11 +1,11 @@
 -- An old medium opens as it did. Its log, its slots and its cache after the log read the same with both readers, so
 -- each question has the same answer and each part of the outcome the same value; on a medium of another length both
 -- openings refuse 1.
+use Rattle.std.specs.Prelude.{Option, None, Some}
 use Prim.Native.Nat.{ℕ, zero, suc, ◌+◌, ◌*◌, ◌≤◌, ◌<◌}
 use native.Mathlib.Omega.{arith}
 use mathlib.Core.Path.{◌≡◌, refl, ap, fun_ext}
 use mathlib.Core.Bool.{Bool, ◌&&◌}
-use mathlib.Core.Option.{Option, none, some}
 use mathlib.Core.List.{List}
 use lib.ListN.{length}
 use lib.Dec.{eqb}
@@ -147,8 +147,8 @@ module _ (m : List ℕ) (l d : ℕ) (old : Old m l d) where
 
   if_same : (a : Option Refusal) (c : List ℕ) → open_if a m c l d ≡ open_if_before a m c l d
   unfolding open_if open_if_before
-  if_same (some r) c = refl
-  if_same none c = rw (last_same, state_same, redone_same)
+  if_same (Some r) c = refl
+  if_same None c = rw (last_same, state_same, redone_same)
 
   opens_same : (c : List ℕ) → open_of m c l d ≡ open_before m c l d
   unfolding open_of open_before

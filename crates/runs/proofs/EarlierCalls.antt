@@ -2,11 +2,11 @@
 -- which byte 3 of every slot is zero: both readers then find the same newest version of a record, and question 18 is
 -- passed. So is what an opening finds. Written with such a record number, a slot and a record of tag 1 are the bytes
 -- that they were.
+use Rattle.std.specs.Prelude.{Option, None, Some}
 use Prim.Native.Nat.{ℕ, zero, suc, ◌+◌, ◌/◌, ◌%◌, ◌<◌}
 use native.Mathlib.Omega.{arith}
 use mathlib.Core.Bool.{Bool, true, false, false≢true}
 use mathlib.Core.List.{List, [], ◌∷◌}
-use mathlib.Core.Option.{Option, none, some}
 use mathlib.Core.Path.{◌≡◌, refl, sym, ap, ◌∙◌}
 use lib.ListN.{length}
 use borrow.Author.Tests.{ltb-true, lt-ltb}
@@ -70,16 +70,16 @@ module _ (m c : List ℕ) (s : State) (low : Low c) where
   current_same n key h = rw (byte_form key h, ← held_same key n) (go (ask (old_current_asks s m c n key)))
     where
       go : (a : Option Refusal) → old_current_if a s m c n key ≡ current_if a s m c n key
-      go (some r) = refl
-      go none = rw (newest_same c low key s.slots)
+      go (Some r) = refl
+      go None = rw (newest_same c low key s.slots)
 
   as_of_same : (key t : ℕ) → key < 256 → old_as_of_if (ask (old_as_of_asks s m c t)) s m c key t ≡ as_of_of s m c key t
   unfolding as_of_of old_as_of_if as_of_if
   as_of_same key t h = rw (byte_form key h) (go (ask (old_as_of_asks s m c t)))
     where
       go : (a : Option Refusal) → old_as_of_if a s m c key t ≡ as_of_if a s m c key t
-      go (some r) = refl
-      go none = rw (newest_same c low key s.slots)
+      go (Some r) = refl
+      go None = rw (newest_same c low key s.slots)
 
   lines_same : (key t1 t2 : ℕ) → old_lines s c key t1 t2 ≡ change_lines s c key t1 t2
   unfolding old_lines change_lines

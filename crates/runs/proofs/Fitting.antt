@@ -1,9 +1,10 @@
 -- A call that is not refused 16 leaves a state that fits. A refusal leaves all as it was, which fits since question 16
 -- was answered yes; a step changes only slots, tail, places and first changes, within the bounds that its questions
 -- ask.
+use Rattle.layout.specs.declared.CommitTime.{CommitTime}
+use Rattle.std.specs.Prelude.{Some, Option, None}
 use mathlib.Core.Path.{◌≡◌, refl, sym, ap, subst, ◌∙◌}
 use mathlib.Core.Bool.{Bool, true, false, ◌&&◌, ◌||◌}
-use mathlib.Core.Option.{some}
 use mathlib.Core.List.{List, ◌∷◌}
 use Prim.Native.Nat.{ℕ, zero, suc, ◌+◌, ◌*◌, ◌^◌, ◌≤◌, ◌<◌}
 use native.Mathlib.Omega.{arith}
@@ -29,10 +30,6 @@ use Rattle.store.specs.declared.Phase.TheVariants.{Idle, FirstStored, SecondStor
 use Rattle.store.specs.declared.Refusal.{Refusal}
 use Rattle.store.specs.declared.Refusal.TheVariants.{Unfit}
 use Rattle.store.specs.declared.Answer.TheVariants.{Refused}
-use Rattle.store.specs.declared.Found.{Found}
-use Rattle.store.specs.declared.Found.TheVariants.{At, Nothing}
-use Rattle.store.specs.declared.Timing.{Timing}
-use Rattle.store.specs.declared.Timing.TheVariants.{Timed, Untimed}
 use Rattle.store.specs.declared.State.{State}
 use Rattle.store.specs.Answer.{Outcome, ask}
 use Rattle.store.specs.Places.{free_place, find_committed}
@@ -109,7 +106,7 @@ logged_length s m r = go (tail_fits s.tail (record_size r))
 
 -- ---- the places keep their number
 
-pub length_settle_from : (pair : ℕ → Timing) (old : List Place) (page : List ℕ) (ps : List Place) (i k : ℕ)
+pub length_settle_from : (pair : ℕ → Option CommitTime) (old : List Place) (page : List ℕ) (ps : List Place) (i k : ℕ)
     → length (settle_from pair old page ps i k) ≡ length ps
 unfolding settle_from
 length_settle_from pair old page ps i zero = refl
@@ -118,15 +115,15 @@ length_settle_from pair old page ps i (suc k) =
     let settled = settle_with (stamp_time pair x) x old ps in
     length_settle_from pair old page settled (i + 1) k ∙ one (stamp_time pair x) x
   where
-    lower : (f : Found) → length (lower_at f ps) ≡ length ps
-    lower (At j) = length-set ps j _
-    lower Nothing = refl
+    lower : (f : Option ℕ) → length (lower_at f ps) ≡ length ps
+    lower (Some j) = length-set ps j _
+    lower None = refl
 
-    one : (t : Timing) (x : Slot) → length (settle_with t x old ps) ≡ length ps
-    one Untimed x = refl
-    one (Timed t) Empty = refl
-    one (Timed t) (Waiting n) = lower (find_committed old n.0)
-    one (Timed t) (Stamped u) = refl
+    one : (t : Option CommitTime) (x : Slot) → length (settle_with t x old ps) ≡ length ps
+    one None x = refl
+    one (Some t) Empty = refl
+    one (Some t) (Waiting n) = lower (find_committed old n.0)
+    one (Some t) (Stamped u) = refl
 
 -- ---- the first question
 
@@ -153,11 +150,11 @@ module _ (m c : List ℕ) (s : State) where
   pub passed_fit : (k : Call) → Passed (asks m c s k) → Fitting
   passed_fit k p = fit_of s _ _ (subst Passed (first_asked m c s k) p).0
 
-  pub refused_fit : (k : Call) (r : Refusal) → ask (asks m c s k) ≡ some r → (Refused r ≡ Refused Unfit → ⊥) → Fitting
+  pub refused_fit : (k : Call) (r : Refusal) → ask (asks m c s k) ≡ Some r → (Refused r ≡ Refused Unfit → ⊥) → Fitting
   refused_fit k r e h =
       fit_of s _ _ (go (fits s (length m) (length c)) (drop 1 (asks m c s k)) (ap ask (sym (first_asked m c s k)) ∙ e))
     where
-      go : (b : Bool) (qs : List (Bool × Refusal)) → ask ((b, Unfit) ∷ qs) ≡ some r → b ≡ true
+      go : (b : Bool) (qs : List (Bool × Refusal)) → ask ((b, Unfit) ∷ qs) ≡ Some r → b ≡ true
       go true qs e = refl
       go false qs e = absurd (h (cc))
 

@@ -1,11 +1,11 @@
 -- No call changes a length. Medium, cache and answer buffer are written by laying bytes over them, which keeps the
 -- length; an opening's cache is as many pages of the medium as the cache given has, by its first two questions; and
 -- formatting writes a medium of the length that its question asks for.
+use Rattle.std.specs.Prelude.{Option}
 use Prim.Native.Nat.{ℕ, ◌+◌, ◌*◌}
 use native.Mathlib.Omega.{arith}
 use mathlib.Core.Path.{◌≡◌, refl, sym, ◌∙◌}
 use mathlib.Core.Bool.{Bool, true, false}
-use mathlib.Core.Option.{Option}
 use mathlib.Core.List.{List, [], ◌∷◌}
 use lib.ListN.{length, length-append, length-replicate}
 use lib.Dec.{eqb}

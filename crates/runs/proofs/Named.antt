@@ -1,13 +1,11 @@
 -- The call that `relief` names is accepted, whatever state, medium and cache are: it is named only where each of its
 -- questions is answered "yes".
+use Rattle.std.specs.Prelude.{None, Option, Some}
 use Prim.Native.Nat.{ℕ}
 use mathlib.Core.Path.{◌≡◌, refl}
 use mathlib.Core.Bool.{Bool, true, false, cond, false≢true}
-use mathlib.Core.Option.{none}
 use mathlib.Core.List.{List, [], ◌∷◌}
 use lib.ListN.{length}
-use Rattle.store.specs.declared.Found.{Found}
-use Rattle.store.specs.declared.Found.TheVariants.{At, Nothing}
 use Rattle.store.specs.declared.Phase.{Phase}
 use Rattle.store.specs.declared.Phase.TheVariants.{Idle, FirstStored, SecondStored}
 use Rattle.store.specs.declared.Refusal.{Refusal}
@@ -24,7 +22,7 @@ use Rattle.runs.specs.Event.{Call, call, store_log, store_page, checkpoint}
 use Rattle.runs.specs.Machine.{up, called, seen_of, step, trace}
 use Rattle.runs.specs.Relief.{named, next_in, AllAccepted}
 
-all_yes_law : (qs : List (Bool × Refusal)) → all_yes qs ≡ true → ask qs ≡ none
+all_yes_law : (qs : List (Bool × Refusal)) → all_yes qs ≡ true → ask qs ≡ None
 all_yes_law [] e = refl
 all_yes_law ((true, r) ∷ qs) e = all_yes_law qs e
 all_yes_law ((false, r) ∷ qs) e = absurd (false≢true e)
@@ -34,11 +32,11 @@ module _ (l d : ℕ) (m c : List ℕ) (s : State) where
   unfolding trace step seen_of
   one_call k e = (e, tt)
 
-  log_done : ask (store_log_asks s m c) ≡ none → answer_number (called m c s store_log).answer ≡ 0
+  log_done : ask (store_log_asks s m c) ≡ None → answer_number (called m c s store_log).answer ≡ 0
   unfolding called store_log_of store_log_if answer_number
   log_done e = rw e
 
-  page_done : (p : ℕ) → ask (store_page_asks s m c p) ≡ none → answer_number (called m c s (store_page p)).answer ≡ 0
+  page_done : (p : ℕ) → ask (store_page_asks s m c p) ≡ None → answer_number (called m c s (store_page p)).answer ≡ 0
   unfolding called store_page_of store_page_if answer_number
   page_done p e = rw e
 
@@ -53,15 +51,15 @@ module _ (l d : ℕ) (m c : List ℕ) (s : State) where
   checkpoint_done e = rw (all_yes_law (checkpoint_asks s m c) (rw e)) (step_done s.phase)
 
   -- the log does not differ
-  after_log_law : fits s (length m) (length c) ≡ true → (f : Found) → page_left s m c ≡ f → (more : Bool)
+  after_log_law : fits s (length m) (length c) ≡ true → (f : Option ℕ) → page_left s m c ≡ f → (more : Bool)
       → AllAccepted (trace l d (up m c s) (named (after_log f more)))
   unfolding page_left trace
-  after_log_law h (At p) e more =
+  after_log_law h (Some p) e more =
       one_call (store_page p) (page_done p
       (all_yes_law (store_page_asks s m c p)
       (first_found (λ i. all_yes (store_page_asks s m c i)) s.pages 0 p e).2))
-  after_log_law h Nothing e true = one_call checkpoint (checkpoint_done h)
-  after_log_law h Nothing e false = tt
+  after_log_law h None e true = one_call checkpoint (checkpoint_done h)
+  after_log_law h None e false = tt
 
   pub named_accepted : AllAccepted (trace l d (up m c s) (next_in (up m c s)))
   unfolding next_in relief_of trace

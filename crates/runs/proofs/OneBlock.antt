@@ -1,6 +1,8 @@
 -- Each call stores at most one block. A call that is not refused passed the question whether state and buffers fit, so
 -- that the block it stores, a tail, a page, a table block or a master, has 512 bytes; and a block of 512 bytes is put
 -- over no other.
+use Rattle.layout.specs.declared.CommitTime.{CommitTime}
+use Rattle.std.specs.Prelude.{Option}
 use Prim.Native.Nat.{ℕ, zero, suc, ◌+◌, ◌*◌}
 use native.Mathlib.Omega.{arith}
 use mathlib.Core.Path.{◌≡◌, refl, ap, ◌∙◌}
@@ -21,7 +23,6 @@ use Rattle.store.specs.declared.Phase.{Phase}
 use Rattle.store.specs.declared.Phase.TheVariants.{Idle, FirstStored, SecondStored}
 use Rattle.store.specs.declared.Place.{Place}
 use Rattle.store.specs.declared.State.{State}
-use Rattle.store.specs.declared.Timing.{Timing}
 use Rattle.store.specs.Answer.{Outcome}
 use Rattle.store.specs.State.{fits}
 use Rattle.store.specs.Tail.{tail_fits, stored_tail, logged, logged_if}
@@ -56,7 +57,7 @@ stores_length {m} {k} (block b e) = length_put m k b
 
 -- ---- the blocks stored have 512 bytes
 
-length_stamp_from : (pair : ℕ → Timing) (page : List ℕ) (i k : ℕ) → length (stamp_from pair page i k) ≡ length page
+length_stamp_from : (pair : ℕ → Option CommitTime) (page : List ℕ) (i k : ℕ) → length (stamp_from pair page i k) ≡ length page
 unfolding stamp_from
 length_stamp_from pair page i zero = refl
 length_stamp_from pair page i (suc k) =

@@ -1,5 +1,6 @@
 -- An accepted opening leaves a state that fits: its conditions give the ranges and the lengths, each page's used slots
 -- are at most 15 before redo and after every record applied, and the tail is a block that the conditions judge.
+use Rattle.std.specs.Prelude.{Option, Some, None}
 use mathlib.Core.Path.{◌≡◌, refl, ap, ◌∙◌}
 use mathlib.Core.Bool.{Bool, true, false, cond, ◌&&◌}
 use mathlib.Core.List.{List, [], ◌∷◌, ◌++◌}
@@ -25,8 +26,6 @@ use Rattle.layout.proofs.PageLaws.{page_form_law}
 use Rattle.layout.proofs.CacheLaws.{put_cell_used, length_put_version, put_version_page, put_version_beside}
 use Rattle.store.specs.declared.Place.{Place}
 use Rattle.store.specs.declared.Answer.TheVariants.{Opened}
-use Rattle.store.specs.declared.Found.{Found}
-use Rattle.store.specs.declared.Found.TheVariants.{At, Nothing}
 use Rattle.store.specs.Answer.{Outcome}
 use Rattle.store.specs.Places.{first, place_at, is_free}
 use Rattle.store.specs.State.{in_range, fits}
@@ -78,9 +77,9 @@ length_take_free m log c slots ps (n ∷ ns) =
     length_take_free m log c slots (take_at (first (λ i. is_free (place_at ps i).life) 64 0) ps p) ns
     ∙ one (first (λ i. is_free (place_at ps i).life) 64 0) p
   where
-    one : (f : Found) (p : Place) → length (take_at f ps p) ≡ length ps
-    one (At i) p = length-set ps i p
-    one Nothing p = refl
+    one : (f : Option ℕ) (p : Place) → length (take_at f ps p) ≡ length ps
+    one (Some i) p = length-set ps i p
+    one None p = refl
 
 pub length_table_places : (m : List ℕ) (log : List Placed) (c : List ℕ) (slots i k : ℕ)
     → length (table_places m log c slots i k) ≡ k

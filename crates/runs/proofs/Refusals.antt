@@ -1,11 +1,11 @@
 -- What calls leave alone, for every state, medium and cache. Each claim is read off from the ways in which a call ends:
 -- a refusal leaves all as it was, and the steps of begin, abort, reads and lists write neither medium nor cache.
+use Rattle.std.specs.Prelude.{Option, Some}
 use Prim.Native.Nat.{ℕ}
 use native.Mathlib.Omega.{arith}
 use mathlib.Core.Path.{◌≡◌, refl, ◌∙◌}
 use mathlib.Core.Logic.{◌≢◌}
 use mathlib.Core.Bool.{Bool, true, false, ◌&&◌, false≢true}
-use mathlib.Core.Option.{Option, some}
 use mathlib.Core.List.{List, [], ◌∷◌}
 use lib.ListN.{length}
 use lib.Dec.{eqb}
@@ -45,7 +45,7 @@ pub record Untouched (m c b : List ℕ) (s : State) (o : Outcome) : Type 0 where
 
 -- refused by the first "no", or all questions passed
 data Ended (m c : List ℕ) (s : State) (k : Call) (o : Outcome) : Type 0 where
-  by_no : (r : Refusal) → ask (asks m c s k) ≡ some r → o.answer ≡ Refused r → Untouched m c (given k) s o
+  by_no : (r : Refusal) → ask (asks m c s k) ≡ Some r → o.answer ≡ Refused r → Untouched m c (given k) s o
       → Ended m c s k o
   by_step : Passed (asks m c s k) → is_refused o.answer ≡ false → Ended m c s k o
 
@@ -76,15 +76,15 @@ module _ (m c : List ℕ) (s : State) (k : Call) (r : Refusal) where
       go (by_step p n) = not_refused n e
 
   -- a call is refused by the first "no" of its questions
-  pub refusal_asked : (called m c s k).answer ≡ Refused r → ask (asks m c s k) ≡ some r
+  pub refusal_asked : (called m c s k).answer ≡ Refused r → ask (asks m c s k) ≡ Some r
   refusal_asked e = go (ended (way m c s k))
     where
-      go : Ended m c s k (called m c s k) → ask (asks m c s k) ≡ some r
+      go : Ended m c s k (called m c s k) → ask (asks m c s k) ≡ Some r
       go (by_no q w a u) = let h : q ≡ r = cc in rw h at w
       go (by_step p n) = not_refused n e
 
   -- and whenever there is one
-  pub asked_refused : ask (asks m c s k) ≡ some r → (called m c s k).answer ≡ Refused r
+  pub asked_refused : ask (asks m c s k) ≡ Some r → (called m c s k).answer ≡ Refused r
   asked_refused e = go (ended (way m c s k))
     where
       go : Ended m c s k (called m c s k) → (called m c s k).answer ≡ Refused r

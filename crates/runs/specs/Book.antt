@@ -1,8 +1,7 @@
 -- The book of 01's 'Runs and their book', and what it answers. It knows calls, cuts, answers and whether a log block
 -- changed, and nothing of the store.
-use Rattle.std.specs.Prelude.{ℕ, zero, suc, ◌+◌, ◌*◌, ◌/◌, ◌%◌, max, ◌≡◌, Bool, true, false, cond, not, ◌&&◌, ◌||◌}
+use Rattle.std.specs.Prelude.{ℕ, zero, suc, ◌+◌, ◌*◌, ◌/◌, ◌%◌, max, ◌≡◌, Bool, true, false, cond, not, ◌&&◌, ◌||◌, Option, None, Some}
 use Rattle.std.specs.Prelude.{List, [], ◌∷◌, ◌++◌, length, take, drop, replicate, eqb, leb, ltb}
-use Rattle.std.proofs.Math.Option.{Option, none, some}
 use Rattle.runs.specs.Event.{Call, Event, opening, cut, call, begin, write, erase, current_read, commit, abort, as_of}
 use Rattle.runs.specs.Event.{changes, store_log, store_page, checkpoint, Strip, missing, erased, present, Sight}
 use Rattle.runs.specs.Event.{Observation}
@@ -44,9 +43,9 @@ versions (committed n t ∷ rs) = versions rs
 
 -- 01: "A version row with a commit row of its number is committed, at that time"
 unfoldable pub time_of : List Row → ℕ → Option ℕ
-time_of [] n = none
+time_of [] n = None
 time_of (version v ∷ rs) n = time_of rs n
-time_of (committed k t ∷ rs) n = cond (eqb k n) (some t) (time_of rs n)
+time_of (committed k t ∷ rs) n = cond (eqb k n) (Some t) (time_of rs n)
 
 -- 01: "the last commit row's time (or 0)"
 unfoldable pub last_time : List Row → ℕ
@@ -148,8 +147,8 @@ strip_of kind v = cond (eqb kind 1) erased (present v)
 
 -- 01: "A version row with a commit row of its number is committed": has it a time?
 abbrev pub is_some : Option ℕ → Bool
-is_some none = false
-is_some (some t) = true
+is_some None = false
+is_some (Some t) = true
 
 -- 01: "A current read gives the record's newest version that is committed or its own": of versions by rising slot
 unfoldable pub current_of : List Row → ℕ → ℕ → Strip → List Version → Strip
@@ -167,13 +166,13 @@ pub record Dated : Type 0 where
 -- 01: "the committed version with greatest time not above t, the later slot among equals": with time below `limit`,
 -- which is t + 1; of versions by rising slot, each against the best before it
 abbrev pub later_of : Option Dated → ℕ → Dated → Option Dated
-later_of none limit x = cond (ltb x.time limit) (some x) none
-later_of (some y) limit x = cond (ltb x.time limit && leb y.time x.time) (some x) (some y)
+later_of None limit x = cond (ltb x.time limit) (Some x) None
+later_of (Some y) limit x = cond (ltb x.time limit && leb y.time x.time) (Some x) (Some y)
 
 -- 01: "the committed version with greatest time": a version without a time leaves the best as it is
 abbrev pub dated_of : Option ℕ → Option Dated → ℕ → Version → Option Dated
-dated_of none best limit v = best
-dated_of (some t) best limit v = later_of best limit (record { time = t; kind = v.kind; value = v.value })
+dated_of None best limit v = best
+dated_of (Some t) best limit v = later_of best limit (record { time = t; kind = v.kind; value = v.value })
 
 -- 01: "the committed version with greatest time": of the record's versions by rising slot, with time below `limit`
 unfoldable pub best_below : List Row → ℕ → ℕ → Option Dated → List Version → Option Dated
@@ -183,12 +182,12 @@ best_below rs key limit best (v ∷ vs) =
 
 -- 01: "the committed version with greatest time": of all the record's versions, with time below `limit`
 unfoldable pub last_below : List Row → ℕ → ℕ → Option Dated
-last_below rs key limit = best_below rs key limit none (versions rs)
+last_below rs key limit = best_below rs key limit None (versions rs)
 
 -- 01: "none or erased are results": what the version found reads as, or missing
 abbrev pub strip_at : Option Dated → Strip
-strip_at none = missing
-strip_at (some x) = strip_of x.kind x.value
+strip_at None = missing
+strip_at (Some x) = strip_of x.kind x.value
 
 -- 01: "As of t: the committed version with greatest time not above t": what it reads as
 unfoldable pub strip_as_of : List Row → ℕ → ℕ → Strip
@@ -203,14 +202,14 @@ same (x ∷ xs) (y ∷ ys) = eqb x y && same xs ys
 
 -- 01: "differs from the one before .. The first of all counts as different": x against the one before, if there is one
 abbrev pub differs : Dated → Option Dated → Bool
-differs x none = true
-differs x (some y) = not (eqb x.kind y.kind && same x.value y.value)
+differs x None = true
+differs x (Some y) = not (eqb x.kind y.kind && same x.value y.value)
 
 -- 01: "its last version under each commit time, in time order, listed .. if its time is in range and its kind or value
 -- differs from the one before, in range or not": the last version found, behind the lines below its time
 abbrev pub lines_at : List Row → ℕ → ℕ → (ℕ → List Dated) → Option Dated → List Dated
-lines_at rs key t1 rest none = []
-lines_at rs key t1 rest (some x) =
+lines_at rs key t1 rest None = []
+lines_at rs key t1 rest (Some x) =
     cond (ltb x.time t1) [] (rest x.time ++ cond (differs x (last_below rs key x.time)) (x ∷ []) [])
 
 -- 01: "in time order .. if its time is in range": the lines from t1 on of times below `limit`; k bounds the steps

@@ -1,9 +1,9 @@
 -- The opening as it was before request #104, kept to say that an old medium opens as it did: the readers of a log
 -- record and of a slot, and what opening judges and finds by them. Whatever reads neither a record nor a record number
 -- is the store's own, and so is the writer of a slot.
-use Rattle.std.specs.Prelude.{ℕ, zero, suc, ◌+◌, ◌-◌, ◌*◌, ◌^◌, ◌<◌, max, ◌≡◌, Bool, true, false, cond, not, ◌&&◌, ◌||◌}
+use Rattle.layout.specs.declared.CommitTime.{CommitTime}
+use Rattle.std.specs.Prelude.{ℕ, zero, suc, ◌+◌, ◌-◌, ◌*◌, ◌^◌, ◌<◌, max, ◌≡◌, Bool, true, false, cond, not, ◌&&◌, ◌||◌, Option, None, Some}
 use Rattle.std.specs.Prelude.{List, [], ◌∷◌, ◌++◌, length, get_or, drop, eqb, leb, ltb}
-use Rattle.std.proofs.Math.Option.{Option, none, some}
 use Rattle.fields.specs.Field.{dec}
 use Rattle.fields.specs.Part.{part}
 use Rattle.fields.specs.Equal.{all_zero}
@@ -23,10 +23,6 @@ use Rattle.store.specs.declared.Phase.TheVariants.{Idle}
 use Rattle.store.specs.declared.Refusal.{Refusal}
 use Rattle.store.specs.declared.Refusal.TheVariants.{BadSizes, BadCache, Malformed}
 use Rattle.store.specs.declared.Answer.TheVariants.{Opened}
-use Rattle.store.specs.declared.Found.{Found}
-use Rattle.store.specs.declared.Found.TheVariants.{At, Nothing}
-use Rattle.store.specs.declared.Timing.{Timing}
-use Rattle.store.specs.declared.Timing.TheVariants.{Untimed}
 use Rattle.store.specs.declared.State.{State}
 use Rattle.store.specs.Answer.{Outcome, leaves, refuses, ask}
 use Rattle.store.specs.State.{in_range, no_state}
@@ -143,9 +139,9 @@ unfoldable pub version_of_before : List ℕ → ℕ → ℕ → Bool
 version_of_before c key n = is_version (cell_at_before c n).state && eqb (cell_at_before c n).key key
 
 -- 01: "from the record's newest": the highest slot below n that holds a version of the record
-unfoldable pub newest_before : List ℕ → ℕ → ℕ → Found
-newest_before c key zero = Nothing
-newest_before c key (suc n) = cond (version_of_before c key n) (At n) (newest_before c key n)
+unfoldable pub newest_before : List ℕ → ℕ → ℕ → Option ℕ
+newest_before c key zero = None
+newest_before c key (suc n) = cond (version_of_before c key n) (Some n) (newest_before c key n)
 
 module _ (m : List ℕ) (l : ℕ) where
   -- 01: "Next number is the larger of the master's and the highest logged plus 1"
@@ -157,12 +153,12 @@ module _ (m : List ℕ) (l : ℕ) where
   last_before = max (time_on m) (latest (log_before m l))
 
   -- 01: "A version's time is its stamp or its pair's time": that of slot n of the cache c
-  unfoldable pub time_at_before : List ℕ → ℕ → Timing
+  unfoldable pub time_at_before : List ℕ → ℕ → Option CommitTime
   time_at_before c n = version_time (pair_time m (log_before m l)) (cell_at_before c n).state
 
   -- 01: "a record's times never falling": the time of its newest version below n that has one
-  unfoldable pub time_below_before : List ℕ → ℕ → ℕ → Timing
-  time_below_before c key zero = Untimed
+  unfoldable pub time_below_before : List ℕ → ℕ → ℕ → Option CommitTime
+  time_below_before c key zero = None
   time_below_before c key (suc n) = time_or (version_of_before c key n) (time_at_before c n) (time_below_before c key n)
 
   -- 01: "earlier slots true, a record's times never falling", and the bounds, if slot n holds a version
@@ -260,8 +256,8 @@ asks_before m c l d =
 
 -- 01: "Opening stores nothing", "opening answers the last time"
 unfoldable pub open_if_before : Option Refusal → List ℕ → List ℕ → ℕ → ℕ → Outcome
-open_if_before (some r) m c l d = refuses r no_state m (refused_cache r c)
-open_if_before none m c l d =
+open_if_before (Some r) m c l d = refuses r no_state m (refused_cache r c)
+open_if_before None m c l d =
     leaves (Opened (record { 0 = last_before m l })) (state_before m l d) m (redone_before m l d).cache
 
 -- 01: "In this order, those that fit the call": opening's outcome, as it was

@@ -1,8 +1,7 @@
 -- The calls as they were before request #104: no question 18, a version record of 33 bytes under tag 1, and a record's
 -- newest version by the earlier reader of a slot. What reads no record number is the store's own, and so are the
 -- writers of a slot and of a record.
-use Rattle.std.specs.Prelude.{ℕ, suc, ◌*◌, ◌<◌, Bool, not, List, [], ◌∷◌, ◌++◌, ◌≡◌, length, leb, ltb}
-use Rattle.std.proofs.Math.Option.{Option, none, some}
+use Rattle.std.specs.Prelude.{ℕ, suc, ◌*◌, ◌<◌, Bool, not, List, [], ◌∷◌, ◌++◌, ◌≡◌, length, leb, ltb, Option, None, Some}
 use Rattle.fields.specs.Field.{enc}
 use Rattle.fields.specs.Block.{zeros}
 use Rattle.layout.specs.Item.{item_bytes}
@@ -57,8 +56,8 @@ old_head s c n key kind = record {
 
 -- 01: "on "no", this number with zeros": a write or erase refused, or done at the number's place
 unfoldable pub old_if : Option Refusal → State → List ℕ → List ℕ → ℕ → ℕ → ℕ → List ℕ → Outcome
-old_if (some r) s m c n key kind value = refuses r s m c
-old_if none s m c n key kind value = write_at (find_active s.places n) s m c (old_head s c n key kind) value
+old_if (Some r) s m c n key kind value = refuses r s m c
+old_if None s m c n key kind value = write_at (find_active s.places n) s m c (old_head s c n key kind) value
 
 -- ---- reads and lists
 
@@ -72,8 +71,8 @@ old_current_asks s m c n key =
 
 -- 01: "A current read gives the record's newest version that is committed or its own": refused, or the search for it
 unfoldable pub old_current_if : Option Refusal → State → List ℕ → List ℕ → ℕ → ℕ → Outcome
-old_current_if (some r) s m c n key = refuses r s m c
-old_current_if none s m c n key = current_at (visible_of (newest_before c key s.slots) c (time_under s.places) n) s m c
+old_current_if (Some r) s m c n key = refuses r s m c
+old_current_if None s m c n key = current_at (visible_of (newest_before c key s.slots) c (time_under s.places) n) s m c
 
 -- 01: "state and buffers fit .. ? 16", "t (t2) not above the last commit time? 10"; 02, #102: "compare their time with
 -- the last stored commit time"
@@ -82,8 +81,8 @@ old_as_of_asks s m c t = (fits s (length m) (length c), Unfit) ∷ (leb t s.save
 
 -- 01: "As of t: the committed version with greatest time not above t": refused, or the search for it
 unfoldable pub old_as_of_if : Option Refusal → State → List ℕ → List ℕ → ℕ → ℕ → Outcome
-old_as_of_if (some r) s m c key t = refuses r s m c
-old_as_of_if none s m c key t = as_of_at (best_of (newest_before c key s.slots) c (time_under s.places) t) s m c
+old_as_of_if (Some r) s m c key t = refuses r s m c
+old_as_of_if None s m c key t = as_of_at (best_of (newest_before c key s.slots) c (time_under s.places) t) s m c
 
 -- 01: "Changes of a record from t1 to t2": its lines, found from its newest version
 unfoldable pub old_lines : State → List ℕ → ℕ → ℕ → ℕ → List Line

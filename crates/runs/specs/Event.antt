@@ -1,6 +1,5 @@
 -- What happens in a run, and what is seen of it.
-use Rattle.std.specs.Prelude.{ℕ, ◌^◌, Bool, true, ◌&&◌, List, [], ◌∷◌, length, eqb, ltb}
-use Rattle.std.proofs.Math.Option.{Option}
+use Rattle.std.specs.Prelude.{ℕ, ◌^◌, Bool, true, ◌&&◌, List, [], ◌∷◌, length, eqb, ltb, Option}
 
 -- 01: "fed the calls and cuts, the arguments": a call on an open store. A key is 01's record number.
 pub data Call : Type 0 where

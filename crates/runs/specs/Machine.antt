@@ -1,7 +1,7 @@
 -- The room as a machine: the medium, and while it is open the cache and the state. Each step is by the definitions of
 -- the calls.
-use Rattle.std.specs.Prelude.{ℕ, zero, suc, ◌+◌, ◌*◌, Bool, true, false, not, ◌&&◌, List, [], ◌∷◌}
-use Rattle.std.proofs.Math.Option.{Option, none, some}
+use Rattle.layout.specs.declared.CommitTime.{CommitTime}
+use Rattle.std.specs.Prelude.{ℕ, zero, suc, ◌+◌, ◌*◌, Bool, true, false, not, ◌&&◌, List, [], ◌∷◌, Option, None, Some}
 use Rattle.fields.specs.Part.{part}
 use Rattle.fields.specs.Equal.{eq_list}
 use Rattle.store.specs.declared.Answer.{Answer}
@@ -9,8 +9,6 @@ use Rattle.store.specs.declared.Answer.TheVariants.{Refused, Done, Begun, Writte
 use Rattle.store.specs.declared.Answer.TheVariants.{Present, Listed}
 use Rattle.store.specs.declared.Place.{Place}
 use Rattle.store.specs.declared.State.{State}
-use Rattle.store.specs.declared.Timing.{Timing}
-use Rattle.store.specs.declared.Timing.TheVariants.{Timed, Untimed}
 use Rattle.store.specs.Answer.{Outcome, answer_number, answer_value}
 use Rattle.store.specs.Places.{time_under}
 use Rattle.store.specs.Chain.{cell_at, version_time}
@@ -60,9 +58,9 @@ strip_of Present v = present v
 strip_of (Listed k) v = missing
 
 -- 01: "its time or none": a version's time, if it has one
-abbrev pub time_in : Timing → Option ℕ
-time_in (Timed t) = some t.0
-time_in Untimed = none
+abbrev pub time_in : Option CommitTime → Option ℕ
+time_in (Some t) = Some t.0
+time_in None = None
 
 -- 01: "each with its row's record, kind and value, and its time or none": what stands in slot n
 unfoldable pub sight_at : List ℕ → List Place → ℕ → Sight

@@ -1,7 +1,6 @@
 -- The moments of a run: what the events so far have left, what the book is then, and what is seen of the events that
 -- come. A moment is the list of the events before it.
-use Rattle.std.specs.Prelude.{ℕ, zero, suc, ◌&&◌, Bool, true, false, ◌||◌, List, [], ◌∷◌, ◌++◌, ◌⊎◌, ◌≡◌, eqb}
-use Rattle.std.proofs.Math.Option.{Option, none, some}
+use Rattle.std.specs.Prelude.{ℕ, zero, suc, ◌&&◌, Bool, true, false, ◌||◌, List, [], ◌∷◌, ◌++◌, ◌⊎◌, ◌≡◌, eqb, Option, None, Some}
 use Rattle.store.specs.State.{in_range}
 use Rattle.runs.specs.Event.{Call, Event, opening, cut, call, begin, write, erase, current_read, commit, abort, as_of}
 use Rattle.runs.specs.Event.{changes, store_log, store_page, checkpoint, Observation}
@@ -153,17 +152,17 @@ closes n (call k) o = eqb o.refusal 0 && is_close n k
 
 -- 01: "Write, erase, current read, commit, abort: number active?": the number that a call names
 abbrev pub named : Call → Option ℕ
-named (begin k) = none
-named (write n key v) = some n
-named (erase n key) = some n
-named (current_read n key) = some n
-named (commit n k) = some n
-named (abort n) = some n
-named (as_of key t) = none
-named (changes key t1 t2 buffer) = none
-named store_log = none
-named (store_page p) = none
-named checkpoint = none
+named (begin k) = None
+named (write n key v) = Some n
+named (erase n key) = Some n
+named (current_read n key) = Some n
+named (commit n k) = Some n
+named (abort n) = Some n
+named (as_of key t) = None
+named (changes key t1 t2 buffer) = None
+named store_log = None
+named (store_page p) = None
+named checkpoint = None
 
 -- 01: "a row of number and time": a transaction that has committed with versions
 pub record Transaction : Type 0 where

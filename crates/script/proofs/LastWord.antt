@@ -1,8 +1,8 @@
 -- The last word of a begun line with the bytes w behind what was taken of it: another byte taken changes nothing, since
 -- the reader keeps the number so far, whether the word is one, and its hex digits.
+use Rattle.std.specs.Prelude.{Option, None, Some}
 use mathlib.Core.Path.{◌≡◌, refl, sym, ap, ◌∙◌}
 use mathlib.Core.Bool.{Bool, true, false, cond, not, ◌&&◌}
-use mathlib.Core.Option.{Option, none, some}
 use mathlib.Core.List.{List, [], ◌∷◌, ◌++◌}
 use Prim.Native.Nat.{ℕ, suc, ◌+◌, ◌-◌, ◌*◌, ◌%◌, ◌^◌, ◌≤◌, ◌<◌}
 use native.Mathlib.Omega.{arith}
@@ -33,14 +33,14 @@ begun k (b ∷ w) = true
 unfoldable pub number_from : Line → List ℕ → Option ℕ
 number_from l w =
     cond l.number
-    (cond (begun l.hexes w) (cond (all_digits w && ltb (value_from l.last w) (2 ^ 64)) (some (value_from l.last w))
-    none) none) none
+    (cond (begun l.hexes w) (cond (all_digits w && ltb (value_from l.last w) (2 ^ 64)) (Some (value_from l.last w))
+    None) None) None
 
 -- n hex digits, and what is made of their two halves
 unfoldable pub hexes_from : ℕ → (ℕ → ℕ → List ℕ) → Line → List ℕ → Option (List ℕ)
 hexes_from n f l w =
     cond (all_hex w && eqb (l.hexes + length w) n)
-    (some (f (fill_high l.hexes l.high w) (fill_low l.hexes l.low w))) none
+    (Some (f (fill_high l.hexes l.high w) (fill_low l.hexes l.low w))) None
 
 abbrev both : ℕ → ℕ → List ℕ
 both h l = wide 8 h ++ wide 8 l
@@ -101,15 +101,15 @@ number_start l (b ∷ w) n h e = simp (n, e)
 
 module _ (l : Line) (b : ℕ) (w : List ℕ) where
   number_out : (l.number ≡ true → (all_digits (b ∷ w) && ltb (value_from l.last (b ∷ w)) (2 ^ 64)) ≡ false)
-      → number_from l (b ∷ w) ≡ none
+      → number_from l (b ∷ w) ≡ None
   unfolding number_from
   number_out f = bool_case l.number (λ n. simp (n, f n)) (λ n. simp n)
 
-  number_other : is_digit b ≡ false → number_from l (b ∷ w) ≡ none
+  number_other : is_digit b ≡ false → number_from l (b ∷ w) ≡ None
   unfolding all_digits
   number_other t = number_out (λ n. simp t)
 
-  number_large : 2 ^ 64 ≤ 10 * l.last + (b - 48) → number_from l (b ∷ w) ≡ none
+  number_large : 2 ^ 64 ≤ 10 * l.last + (b - 48) → number_from l (b ∷ w) ≡ None
   unfolding value_from
   number_large h =
       let g = value_grows (10 * l.last + (b - 48)) w in
@@ -117,7 +117,7 @@ module _ (l : Line) (b : ℕ) (w : List ℕ) where
       le-ltb (value_from (10 * l.last + (b - 48)) w) (2 ^ 64) (omega arith) in
       number_out (λ n. simp e (and_false (all_digits (b ∷ w))))
 
-  number_none : (g : Line) → g.number ≡ false → number_from g w ≡ none
+  number_none : (g : Line) → g.number ≡ false → number_from g w ≡ None
   unfolding number_from
   number_none g e = simp e
 
@@ -147,29 +147,29 @@ module _ (l : Line) (b : ℕ) (w : List ℕ) where
 module _ (n : ℕ) (f : ℕ → ℕ → List ℕ) (l : Line) where
   hexes_start : (w r : List ℕ) → l.hexes ≡ 0 → l.high ≡ 0 → l.low ≡ 0
       → (all_hex w ≡ true → length w ≡ n → f (fill_high 0 0 w) (fill_low 0 0 w) ≡ r)
-      → hexes_from n f l w ≡ cond (all_hex w && eqb (length w) n) (some r) none
+      → hexes_from n f l w ≡ cond (all_hex w && eqb (length w) n) (Some r) None
   unfolding hexes_from
   hexes_start w r k h g e =
       let z : 0 + length w ≡ length w = omega arith in
       simp (k, h, g, z)
-      (cond_when (all_hex w && eqb (length w) n) none
-      (λ t. ap some (e (and_0 (all_hex w) (eqb (length w) n) t)
+      (cond_when (all_hex w && eqb (length w) n) None
+      (λ t. ap Some (e (and_0 (all_hex w) (eqb (length w) n) t)
       (eqb-true (length w) n (and_1 (all_hex w) (eqb (length w) n) t)))))
 
-  hexes_end : hexes_from n f l [] ≡ cond (eqb l.hexes n) (some (f l.high l.low)) none
+  hexes_end : hexes_from n f l [] ≡ cond (eqb l.hexes n) (Some (f l.high l.low)) None
   unfolding hexes_from all_hex fill_high fill_low
   hexes_end = let z : l.hexes + 0 ≡ l.hexes = omega arith in simp z
 
   -- more digits than n, or another byte
-  hexes_over : (w : List ℕ) → n < l.hexes + length w → hexes_from n f l w ≡ none
+  hexes_over : (w : List ℕ) → n < l.hexes + length w → hexes_from n f l w ≡ None
   unfolding hexes_from
   hexes_over w h =
       let z : l.hexes + length w ≡ n → ⊥ = λ e. omega arith in
       simp (ne_eqb _ _ z)
-      (ap (λ (x : Bool). cond x (some (f (fill_high l.hexes l.high w) (fill_low l.hexes l.low w))) none)
+      (ap (λ (x : Bool). cond x (Some (f (fill_high l.hexes l.high w) (fill_low l.hexes l.low w))) None)
       (and_false (all_hex w)))
 
-  hexes_other : (b : ℕ) (w : List ℕ) → ltb (hex_digit b) 16 ≡ false → hexes_from n f l (b ∷ w) ≡ none
+  hexes_other : (b : ℕ) (w : List ℕ) → ltb (hex_digit b) 16 ≡ false → hexes_from n f l (b ∷ w) ≡ None
   unfolding hexes_from all_hex
   hexes_other b w t = simp t
 
@@ -288,7 +288,7 @@ word_digit l b w held t =
       hexes_digit l (hex_digit b) held 2 first b w (omega arith) refl t,
     )
 
-number_gone : (l : Line) (b : ℕ) (w : List ℕ) → ltb (hex_digit b) 16 ≡ false → number_from l (b ∷ w) ≡ none
+number_gone : (l : Line) (b : ℕ) (w : List ℕ) → ltb (hex_digit b) 16 ≡ false → number_from l (b ∷ w) ≡ None
 number_gone l b w t =
     bool_case (is_digit b)
     (λ y.
@@ -310,7 +310,7 @@ word_other l b w t =
       hexes_over 2 first (no_word l) w (omega arith),
     )
 
-pub number_end : (l : Line) → Held l → number_from l [] ≡ cond (is_number l) (some l.last) none
+pub number_end : (l : Line) → Held l → number_from l [] ≡ cond (is_number l) (Some l.last) None
 unfolding number_from is_number all_digits value_from
 number_end l held =
     bool_case l.number

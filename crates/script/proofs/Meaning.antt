@@ -1,8 +1,8 @@
 -- Taking the bytes of a line one by one gives the form that the line has by its words: the form of a begun line with
 -- the bytes still to come stays the same when one of them is taken.
+use Rattle.std.specs.Prelude.{Option, None, Some}
 use mathlib.Core.Path.{◌≡◌, refl, sym, ap, ◌∙◌}
 use mathlib.Core.Bool.{Bool, true, false, cond}
-use mathlib.Core.Option.{Option, none, some}
 use mathlib.Core.List.{List, [], ◌∷◌}
 use Prim.Native.Nat.{ℕ, suc, ◌+◌, ◌-◌, ◌≤◌, ◌<◌}
 use native.Mathlib.Omega.{arith}
@@ -85,8 +85,8 @@ other_words b rs t = simp t
 behind_case : (P : Form → Type 0) (k : ℕ) (n : Option ℕ) (f : Form)
     → ((Q : Form → Type 0) → Q other → ((ns : List ℕ) (x : Word) → Q (ending k ns x)) → Q f)
     → P other → ((ns : List ℕ) (x : Word) → P (ending k ns x)) → P (behind n f)
-behind_case P k none f r o e = o
-behind_case P k (some n) f r o e = r (λ g. P (behind (some n) g)) o (λ ns x. e (n ∷ ns) x)
+behind_case P k None f r o e = o
+behind_case P k (Some n) f r o e = r (λ g. P (behind (Some n) g)) o (λ ns x. e (n ∷ ns) x)
 
 pub after_case : (P : Form → Type 0) (k : ℕ) (v : List ℕ) (vs : List (List ℕ)) → P other
     → ((ns : List ℕ) (x : Word) → P (ending k ns x)) → P (after_letter k (v ∷ vs))
@@ -125,18 +125,18 @@ module _ (l : Line) where
   done_next ns h = let m : 5 - l.count ≡ suc (5 - (l.count + 1)) = omega arith in simp m
 
   done_later : (v : List ℕ) (vs : List (List ℕ)) → l.count < 5
-      → with_done l (behind (some l.last) (after_letter l.letter (v ∷ vs)))
+      → with_done l (behind (Some l.last) (after_letter l.letter (v ∷ vs)))
       ≡ with_done (next_word l) (after_letter l.letter (v ∷ vs))
   done_later v vs h =
-      after_case (λ f. with_done l (behind (some l.last) f) ≡ with_done (next_word l) f) l.letter v vs refl
+      after_case (λ f. with_done l (behind (Some l.last) f) ≡ with_done (next_word l) f) l.letter v vs refl
       (λ ns x. ap (λ (t : List ℕ). ending l.letter t x) (done_next ns h))
 
   too_many : (o : Option ℕ) (v : List ℕ) (vs : List (List ℕ)) → 5 ≤ l.count
       → limited (with_done l (behind o (after_letter l.letter (v ∷ vs)))) ≡ other
   unfolding limited done_of
-  too_many none v vs h = refl
-  too_many (some n) v vs h =
-      after_case (λ f. limited (with_done l (behind (some n) f)) ≡ other) l.letter v vs refl
+  too_many None v vs h = refl
+  too_many (Some n) v vs h =
+      after_case (λ f. limited (with_done l (behind (Some n) f)) ≡ other) l.letter v vs refl
       (λ ns x.
       let m : 5 - l.count ≡ 0 = omega arith in
       let k : 4 < suc (suc (suc (suc (suc (length ns))))) = omega arith in
@@ -194,14 +194,14 @@ module _ (l : Line) (b : ℕ) (rs : List ℕ) (sound : Sound l) (fine : l.bad �
       ∙ bool_case (is_number l)
       (λ n.
       let e : grown l b ≡ next_word l = simp (t, z, k, m, n) in
-      ap (λ (x : Bool). limited (with_done l (behind (cond x (some l.last) none) (after_letter l.letter (v ∷ vs))))) n
+      ap (λ (x : Bool). limited (with_done l (behind (cond x (Some l.last) None) (after_letter l.letter (v ∷ vs))))) n
       ∙ ap limited (done_later l v vs h)
       ∙ ap (λ (x : List (List ℕ)). limited (with_done (next_word l) (after_letter l.letter x))) (sym w)
       ∙ ap (λ (x : Form). limited (with_done (next_word l) x)) (sym (begin_word l (words_of rs) v vs w))
       ∙ sym (rest_in (next_word l) rs fine z (ne_eqb _ _ p))
       ∙ ap (λ (x : Line). rest_of x rs) (sym e))
       (λ n.
-      ap (λ (x : Bool). limited (with_done l (behind (cond x (some l.last) none) (after_letter l.letter (v ∷ vs))))) n
+      ap (λ (x : Bool). limited (with_done l (behind (cond x (Some l.last) None) (after_letter l.letter (v ∷ vs))))) n
       ∙ sym (spoils (simp (t, z, k, m, n))))))
 
   by_first : eqb b 32 ≡ false → eqb l.letter 0 ≡ true → rest_of l (b ∷ rs) ≡ rest_of (grown l b) rs

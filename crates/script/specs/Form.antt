@@ -1,7 +1,6 @@
 -- The form of a line: a letter, then words, each behind one space. All words but the last are decimal numbers. The last
 -- is read as a decimal number and as hex digits, and the letter decides which of the two it takes.
-use Rattle.std.specs.Prelude.{ℕ, Bool, true, cond, List, [], ◌∷◌, length, ltb}
-use Rattle.std.proofs.Math.Option.{Option, none, some}
+use Rattle.std.specs.Prelude.{ℕ, Bool, true, cond, List, [], ◌∷◌, length, ltb, Option, None, Some}
 use Rattle.script.specs.Words.{is_in, words_of, number_of, hex_bytes}
 
 -- replay: "numbers decimal", "values as 32 hex digits", "one byte (two hex digits)": a word read in these three ways
@@ -22,10 +21,10 @@ pub data Form : Type 0 where
 
 -- 01: "W number record byte" and the like: a number in front of those of a form
 abbrev pub behind : Option ℕ → Form → Form
-behind none f = other
-behind (some n) other = other
-behind (some n) (bare k) = other
-behind (some n) (ending k ns w) = ending k (n ∷ ns) w
+behind None f = other
+behind (Some n) other = other
+behind (Some n) (bare k) = other
+behind (Some n) (ending k ns w) = ending k (n ∷ ns) w
 
 -- 01: "per line the letter": the words behind it
 unfoldable pub after_letter : ℕ → List (List ℕ) → Form

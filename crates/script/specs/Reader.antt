@@ -1,8 +1,7 @@
 -- A line of which the first bytes were taken, as a program keeps it: what another byte makes of it, and its form if it
 -- ends here.
-use Rattle.std.specs.Prelude.{ℕ, zero, suc, ◌+◌, ◌-◌, ◌*◌, ◌/◌, ◌%◌, ◌^◌, Bool, true, false, cond, List, [], ◌∷◌, ◌++◌}
+use Rattle.std.specs.Prelude.{ℕ, zero, suc, ◌+◌, ◌-◌, ◌*◌, ◌/◌, ◌%◌, ◌^◌, Bool, true, false, cond, List, [], ◌∷◌, ◌++◌, None, Some}
 use Rattle.std.specs.Prelude.{drop, eqb, ltb, leb}
-use Rattle.std.proofs.Math.Option.{none, some}
 use Rattle.script.specs.declared.line.Line.{Line}
 use Rattle.script.specs.declared.line.Taken.{Taken}
 use Rattle.script.specs.Words.{hex_digit}
@@ -162,9 +161,9 @@ wide (suc k) n = wide k (n / 256) ++ (n % 256 ∷ [])
 -- replay: "numbers decimal", "values as 32 hex digits", "one byte (two hex digits)": the last word
 unfoldable pub last_word : Line → Word
 last_word l = record {
-  number = cond (is_number l) (some l.last) none;
-  value = cond (eqb l.hexes 32) (some (wide 8 l.high ++ wide 8 l.low)) none;
-  byte = cond (eqb l.hexes 2) (some (wide 1 l.high)) none;
+  number = cond (is_number l) (Some l.last) None;
+  value = cond (eqb l.hexes 32) (Some (wide 8 l.high ++ wide 8 l.low)) None;
+  byte = cond (eqb l.hexes 2) (Some (wide 1 l.high)) None;
 }
 
 -- 01: "the first line of another form": the form of the line if it ends here

@@ -1,6 +1,5 @@
 -- What a line of `replay` means: the table of its language.
-use Rattle.std.specs.Prelude.{ℕ, cond, List, [], ◌∷◌, eqb, ltb}
-use Rattle.std.proofs.Math.Option.{Option, none, some}
+use Rattle.std.specs.Prelude.{ℕ, cond, List, [], ◌∷◌, eqb, ltb, Option, None, Some}
 use Rattle.fields.specs.Block.{zeros}
 use Rattle.script.specs.declared.call.Call.{Call}
 use Rattle.script.specs.declared.call.Call.TheVariants.{Format, Open, OpenSized, Cut, Begin, Write, Erase, Read, Commit}
@@ -21,8 +20,8 @@ at_most most n call = cond (ltb most n) Other call
 
 -- replay: "The first line of another form": a call needs its last word
 abbrev pub given : Option ℕ → (ℕ → Call) → Call
-given none call = Other
-given (some n) call = call n
+given None call = Other
+given (Some n) call = call n
 
 -- replay: `X`, `S`, `K`
 unfoldable pub wordless : ℕ → Call
@@ -47,9 +46,9 @@ two_numbers k a n =
 
 -- replay: `Z offset hexbyte`
 abbrev pub poke_by : ℕ → Option (List ℕ) → Call
-poke_by a none = Other
-poke_by a (some []) = Other
-poke_by a (some (b ∷ bs)) = Poke a b
+poke_by a None = Other
+poke_by a (Some []) = Other
+poke_by a (Some (b ∷ bs)) = Poke a b
 
 -- replay: `Z offset hexbyte`, and the calls of two numbers
 unfoldable pub two_words : ℕ → ℕ → Word → Call
@@ -57,8 +56,8 @@ two_words k a w = cond (eqb k 90) (poke_by a w.byte) (given w.number (two_number
 
 -- replay: `W number record value`
 abbrev pub write_by : ℕ → ℕ → Option (List ℕ) → Asked
-write_by n key none = plain Other
-write_by n key (some v) = cond (ltb 65535 key) (plain Other) (record { call = Write n key; value = v })
+write_by n key None = plain Other
+write_by n key (Some v) = cond (ltb 65535 key) (plain Other) (record { call = Write n key; value = v })
 
 -- replay: `L record t1 t2 bytes`
 unfoldable pub four_numbers : ℕ → ℕ → ℕ → ℕ → ℕ → Call

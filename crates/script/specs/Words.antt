@@ -1,6 +1,5 @@
 -- The lines of a script, the words of a line, and the numbers that words are.
-use Rattle.std.specs.Prelude.{ℕ, ◌+◌, ◌-◌, ◌*◌, ◌^◌, Bool, true, cond, ◌&&◌, List, [], ◌∷◌, length, eqb, ltb, leb}
-use Rattle.std.proofs.Math.Option.{Option, none, some}
+use Rattle.std.specs.Prelude.{ℕ, ◌+◌, ◌-◌, ◌*◌, ◌^◌, Bool, true, cond, ◌&&◌, List, [], ◌∷◌, length, eqb, ltb, leb, Option, None, Some}
 
 -- 01: "reads lines": a byte in front of the first of the lines behind it, or of the words
 abbrev pub ahead : ℕ → List (List ℕ) → List (List ℕ)
@@ -38,19 +37,19 @@ value_from n (b ∷ w) = value_from (10 * n + (b - 48)) w
 
 -- reading 17: "A number is one or more decimal digits, leading zeros allowed, below 2^64"
 unfoldable pub number_of : List ℕ → Option ℕ
-number_of [] = none
+number_of [] = None
 number_of (b ∷ w) =
-    cond (all_digits (b ∷ w) && ltb (value_from 0 (b ∷ w)) (2 ^ 64)) (some (value_from 0 (b ∷ w))) none
+    cond (all_digits (b ∷ w) && ltb (value_from 0 (b ∷ w)) (2 ^ 64)) (Some (value_from 0 (b ∷ w))) None
 
 -- 01: "W number record byte" and the like: a number and those behind it, if all are numbers
 abbrev pub joined : Option ℕ → Option (List ℕ) → Option (List ℕ)
-joined none ns = none
-joined (some n) none = none
-joined (some n) (some ns) = some (n ∷ ns)
+joined None ns = None
+joined (Some n) None = None
+joined (Some n) (Some ns) = Some (n ∷ ns)
 
 -- 01: "Numbers are decimal": the numbers that the words are, if each is one
 unfoldable pub numbers_of : List (List ℕ) → Option (List ℕ)
-numbers_of [] = some []
+numbers_of [] = Some []
 numbers_of (w ∷ ws) = joined (number_of w) (numbers_of ws)
 
 -- replay: "hex digits, lower case": 0 to 9 and a to f; 16 for a byte that is none
@@ -70,4 +69,4 @@ bytes_of (a ∷ (b ∷ w)) = (16 * hex_digit a + hex_digit b) ∷ bytes_of w
 
 -- replay: "values as 32 hex digits", "one byte (two hex digits)": the k bytes that a word of hex digits is
 unfoldable pub hex_bytes : ℕ → List ℕ → Option (List ℕ)
-hex_bytes k w = cond (all_hex w && eqb (length w) (2 * k)) (some (bytes_of w)) none
+hex_bytes k w = cond (all_hex w && eqb (length w) (2 * k)) (Some (bytes_of w)) None

@@ -1,8 +1,8 @@
 -- What `stripbook` prints for lines: nothing from the first of another form on, and last the line of the last call,
 -- with the number that the calls end in.
+use Rattle.std.specs.Prelude.{Option, None}
 use mathlib.Core.Path.{◌≡◌, refl, sym, ap, ◌∙◌}
 use mathlib.Core.Bool.{Bool, true, false, cond}
-use mathlib.Core.Option.{Option, none}
 use mathlib.Core.List.{List, [], ◌∷◌, ◌++◌, append-nil, append_assoc}
 use Prim.Native.Nat.{ℕ, zero, suc, ◌-◌, ◌^◌, ◌<◌}
 use native.Mathlib.Omega.{arith}
@@ -110,7 +110,7 @@ prints_script (l ∷ ls) w =
     ∙ ap (then (script_of ls)) (sym g)))
 
 -- a refusal has no result
-refused_dash : (a : Answer) (b : ℕ) → (answer_number a ≡ 0 → ⊥) → result_of a b ≡ none
+refused_dash : (a : Answer) (b : ℕ) → (answer_number a ≡ 0 → ⊥) → result_of a b ≡ None
 unfolding answer_number result_of
 refused_dash (Refused r) b h = refl
 refused_dash Done b h = refl
@@ -141,7 +141,7 @@ pub record LastShown (ls : List (List ℕ)) (r : ℕ) (text : List ℕ) : Type 0
   pub others : List ℕ
   pub result : Option ℕ
   pub is : text ≡ others ++ line_text (last_letter ls) r result
-  pub dash : (r ≡ 0 → ⊥) → result ≡ none
+  pub dash : (r ≡ 0 → ⊥) → result ≡ None
 
 pub last_shown : (ls : List (List ℕ)) (w : World) (r : ℕ) → Every Taken ls → 0 < length ls
     → LastShown ls (end_from w r (calls_of ls)) (prints_from says w ls)

@@ -1,7 +1,6 @@
 -- Request #112 in plain words: a choice of lines is a list of line numbers, and what is printed is the first, in the
 -- order that the request gives, of the choices that end in the number.
-use Rattle.std.specs.Prelude.{ℕ, ◌-◌, ◌≤◌, ◌<◌, ◌≡◌, ◌⊎◌, List, [], ◌∷◌, ◌++◌, length, get_or}
-use Rattle.std.proofs.Math.Option.{Option, none}
+use Rattle.std.specs.Prelude.{ℕ, ◌-◌, ◌≤◌, ◌<◌, ◌≡◌, ◌⊎◌, List, [], ◌∷◌, ◌++◌, length, get_or, Option, None}
 use Rattle.script.specs.Words.{lines_of}
 use Rattle.book.specs.Room.{line_text}
 use Rattle.book.specs.Whole.{prints_of as book_prints_of}
@@ -64,7 +63,7 @@ EndShown ls =
 unfoldable pub ShownAlike : ℕ → List ℕ → List ℕ → Type 0
 ShownAlike r input other =
     (letter : ℕ) × (a : List ℕ) × (b : List ℕ)
-    × (book_prints_of input ≡ a ++ line_text letter r none) × (book_prints_of other ≡ b ++ line_text letter r none)
+    × (book_prints_of input ≡ a ++ line_text letter r None) × (book_prints_of other ≡ b ++ line_text letter r None)
 
 -- 02, #112: "A program shall print the fewest of its lines", "(otherwise nothing is printed)": what is printed for
 -- every input, something just where the script ends in a refusal; there is no second choice like it; the number that

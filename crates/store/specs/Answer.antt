@@ -1,6 +1,5 @@
 -- Answers and refusals in 01's numbers, what a call leaves, and how its questions are put.
-use Rattle.std.specs.Prelude.{ℕ, Bool, cond, List, [], ◌∷◌}
-use Rattle.std.proofs.Math.Option.{Option, none, some}
+use Rattle.std.specs.Prelude.{ℕ, Bool, cond, List, [], ◌∷◌, Option, None, Some}
 use Rattle.fields.specs.Block.{zeros}
 use Rattle.store.specs.declared.Refusal.{Refusal}
 use Rattle.store.specs.declared.Refusal.TheVariants.{BadSizes, BadCache, Malformed, NoPlace, NotActive, Held, NoSlot, LogFull, NoTime, NotYet, NoPage, NotLogged, Unchanged, ShortBuffer, NoNumber, Unfit, NoRecord}
@@ -74,5 +73,5 @@ refuses r s m c = leaves (Refused r) s m c
 
 -- 01: "In this order, those that fit the call": each question with its refusal, and the first "no"
 abbrev pub ask : List (Bool × Refusal) → Option Refusal
-ask [] = none
-ask (q ∷ qs) = cond q.0 (ask qs) (some q.1)
+ask [] = None
+ask (q ∷ qs) = cond q.0 (ask qs) (Some q.1)

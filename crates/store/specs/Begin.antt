@@ -1,12 +1,9 @@
 -- Begin.
-use Rattle.std.specs.Prelude.{ℕ, ◌+◌, ◌-◌, ◌%◌, ◌^◌, Bool, List, [], ◌∷◌, length, set, ltb}
-use Rattle.std.proofs.Math.Option.{Option, none, some}
+use Rattle.std.specs.Prelude.{ℕ, ◌+◌, ◌-◌, ◌%◌, ◌^◌, Bool, List, [], ◌∷◌, length, set, ltb, Option, None, Some}
 use Rattle.store.specs.declared.Life.TheVariants.{Active}
 use Rattle.store.specs.declared.Refusal.{Refusal}
 use Rattle.store.specs.declared.Refusal.TheVariants.{Unfit, NoNumber, NoPlace}
 use Rattle.store.specs.declared.Answer.TheVariants.{Begun}
-use Rattle.store.specs.declared.Found.{Found}
-use Rattle.store.specs.declared.Found.TheVariants.{At, Nothing}
 use Rattle.store.specs.declared.State.{State}
 use Rattle.store.specs.Answer.{Outcome, leaves, refuses, ask}
 use Rattle.store.specs.Places.{is_at, find_free, ring_place}
@@ -38,14 +35,14 @@ begun s i clock = record {
 }
 
 -- 01: "takes the first free place": the outcome once the place is known
-abbrev pub begin_at : Found → State → List ℕ → List ℕ → ℕ → Outcome
-begin_at Nothing s m c clock = refuses NoPlace s m c
-begin_at (At k) s m c clock = leaves (Begun s.next) (begun s (ring_place s.ring k) clock) m c
+abbrev pub begin_at : Option ℕ → State → List ℕ → List ℕ → ℕ → Outcome
+begin_at None s m c clock = refuses NoPlace s m c
+begin_at (Some k) s m c clock = leaves (Begun s.next) (begun s (ring_place s.ring k) clock) m c
 
 -- 01: "on "no", this number with zeros": begin refused, or done at the place found
 unfoldable pub begin_if : Option Refusal → State → List ℕ → List ℕ → ℕ → Outcome
-begin_if (some r) s m c clock = refuses r s m c
-begin_if none s m c clock = begin_at (find_free s.places s.ring) s m c clock
+begin_if (Some r) s m c clock = refuses r s m c
+begin_if None s m c clock = begin_at (find_free s.places s.ring) s m c clock
 
 -- 01: "In this order, those that fit the call": begin's outcome, its first "no" or its step
 unfoldable pub begin_of : State → List ℕ → List ℕ → ℕ → Outcome

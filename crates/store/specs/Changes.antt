@@ -1,6 +1,6 @@
 -- List of changes.
-use Rattle.std.specs.Prelude.{ℕ, zero, suc, ◌*◌, Bool, true, cond, not, ◌&&◌, List, [], ◌∷◌, ◌++◌, length, eqb, leb, ltb}
-use Rattle.std.proofs.Math.Option.{Option, none, some}
+use Rattle.layout.specs.declared.CommitTime.{CommitTime}
+use Rattle.std.specs.Prelude.{ℕ, zero, suc, ◌*◌, Bool, true, cond, not, ◌&&◌, List, [], ◌∷◌, ◌++◌, length, eqb, leb, ltb, Option, None, Some}
 use Rattle.fields.specs.Field.{enc}
 use Rattle.fields.specs.Part.{splice}
 use Rattle.fields.specs.Equal.{eq_list}
@@ -10,10 +10,6 @@ use Rattle.layout.specs.Slot.{Cell, key_form}
 use Rattle.store.specs.declared.Refusal.{Refusal}
 use Rattle.store.specs.declared.Refusal.TheVariants.{Unfit, NoRecord, NotYet, ShortBuffer}
 use Rattle.store.specs.declared.Answer.TheVariants.{Refused, Listed}
-use Rattle.store.specs.declared.Found.{Found}
-use Rattle.store.specs.declared.Timing.{Timing}
-use Rattle.store.specs.declared.Best.{Best}
-use Rattle.store.specs.declared.Best.TheVariants.{Version, Neither}
 use Rattle.store.specs.declared.State.{State}
 use Rattle.store.specs.Answer.{Outcome, ask}
 use Rattle.store.specs.Places.{time_under}
@@ -35,25 +31,25 @@ unfoldable pub differs : Cell → Cell → Bool
 differs a b = not (eqb a.kind b.kind && eq_list a.value b.value)
 
 -- 01: "The first of all counts as different": slot n against the version before, if there is one
-abbrev pub differs_from : List ℕ → ℕ → Best → Bool
-differs_from c n Neither = true
-differs_from c n (Version r u) = differs (cell_at c n) (cell_at c r)
+abbrev pub differs_from : List ℕ → ℕ → Option (ℕ × CommitTime) → Bool
+differs_from c n None = true
+differs_from c n (Some (r, u)) = differs (cell_at c n) (cell_at c r)
 
 -- 01: "its last version under each commit time .. listed": the line of slot n under its time t
 abbrev pub line_of : List ℕ → ℕ → ℕ → List Line
 line_of c n t = record { time = t; kind = (cell_at c n).kind; value = (cell_at c n).value } ∷ []
 
-module _ (c : List ℕ) (pair : ℕ → Timing) (head : Found) where
+module _ (c : List ℕ) (pair : ℕ → Option CommitTime) (head : Option ℕ) where
   -- 01: "the one before, in range or not": the last version under the greatest commit time below t
-  unfoldable pub before : ℕ → Best
-  before zero = Neither
+  unfoldable pub before : ℕ → Option (ℕ × CommitTime)
+  before zero = None
   before (suc t) = best_of head c pair t
 
   -- 01: "its last version under each commit time, in time order, listed .. if its time is in range and its kind or
   -- value differs from the one before, in range or not": the last version found, behind the lines below its time
-  abbrev pub lines_at : (ℕ → List Line) → ℕ → Best → List Line
-  lines_at rest t1 Neither = []
-  lines_at rest t1 (Version n u) =
+  abbrev pub lines_at : (ℕ → List Line) → ℕ → Option (ℕ × CommitTime) → List Line
+  lines_at rest t1 None = []
+  lines_at rest t1 (Some (n, u)) =
       cond (ltb u.0 t1) [] (rest u.0 ++ cond (differs_from c n (before u.0)) (line_of c n u.0) [])
 
   -- 01: "in time order .. if its time is in range": the lines from t1 on with times below t; k bounds the steps
@@ -78,9 +74,9 @@ changes_asks s m c key t1 t2 room =
 
 -- 01: "The answer is the number of lines", "bytes after the list stay unchanged"
 unfoldable pub changes_if : Option Refusal → State → List ℕ → List ℕ → List ℕ → List Line → Outcome
-changes_if (some r) s m c b ls =
+changes_if (Some r) s m c b ls =
     record { answer = Refused r; value = zeros 16; state = s; medium = m; cache = c; buffer = b }
-changes_if none s m c b ls =
+changes_if None s m c b ls =
     record { answer = Listed (length ls); value = zeros 16; state = s; medium = m; cache = c; buffer = splice b 0 (flat line_bytes ls) }
 
 -- 01: "In this order, those that fit the call": the outcome of a list of changes, its first "no" or its lines

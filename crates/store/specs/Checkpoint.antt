@@ -1,6 +1,5 @@
 -- Checkpoint: one entry, called three times.
-use Rattle.std.specs.Prelude.{ℕ, zero, suc, ◌+◌, ◌*◌, min, Bool, cond, List, [], ◌∷◌, length, take, eqb, leb}
-use Rattle.std.proofs.Math.Option.{Option, none, some}
+use Rattle.std.specs.Prelude.{ℕ, zero, suc, ◌+◌, ◌*◌, min, Bool, cond, List, [], ◌∷◌, length, take, eqb, leb, Option, None, Some}
 use Rattle.fields.specs.Block.{put}
 use Rattle.fields.specs.Cells.{flat}
 use Rattle.layout.specs.Table.{pair_bytes}
@@ -65,8 +64,8 @@ checkpoint_step (SecondStored o t) s m c =
 
 -- 01: "on "no", this number with zeros": a checkpoint call refused, or the next of its three stores
 unfoldable pub checkpoint_if : Option Refusal → State → List ℕ → List ℕ → Outcome
-checkpoint_if (some r) s m c = refuses r s m c
-checkpoint_if none s m c = checkpoint_step s.phase s m c
+checkpoint_if (Some r) s m c = refuses r s m c
+checkpoint_if None s m c = checkpoint_step s.phase s m c
 
 -- 01: "In this order, those that fit the call": a checkpoint call's outcome, its first "no" or its store
 unfoldable pub checkpoint_of : State → List ℕ → List ℕ → Outcome

@@ -1,14 +1,11 @@
 -- Commit.
-use Rattle.std.specs.Prelude.{ℕ, ◌+◌, ◌-◌, ◌^◌, max, Bool, true, cond, ◌||◌, List, [], ◌∷◌, length, set, eqb, ltb}
-use Rattle.std.proofs.Math.Option.{Option, none, some}
+use Rattle.std.specs.Prelude.{ℕ, ◌+◌, ◌-◌, ◌^◌, max, Bool, true, cond, ◌||◌, List, [], ◌∷◌, length, set, eqb, ltb, Option, None, Some}
 use Rattle.layout.specs.Journal.{commit}
 use Rattle.layout.specs.declared.CommitTime.{CommitTime}
 use Rattle.store.specs.declared.Life.TheVariants.{Committed as CommittedLife}
 use Rattle.store.specs.declared.Refusal.{Refusal}
 use Rattle.store.specs.declared.Refusal.TheVariants.{Unfit, NotActive, NoTime, LogFull}
 use Rattle.store.specs.declared.Answer.TheVariants.{Done, Committed}
-use Rattle.store.specs.declared.Found.{Found}
-use Rattle.store.specs.declared.Found.TheVariants.{At, Nothing}
 use Rattle.store.specs.declared.State.{State}
 use Rattle.store.specs.Answer.{Outcome, leaves, refuses, ask}
 use Rattle.store.specs.Places.{is_at, find_active, place_at, free_place, clock_of}
@@ -16,9 +13,9 @@ use Rattle.store.specs.State.{fits, with_place}
 use Rattle.store.specs.Tail.{may_log, logged, Logged, tail_end}
 
 -- 01: "A transaction without versions": an active one's versions all wait, so it has none just if its count is 0
-abbrev pub no_versions : Found → State → Bool
-no_versions (At i) s = eqb (place_at s.places i).waiting 0
-no_versions Nothing s = true
+abbrev pub no_versions : Option ℕ → State → Bool
+no_versions (Some i) s = eqb (place_at s.places i).waiting 0
+no_versions None s = true
 
 -- 01: "state and buffers fit .. ? 16", "number active? 5"; with versions "last time below 2^64 - 1? 9", "may the log
 -- take it? 8" (a commit record takes 19 bytes)
@@ -62,16 +59,16 @@ commit_step s m c i n t =
     leaves (Committed t) (committed s i n t g) g.medium c
 
 -- 01: "A transaction without versions ends with answer 0, no record, no time"
-abbrev pub commit_at : Found → State → List ℕ → List ℕ → ℕ → ℕ → Outcome
-commit_at Nothing s m c n clock = refuses NotActive s m c
-commit_at (At i) s m c n clock =
+abbrev pub commit_at : Option ℕ → State → List ℕ → List ℕ → ℕ → ℕ → Outcome
+commit_at None s m c n clock = refuses NotActive s m c
+commit_at (Some i) s m c n clock =
     cond (eqb (place_at s.places i).waiting 0) (leaves Done (with_place s i free_place) m c)
     (commit_step s m c i n (commit_time s i clock))
 
 -- 01: "on "no", this number with zeros": commit refused, or done at the number's place
 unfoldable pub commit_if : Option Refusal → State → List ℕ → List ℕ → ℕ → ℕ → Outcome
-commit_if (some r) s m c n clock = refuses r s m c
-commit_if none s m c n clock = commit_at (find_active s.places n) s m c n clock
+commit_if (Some r) s m c n clock = refuses r s m c
+commit_if None s m c n clock = commit_at (find_active s.places n) s m c n clock
 
 -- 01: "In this order, those that fit the call": commit's outcome, its first "no" or its step
 unfoldable pub commit_of : State → List ℕ → List ℕ → ℕ → ℕ → Outcome

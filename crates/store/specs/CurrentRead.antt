@@ -1,14 +1,11 @@
 -- Current read.
-use Rattle.std.specs.Prelude.{ℕ, Bool, cond, not, List, [], ◌∷◌, length, eqb}
-use Rattle.std.proofs.Math.Option.{Option, none, some}
+use Rattle.std.specs.Prelude.{ℕ, Bool, cond, not, List, [], ◌∷◌, length, eqb, Option, None, Some}
 use Rattle.fields.specs.Block.{zeros}
 use Rattle.layout.specs.Slot.{Cell, key_form}
 use Rattle.store.specs.declared.Refusal.{Refusal}
 use Rattle.store.specs.declared.Refusal.TheVariants.{Unfit, NoRecord, NotActive, Held}
 use Rattle.store.specs.declared.Answer.{Answer}
 use Rattle.store.specs.declared.Answer.TheVariants.{Missing, Erased, Present}
-use Rattle.store.specs.declared.Found.{Found}
-use Rattle.store.specs.declared.Found.TheVariants.{At, Nothing}
 use Rattle.store.specs.declared.State.{State}
 use Rattle.store.specs.Answer.{Outcome, refuses, ask}
 use Rattle.store.specs.Places.{is_at, find_active, time_under}
@@ -34,14 +31,14 @@ unfoldable pub read_cell : Cell → State → List ℕ → List ℕ → Outcome
 read_cell v s m c = cond (eqb v.kind 1) (reads Erased (zeros 16) s m c) (reads Present v.value s m c)
 
 -- 01: "none or erased are results": what the version found says, or missing
-abbrev pub current_at : Found → State → List ℕ → List ℕ → Outcome
-current_at Nothing s m c = reads Missing (zeros 16) s m c
-current_at (At i) s m c = read_cell (cell_at c i) s m c
+abbrev pub current_at : Option ℕ → State → List ℕ → List ℕ → Outcome
+current_at None s m c = reads Missing (zeros 16) s m c
+current_at (Some i) s m c = read_cell (cell_at c i) s m c
 
 -- 01: "on "no", this number with zeros": refused, or the search from the record's newest version
 unfoldable pub current_if : Option Refusal → State → List ℕ → List ℕ → ℕ → ℕ → Outcome
-current_if (some r) s m c n key = refuses r s m c
-current_if none s m c n key = current_at (visible_of (newest c key s.slots) c (time_under s.places) n) s m c
+current_if (Some r) s m c n key = refuses r s m c
+current_if None s m c n key = current_at (visible_of (newest c key s.slots) c (time_under s.places) n) s m c
 
 -- 01: "In this order, those that fit the call": a current read's outcome, its first "no" or its step
 unfoldable pub current_of : State → List ℕ → List ℕ → ℕ → ℕ → Outcome

@@ -1,6 +1,5 @@
 -- Format.
-use Rattle.std.specs.Prelude.{ℕ, ◌+◌, ◌*◌, Bool, ◌&&◌, List, [], ◌∷◌, ◌++◌, length, eqb}
-use Rattle.std.proofs.Math.Option.{Option, none, some}
+use Rattle.std.specs.Prelude.{ℕ, ◌+◌, ◌*◌, Bool, ◌&&◌, List, [], ◌∷◌, ◌++◌, length, eqb, Option, None, Some}
 use Rattle.fields.specs.Block.{zeros, medium_length}
 use Rattle.layout.specs.Master.{master_bytes}
 use Rattle.store.specs.declared.Refusal.{Refusal}
@@ -27,8 +26,8 @@ fresh_medium l d =
 
 -- 01: "on "no", this number with zeros, all buffers unchanged": refused, or the fresh medium
 unfoldable pub format_if : Option Refusal → List ℕ → ℕ → ℕ → Formatted
-format_if (some r) m l d = record { answer = Refused r; medium = m }
-format_if none m l d = record { answer = Done; medium = fresh_medium l d }
+format_if (Some r) m l d = record { answer = Refused r; medium = m }
+format_if None m l d = record { answer = Done; medium = fresh_medium l d }
 
 -- 01: "In this order, those that fit the call": formatting's outcome, its first "no" or the fresh medium
 unfoldable pub format_of : List ℕ → ℕ → ℕ → Formatted

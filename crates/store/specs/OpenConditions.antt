@@ -1,7 +1,7 @@
 -- Opening: 01's "well formed?", ten conditions from semicolon to semicolon. Each is a list of items in the order master,
 -- table, log by sequence, pages by slot: whether the item keeps it, and the item's block.
-use Rattle.std.specs.Prelude.{ℕ, zero, suc, ◌+◌, ◌-◌, ◌*◌, ◌/◌, ◌^◌, Bool, true, false, cond, not, ◌&&◌, ◌||◌, List, [], ◌∷◌, ◌++◌, length, eqb, leb, ltb}
-use Rattle.std.proofs.Math.Option.{Option, none, some}
+use Rattle.layout.specs.declared.CommitTime.{CommitTime}
+use Rattle.std.specs.Prelude.{ℕ, zero, suc, ◌+◌, ◌-◌, ◌*◌, ◌/◌, ◌^◌, Bool, true, false, cond, not, ◌&&◌, ◌||◌, List, [], ◌∷◌, ◌++◌, length, eqb, leb, ltb, Option, None, Some}
 use Rattle.fields.specs.Block.{blk, log_block_at, page_block_at}
 use Rattle.layout.specs.Page.{page_form, page_end, page_used}
 use Rattle.layout.specs.Journal.{Record, version, commit, used_form, record_form, parsed}
@@ -11,10 +11,6 @@ use Rattle.layout.specs.declared.master.Found.{Found as MasterFound}
 use Rattle.layout.specs.declared.master.Found.TheVariants.{Whole, Broken}
 use Rattle.layout.specs.declared.slot.Slot.{Slot}
 use Rattle.layout.specs.declared.slot.Slot.TheVariants.{Empty, Waiting, Stamped}
-use Rattle.store.specs.declared.Found.{Found}
-use Rattle.store.specs.declared.Found.TheVariants.{At, Nothing}
-use Rattle.store.specs.declared.Timing.{Timing}
-use Rattle.store.specs.declared.Timing.TheVariants.{Timed, Untimed}
 use Rattle.store.specs.Places.{first, is_at}
 use Rattle.store.specs.Write.{or_none}
 use Rattle.store.specs.Chain.{cell_at, is_version, version_of, version_time, newest}
@@ -38,8 +34,8 @@ all_hold (x ∷ xs) = holds x && all_hold xs
 
 -- 01: "well formed? 3": the block of the first item that breaks the condition
 unfoldable pub broken : Checks → Option ℕ
-broken [] = none
-broken (x ∷ xs) = cond x.0 (broken xs) (some x.1)
+broken [] = None
+broken (x ∷ xs) = cond x.0 (broken xs) (Some x.1)
 
 -- 01: "well formed? 3": a check for each of the k numbers from i on
 unfoldable pub each : (ℕ → Bool × ℕ) → ℕ → ℕ → Checks
@@ -113,29 +109,29 @@ slot_in_bounds (Waiting n) next last = ltb n.0 next
 slot_in_bounds (Stamped t) next last = leb t.0 last
 
 -- 01: "a record's times never falling": the time of a version of the record, or what its lower ones have
-abbrev pub time_or : Bool → Timing → Timing → Timing
-time_or true (Timed t) rest = Timed t
-time_or true Untimed rest = rest
+abbrev pub time_or : Bool → Option CommitTime → Option CommitTime → Option CommitTime
+time_or true (Some t) rest = Some t
+time_or true None rest = rest
 time_or false t rest = rest
 
 -- 01: "a record's times never falling": the first time is not above the second, or one of them is not there
-abbrev pub not_above : Timing → Timing → Bool
-not_above (Timed a) (Timed b) = leb a.0 b.0
-not_above (Timed a) Untimed = true
-not_above Untimed (Timed b) = true
-not_above Untimed Untimed = true
+abbrev pub not_above : Option CommitTime → Option CommitTime → Bool
+not_above (Some a) (Some b) = leb a.0 b.0
+not_above (Some a) None = true
+not_above None (Some b) = true
+not_above None None = true
 
 -- 01: "no number .. with two times": t is the time in the table place found, or none was found
-abbrev pub same_time : Found → List ℕ → ℕ → Bool
-same_time (At i) m t = eqb (table_pair m i).time.0 t
-same_time Nothing m t = true
+abbrev pub same_time : Option ℕ → List ℕ → ℕ → Bool
+same_time (Some i) m t = eqb (table_pair m i).time.0 t
+same_time None m t = true
 
 -- 01: "in two commit records or with two times": no commit record under the number before this one, and the table's
 -- time for it where it has one
 abbrev pub once_in : Record → List ℕ → Option Commitment → Bool
 once_in (version h v) m before = true
-once_in (commit p) m none = same_time (table_find m p.number.0) m p.time.0
-once_in (commit p) m (some x) = false
+once_in (commit p) m None = same_time (table_find m p.number.0) m p.time.0
+once_in (commit p) m (Some x) = false
 
 -- 01: "in two commit records or with two times": a check for each log record; `seen` are those before it
 unfoldable pub once_checks : ℕ → List ℕ → List Placed → List Placed → Checks
@@ -206,8 +202,8 @@ module _ (m : List ℕ) (l d : ℕ) where
     earlier_true n = eqb (cell_at c n).earlier (or_none (newest c (cell_at c n).key n))
 
     -- 01: "a record's times never falling": the time of its newest version below n that has one
-    unfoldable pub time_below : ℕ → ℕ → Timing
-    time_below key zero = Untimed
+    unfoldable pub time_below : ℕ → ℕ → Option CommitTime
+    time_below key zero = None
     time_below key (suc n) =
         time_or (version_of c key n) (version_time (pair_time m (read_log m l)) (cell_at c n).state) (time_below key n)
 

@@ -1,6 +1,5 @@
 -- Opening: the log that is read, and what is known from it and from the master.
-use Rattle.std.specs.Prelude.{ℕ, zero, suc, ◌+◌, max, cond, List, [], ◌∷◌, ◌++◌, eqb}
-use Rattle.std.proofs.Math.Option.{Option, none, some}
+use Rattle.std.specs.Prelude.{ℕ, zero, suc, ◌+◌, max, cond, List, [], ◌∷◌, ◌++◌, eqb, Option, None, Some}
 use Rattle.fields.specs.Field.{dec}
 use Rattle.fields.specs.Part.{part}
 use Rattle.fields.specs.Block.{blk, log_block_at, end_place}
@@ -54,17 +53,17 @@ pub record Commitment : Type 0 where
 
 -- 01: "Pairs come from table and log": what a record that ends at e gives, if it is a commit under n
 abbrev pub commit_in : Record → ℕ → ℕ → Option Commitment
-commit_in (version h v) e n = none
-commit_in (commit p) e n = cond (eqb p.number.0 n) (some (record { time = p.time.0; end = e })) none
+commit_in (version h v) e n = None
+commit_in (commit p) e n = cond (eqb p.number.0 n) (Some (record { time = p.time.0; end = e })) None
 
 -- 01: "Pairs come from table and log": the first, or the second where there is no first
 abbrev pub or_else : {A : Type 0} → Option A → Option A → Option A
-or_else (some a) b = some a
-or_else none b = b
+or_else (Some a) b = Some a
+or_else None b = b
 
 -- 01: "Pairs come from table and log": the first commit record under a number
 unfoldable pub commit_under : List Placed → ℕ → Option Commitment
-commit_under [] n = none
+commit_under [] n = None
 commit_under (x ∷ xs) n = or_else (commit_in x.rec x.end n) (commit_under xs n)
 
 module _ (m : List ℕ) (l : ℕ) where

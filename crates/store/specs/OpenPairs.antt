@@ -1,40 +1,36 @@
 -- Opening: the pairs of table and log, and the live transactions that they give.
-use Rattle.std.specs.Prelude.{ℕ, zero, suc, ◌+◌, Bool, true, false, cond, not, ◌&&◌, List, [], ◌∷◌, set, eqb, ltb}
-use Rattle.std.proofs.Math.Option.{Option, none, some}
+use Rattle.layout.specs.declared.CommitTime.{CommitTime}
+use Rattle.std.specs.Prelude.{ℕ, zero, suc, ◌+◌, Bool, true, false, cond, not, ◌&&◌, List, [], ◌∷◌, set, eqb, ltb, Option, None, Some}
 use Rattle.layout.specs.Table.{table_pair}
 use Rattle.layout.specs.declared.slot.Slot.{Slot}
 use Rattle.layout.specs.declared.slot.Slot.TheVariants.{Empty, Waiting, Stamped}
 use Rattle.store.specs.declared.Life.TheVariants.{Committed}
 use Rattle.store.specs.declared.Place.{Place}
-use Rattle.store.specs.declared.Found.{Found}
-use Rattle.store.specs.declared.Found.TheVariants.{At, Nothing}
-use Rattle.store.specs.declared.Timing.{Timing}
-use Rattle.store.specs.declared.Timing.TheVariants.{Timed, Untimed}
 use Rattle.store.specs.Places.{first, is_at, place_at, free_place, is_free}
 use Rattle.store.specs.Chain.{cell_at, is_timed}
 use Rattle.store.specs.OpenLog.{Placed, Commitment, commit_under}
 
 -- the table place of a number; 01: "Number 0 is an empty place"
-unfoldable pub table_find : List ℕ → ℕ → Found
-table_find m n = cond (eqb n 0) Nothing (first (λ i. eqb (table_pair m i).number.0 n) 64 0)
+unfoldable pub table_find : List ℕ → ℕ → Option ℕ
+table_find m n = cond (eqb n 0) None (first (λ i. eqb (table_pair m i).number.0 n) 64 0)
 
 -- 01: "Pairs come from table and log": the time of a commit record, if there is one
-abbrev pub time_of_commitment : Option Commitment → Timing
-time_of_commitment (some x) = Timed (record { 0 = x.time })
-time_of_commitment none = Untimed
+abbrev pub time_of_commitment : Option Commitment → Option CommitTime
+time_of_commitment (Some x) = Some (record { 0 = x.time })
+time_of_commitment None = None
 
 -- 01: "The end place of a record": that of a commit record, 0 if the log has none
 abbrev pub end_of_commitment : Option Commitment → ℕ
-end_of_commitment (some x) = x.end
-end_of_commitment none = 0
+end_of_commitment (Some x) = x.end
+end_of_commitment None = 0
 
 -- 01: "Pairs come from table and log": the time in the table place found, or another if none was found
-abbrev pub table_or : Found → List ℕ → Timing → Timing
-table_or (At i) m other = Timed (table_pair m i).time
-table_or Nothing m other = other
+abbrev pub table_or : Option ℕ → List ℕ → Option CommitTime → Option CommitTime
+table_or (Some i) m other = Some (table_pair m i).time
+table_or None m other = other
 
 -- 01: "Pairs come from table and log": the time of a number
-unfoldable pub pair_time : List ℕ → List Placed → ℕ → Timing
+unfoldable pub pair_time : List ℕ → List Placed → ℕ → Option CommitTime
 pair_time m log n = table_or (table_find m n) m (time_of_commitment (commit_under log n))
 
 -- 01: "waiting under a number": does the slot wait under n?
@@ -85,14 +81,14 @@ table_places m log c slots i (suc k) =
     ∷ table_places m log c slots (i + 1) k
 
 -- 01: "take free ones": p put in the place found, if one was found
-abbrev pub take_at : Found → List Place → Place → List Place
-take_at (At i) ps p = set ps i p
-take_at Nothing ps p = ps
+abbrev pub take_at : Option ℕ → List Place → Place → List Place
+take_at (Some i) ps p = set ps i p
+take_at None ps p = ps
 
 -- 01: "live log pairs": the time of a commit record, 0 if there is none
 abbrev pub time_or_zero : Option Commitment → ℕ
-time_or_zero (some x) = x.time
-time_or_zero none = 0
+time_or_zero (Some x) = x.time
+time_or_zero None = 0
 
 -- 01: "live log pairs without one take free ones by rising number"
 unfoldable pub take_free : List ℕ → List Placed → List ℕ → ℕ → List Place → List ℕ → List Place

@@ -1,22 +1,19 @@
 -- The places of live transactions.
-use Rattle.std.specs.Prelude.{ℕ, zero, suc, ◌+◌, ◌-◌, ◌%◌, ◌^◌, min, Bool, true, false, cond, List, get_or, eqb, leb}
+use Rattle.layout.specs.declared.CommitTime.{CommitTime}
+use Rattle.std.specs.Prelude.{ℕ, zero, suc, ◌+◌, ◌-◌, ◌%◌, ◌^◌, min, Bool, true, false, cond, List, get_or, eqb, leb, Option, Some, None}
 use Rattle.store.specs.declared.Life.{Life}
 use Rattle.store.specs.declared.Life.TheVariants.{Free, Active, Committed}
 use Rattle.store.specs.declared.Place.{Place}
-use Rattle.store.specs.declared.Found.{Found}
-use Rattle.store.specs.declared.Found.TheVariants.{At, Nothing}
-use Rattle.store.specs.declared.Timing.{Timing}
-use Rattle.store.specs.declared.Timing.TheVariants.{Timed, Untimed}
 
 -- 01: "the first free place": the first of the k numbers from i on that passes a test
-unfoldable pub first : (ℕ → Bool) → ℕ → ℕ → Found
-first p zero i = Nothing
-first p (suc k) i = cond (p i) (At i) (first p k (i + 1))
+unfoldable pub first : (ℕ → Bool) → ℕ → ℕ → Option ℕ
+first p zero i = None
+first p (suc k) i = cond (p i) (Some i) (first p k (i + 1))
 
 -- 01: "Free place? 4", "number active? 5": was one found?
-abbrev pub is_at : Found → Bool
-is_at (At i) = true
-is_at Nothing = false
+abbrev pub is_at : Option ℕ → Bool
+is_at (Some i) = true
+is_at None = false
 
 -- 01: "places 0 to 63: active, or committed with waiting versions": a place that is neither
 abbrev pub free_place : Place
@@ -45,11 +42,11 @@ committed_as (Active m k) n = false
 committed_as (Committed m t e) n = eqb m.0 n
 
 -- 01: "number active? 5": the first place that is active under a number
-unfoldable pub find_active : List Place → ℕ → Found
+unfoldable pub find_active : List Place → ℕ → Option ℕ
 find_active ps n = first (λ i. active_as (place_at ps i).life n) 64 0
 
 -- 01: "committed with waiting versions": the first place that is committed under a number
-unfoldable pub find_committed : List Place → ℕ → Found
+unfoldable pub find_committed : List Place → ℕ → Option ℕ
 find_committed ps n = first (λ i. committed_as (place_at ps i).life n) 64 0
 
 -- 01: "round the ring": the place that is k from `ring`
@@ -57,7 +54,7 @@ unfoldable pub ring_place : ℕ → ℕ → ℕ
 ring_place ring k = (ring + k) % 64
 
 -- 01: "the first free place after the last one given, round the ring": how far from `ring` it is
-unfoldable pub find_free : List Place → ℕ → Found
+unfoldable pub find_free : List Place → ℕ → Option ℕ
 find_free ps ring = first (λ k. is_free (place_at ps (ring_place ring k)).life) 64 0
 
 -- 01: "the clock at begin": that of an active number, 0 where there is none
@@ -67,28 +64,28 @@ clock_of (Active n k) = k
 clock_of (Committed n t e) = 0
 
 -- 01: "its pair's time": the commit time of a committed place, none for another
-abbrev pub time_of : Life → Timing
-time_of Free = Untimed
-time_of (Active n k) = Untimed
-time_of (Committed n t e) = Timed t
+abbrev pub time_of : Life → Option CommitTime
+time_of Free = None
+time_of (Active n k) = None
+time_of (Committed n t e) = Some t
 
 -- 01: "whose commit record is **stored**": the commit time if the record ends at or before an end place
-abbrev pub time_up_to : Life → ℕ → Timing
-time_up_to Free limit = Untimed
-time_up_to (Active n k) limit = Untimed
-time_up_to (Committed n t e) limit = cond (leb e.0 limit) (Timed t) Untimed
+abbrev pub time_up_to : Life → ℕ → Option CommitTime
+time_up_to Free limit = None
+time_up_to (Active n k) limit = None
+time_up_to (Committed n t e) limit = cond (leb e.0 limit) (Some t) None
 
 -- 01: "its pair's time": the time by the place found, none if none was found
-abbrev pub at_found : Found → (ℕ → Timing) → Timing
-at_found (At i) f = f i
-at_found Nothing f = Untimed
+abbrev pub at_found : Option ℕ → (ℕ → Option CommitTime) → Option CommitTime
+at_found (Some i) f = f i
+at_found None f = None
 
 -- 01: "A version's time is its stamp or its pair's time": the commit time of a number by its place
-unfoldable pub time_under : List Place → ℕ → Timing
+unfoldable pub time_under : List Place → ℕ → Option CommitTime
 time_under ps n = at_found (find_committed ps n) (λ i. time_of (place_at ps i).life)
 
 -- 01: "whose commit record is **stored**": the commit time of a number by its place, if that record is stored
-unfoldable pub stored_under : List Place → ℕ → ℕ → Timing
+unfoldable pub stored_under : List Place → ℕ → ℕ → Option CommitTime
 stored_under ps limit n = at_found (find_committed ps n) (λ i. time_up_to (place_at ps i).life limit)
 
 -- 01: "A live transaction's waiting count is its versions not stamped on the medium": one more, which a foreign state

@@ -1,8 +1,6 @@
 -- Out of a full log: which call comes next.
-use Rattle.std.specs.Prelude.{ℕ, Bool, true, false, not, cond, ◌&&◌, ◌||◌, List, [], ◌∷◌, length, eqb}
+use Rattle.std.specs.Prelude.{ℕ, Bool, true, false, not, cond, ◌&&◌, ◌||◌, List, [], ◌∷◌, length, eqb, Option, Some, None}
 use Rattle.layout.specs.Master.{oldest_on}
-use Rattle.store.specs.declared.Found.{Found}
-use Rattle.store.specs.declared.Found.TheVariants.{At, Nothing}
 use Rattle.store.specs.declared.Phase.{Phase}
 use Rattle.store.specs.declared.Phase.TheVariants.{Idle, FirstStored, SecondStored}
 use Rattle.store.specs.declared.Refusal.{Refusal}
@@ -21,7 +19,7 @@ all_yes [] = true
 all_yes (q ∷ qs) = q.0 && all_yes qs
 
 -- 02, #114: "each page that differs": the first page whose store is not refused
-unfoldable pub page_left : State → List ℕ → List ℕ → Found
+unfoldable pub page_left : State → List ℕ → List ℕ → Option ℕ
 page_left s m c = first (λ p. all_yes (store_page_asks s m c p)) s.pages 0
 
 -- 02, #114: "finish a checkpoint under way": is one under way?
@@ -35,9 +33,9 @@ unfoldable pub checkpoint_left : State → List ℕ → Bool
 checkpoint_left s m = under_way s.phase || not (eqb (new_oldest s) (oldest_on m))
 
 -- 02, #114: "each page that differs, finish a checkpoint under way, and make one more": the next call, by the page found
-abbrev pub after_log : Found → Bool → Relief
-after_log (At p) more = StorePage p
-after_log Nothing more = cond more Checkpoint NothingLeft
+abbrev pub after_log : Option ℕ → Bool → Relief
+after_log (Some p) more = StorePage p
+after_log None more = cond more Checkpoint NothingLeft
 
 -- 02, #114: "store the log if it differs, each page that differs, finish a checkpoint under way, and make one more": the
 -- next of these calls. None is left where no call is accepted, since state and buffers do not fit.

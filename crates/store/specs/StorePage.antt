@@ -1,6 +1,6 @@
 -- Store page.
-use Rattle.std.specs.Prelude.{ℕ, zero, suc, ◌+◌, Bool, not, List, [], ◌∷◌, length, set, leb, ltb}
-use Rattle.std.proofs.Math.Option.{Option, none, some}
+use Rattle.layout.specs.declared.CommitTime.{CommitTime}
+use Rattle.std.specs.Prelude.{ℕ, zero, suc, ◌+◌, Bool, not, List, [], ◌∷◌, length, set, leb, ltb, Option, None, Some}
 use Rattle.fields.specs.Equal.{eq_list}
 use Rattle.fields.specs.Block.{blk, put, page_block_at}
 use Rattle.layout.specs.Slot.{slot_state}
@@ -11,10 +11,6 @@ use Rattle.store.specs.declared.Place.{Place}
 use Rattle.store.specs.declared.Refusal.{Refusal}
 use Rattle.store.specs.declared.Refusal.TheVariants.{Unfit, NoPage, NotLogged, Unchanged}
 use Rattle.store.specs.declared.Answer.TheVariants.{Done}
-use Rattle.store.specs.declared.Found.{Found}
-use Rattle.store.specs.declared.Found.TheVariants.{At, Nothing}
-use Rattle.store.specs.declared.Timing.{Timing}
-use Rattle.store.specs.declared.Timing.TheVariants.{Timed, Untimed}
 use Rattle.store.specs.declared.State.{State}
 use Rattle.store.specs.Answer.{Outcome, leaves, refuses, ask}
 use Rattle.store.specs.Places.{place_at, find_committed, stored_under, lowered}
@@ -22,24 +18,24 @@ use Rattle.store.specs.State.{fits}
 
 -- 01: "stamps its waiting versions": the time with which a slot is stamped, if it waits; `pair` gives the time of a
 -- number whose commit record is stored
-unfoldable pub stamp_time : (ℕ → Timing) → Slot → Timing
-stamp_time pair Empty = Untimed
+unfoldable pub stamp_time : (ℕ → Option CommitTime) → Slot → Option CommitTime
+stamp_time pair Empty = None
 stamp_time pair (Waiting n) = pair n.0
-stamp_time pair (Stamped t) = Untimed
+stamp_time pair (Stamped t) = None
 
 -- 01: "Storing a page first stamps its waiting versions": slot i, if there is a time for it
-abbrev pub stamp_with : Timing → List ℕ → ℕ → List ℕ
-stamp_with (Timed t) page i = stamp_cell page i t.0
-stamp_with Untimed page i = page
+abbrev pub stamp_with : Option CommitTime → List ℕ → ℕ → List ℕ
+stamp_with (Some t) page i = stamp_cell page i t.0
+stamp_with None page i = page
 
 -- 01: "Storing a page first stamps its waiting versions whose commit record is **stored**": the k slots from slot i on
-unfoldable pub stamp_from : (ℕ → Timing) → List ℕ → ℕ → ℕ → List ℕ
+unfoldable pub stamp_from : (ℕ → Option CommitTime) → List ℕ → ℕ → ℕ → List ℕ
 stamp_from pair page i zero = page
 stamp_from pair page i (suc k) =
     stamp_from pair (stamp_with (stamp_time pair (slot_state (page_slot page i))) page i) (i + 1) k
 
 -- 01: "whose commit record is **stored**": the time of a number whose record ends at or before the stored end
-unfoldable pub stored_pair : State → ℕ → Timing
+unfoldable pub stored_pair : State → ℕ → Option CommitTime
 stored_pair s n = stored_under s.places s.end.0 n
 
 -- 01: "Storing a page first stamps its waiting versions": all 15 slots of the page
@@ -47,19 +43,19 @@ unfoldable pub stamped_page : State → List ℕ → List ℕ
 stamped_page s page = stamp_from (stored_pair s) page 0 15
 
 -- 01: "its versions not stamped on the medium": one less in the place found
-abbrev pub lower_at : Found → List Place → List Place
-lower_at (At i) ps = set ps i (lowered (place_at ps i))
-lower_at Nothing ps = ps
+abbrev pub lower_at : Option ℕ → List Place → List Place
+lower_at (Some i) ps = set ps i (lowered (place_at ps i))
+lower_at None ps = ps
 
 -- 01: "its versions not stamped on the medium": a version stamped now counts its transaction's place down
-abbrev pub settle_with : Timing → Slot → List Place → List Place → List Place
-settle_with Untimed slot old ps = ps
-settle_with (Timed t) Empty old ps = ps
-settle_with (Timed t) (Waiting n) old ps = lower_at (find_committed old n.0) ps
-settle_with (Timed t) (Stamped u) old ps = ps
+abbrev pub settle_with : Option CommitTime → Slot → List Place → List Place → List Place
+settle_with None slot old ps = ps
+settle_with (Some t) Empty old ps = ps
+settle_with (Some t) (Waiting n) old ps = lower_at (find_committed old n.0) ps
+settle_with (Some t) (Stamped u) old ps = ps
 
 -- 01: "its versions not stamped on the medium": counted down for the k slots from slot i on
-unfoldable pub settle_from : (ℕ → Timing) → List Place → List ℕ → List Place → ℕ → ℕ → List Place
+unfoldable pub settle_from : (ℕ → Option CommitTime) → List Place → List ℕ → List Place → ℕ → ℕ → List Place
 settle_from pair old page ps i zero = ps
 settle_from pair old page ps i (suc k) =
     let slot = slot_state (page_slot page i) in
@@ -98,8 +94,8 @@ page_stored s p page = record {
 
 -- 01: "on "no", this number with zeros", "Storing a page": refused, or the stamped page on the medium and in the cache
 unfoldable pub store_page_if : Option Refusal → State → List ℕ → List ℕ → ℕ → Outcome
-store_page_if (some r) s m c p = refuses r s m c
-store_page_if none s m c p =
+store_page_if (Some r) s m c p = refuses r s m c
+store_page_if None s m c p =
     let page = stamped_page s (blk c p) in
     leaves Done (page_stored s p (blk c p)) (put m (page_block_at s.blocks p) page) (put c p page)
 

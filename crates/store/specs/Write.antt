@@ -1,6 +1,5 @@
 -- Write, and what it shares with erase.
-use Rattle.std.specs.Prelude.{ℕ, ◌+◌, ◌*◌, Bool, cond, not, List, [], ◌∷◌, length, get_or, set, eqb, ltb}
-use Rattle.std.proofs.Math.Option.{Option, none, some}
+use Rattle.std.specs.Prelude.{ℕ, ◌+◌, ◌*◌, Bool, cond, not, List, [], ◌∷◌, length, get_or, set, eqb, ltb, Option, None, Some}
 use Rattle.fields.specs.Block.{page_of}
 use Rattle.layout.specs.Slot.{Cell, key_form}
 use Rattle.layout.specs.Page.{put_version}
@@ -11,8 +10,6 @@ use Rattle.layout.specs.declared.item.VersionHead.{VersionHead}
 use Rattle.store.specs.declared.Refusal.{Refusal}
 use Rattle.store.specs.declared.Refusal.TheVariants.{Unfit, NoRecord, NotActive, Held, NoSlot, LogFull}
 use Rattle.store.specs.declared.Answer.TheVariants.{Written}
-use Rattle.store.specs.declared.Found.{Found}
-use Rattle.store.specs.declared.Found.TheVariants.{At, Nothing}
 use Rattle.store.specs.declared.State.{State}
 use Rattle.store.specs.Answer.{Outcome, leaves, refuses, ask}
 use Rattle.store.specs.Places.{is_at, find_active, place_at, raised}
@@ -33,9 +30,9 @@ write_asks s m c n key =
     ∷ []
 
 -- 01: "earlier slot of that record (65535: none)"
-abbrev pub or_none : Found → ℕ
-or_none (At s) = s
-or_none Nothing = 65535
+abbrev pub or_none : Option ℕ → ℕ
+or_none (Some s) = s
+or_none None = 65535
 
 -- 01: "A write or erase takes the next slot and a version record"; 02, #104: "new versions use tag 3 only"
 unfoldable pub new_head : State → List ℕ → ℕ → ℕ → ℕ → VersionHead
@@ -81,14 +78,14 @@ write_step s m c i h value =
     (put_version c s.slots (tail_end g.tail).0 (cell_for h value))
 
 -- 01: "A write or erase takes the next slot": the outcome once the number's place is known
-abbrev pub write_at : Found → State → List ℕ → List ℕ → VersionHead → List ℕ → Outcome
-write_at Nothing s m c h value = refuses NotActive s m c
-write_at (At i) s m c h value = write_step s m c i h value
+abbrev pub write_at : Option ℕ → State → List ℕ → List ℕ → VersionHead → List ℕ → Outcome
+write_at None s m c h value = refuses NotActive s m c
+write_at (Some i) s m c h value = write_step s m c i h value
 
 -- 01: "on "no", this number with zeros": a write or erase refused, or done at the number's place
 unfoldable pub write_if : Option Refusal → State → List ℕ → List ℕ → ℕ → ℕ → ℕ → List ℕ → Outcome
-write_if (some r) s m c n key kind value = refuses r s m c
-write_if none s m c n key kind value = write_at (find_active s.places n) s m c (new_head s c n key kind) value
+write_if (Some r) s m c n key kind value = refuses r s m c
+write_if None s m c n key kind value = write_at (find_active s.places n) s m c (new_head s c n key kind) value
 
 -- 01: "In this order, those that fit the call": the outcome for a version of either kind, its first "no" or its step
 unfoldable pub add_of : State → List ℕ → List ℕ → ℕ → ℕ → ℕ → List ℕ → Outcome

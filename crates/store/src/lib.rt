@@ -99,27 +99,6 @@ pub struct Reading {
     pub value: [u8; 16],
 }
 
-// A place or a slot that was looked for.
-#[derive(Clone, Copy)]
-pub enum Found {
-    At(u64),
-    Nothing,
-}
-
-// A version's commit time, if it has one.
-#[derive(Clone, Copy)]
-pub enum Timing {
-    Timed(CommitTime),
-    Untimed,
-}
-
-// A version that a search found, with its commit time.
-#[derive(Clone, Copy)]
-pub enum Best {
-    Version(u64, CommitTime),
-    Neither,
-}
-
 // The next call out of a full log, if one is left.
 #[derive(Clone, Copy)]
 pub enum Relief {

@@ -1,5 +1,6 @@
 -- The next call out of a full log: where state and buffers fit, the pages that are left are those whose store is not refused, and
 -- each answer is a case of `relief_of`.
+use Rattle.std.specs.Prelude.{Option}
 use mathlib.Core.Path.{◌≡◌, sym, ◌∙◌}
 use mathlib.Core.Bool.{Bool, true, false, not, and-true}
 use mathlib.Core.List.{List}
@@ -11,7 +12,6 @@ use Rattle.fields.specs.Block.{blk, log_block_at, page_block_at}
 use Rattle.fields.specs.Equal.{eq_list}
 use Rattle.layout.specs.Journal.{sequence_of}
 use Rattle.layout.specs.Page.{page_end}
-use Rattle.store.specs.declared.Found.{Found}
 use Rattle.store.specs.declared.Relief.TheVariants.{StoreLog}
 use Rattle.store.specs.Places.{first}
 use Rattle.store.specs.State.{fits}
@@ -54,7 +54,7 @@ module _ (w t m c : List ℕ) (f : fits (state_of w t) (length m) (length c) ≡
   log_left e = simp (f, e)
 
   -- g is what the search for a page answered
-  pub log_same : eq_list (blk m (log_block_at (get_or w 0 0) (sequence_of t))) t ≡ true → (g : Found) → g ≡ first (left_in w m c) (get_or w 1 0) 0
+  pub log_same : eq_list (blk m (log_block_at (get_or w 0 0) (sequence_of t))) t ≡ true → (g : Option ℕ) → g ≡ first (left_in w m c) (get_or w 1 0) 0
       → relief_of (state_of w t) m c ≡ after_log g (checkpoint_left (state_of w t) m)
   unfolding relief_of state_of state_by
   log_same e g h = simp (f, e, left_is, ← h)

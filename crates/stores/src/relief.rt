@@ -6,7 +6,7 @@ ghost use Rattle.memory.specs.Memory.{state_of};
 ghost use Rattle.stores.specs.Left.{Sized, left_in};
 
 use memory::{BLOCKS, END, PAGES};
-use store::{Found, Relief};
+use store::Relief;
 
 // Is the page left to be stored: is its end place stored, and would a byte on the medium change?
 fn is_left(words: &[u64; 448], medium: &[u8], cache: &[u8], page: u64) -> bool
@@ -24,7 +24,7 @@ fn is_left(words: &[u64; 448], medium: &[u8], cache: &[u8], page: u64) -> bool
 }
 
 // The first page that is left.
-fn page_left(words: &[u64; 448], medium: &[u8], cache: &[u8]) -> Found
+fn page_left(words: &[u64; 448], medium: &[u8], cache: &[u8]) -> Option<u64>
     requires { Sized words.now (length medium.now) (length cache.now) }
     ensures { result ≡ first (left_in words.now medium.now cache.now) (get_or words.now 1 0) 0 }
 {
@@ -32,11 +32,11 @@ fn page_left(words: &[u64; 448], medium: &[u8], cache: &[u8]) -> Found
     let mut page: u64 = 0;
     while page < pages {
         if is_left(words, medium, cache, page) {
-            return Found::At(page);
+            return Some(page);
         }
         page += 1;
     }
-    Found::Nothing
+    None
 }
 
 // The next call of these: store the log, store each page, finish a checkpoint under way and make one more.
@@ -52,8 +52,8 @@ pub fn relief(words: &[u64; 448], tail: &[u8; 512], medium: &[u8], cache: &[u8])
     }
     let left = page_left(words, medium, cache);
     match left {
-        Found::At(page) => Relief::StorePage(page),
-        Found::Nothing => {
+        Some(page) => Relief::StorePage(page),
+        None => {
             if checkpoints::is_left(words, tail, medium) {
                 return Relief::Checkpoint;
             }

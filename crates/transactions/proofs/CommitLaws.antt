@@ -1,8 +1,8 @@
 -- How a commit ends: where its questions refuse, where it has no versions, and where its step is the definition's. Assumes
 -- nothing.
+use Rattle.std.specs.Prelude.{None, Some}
 use mathlib.Core.Path.{◌≡◌, ◌∙◌}
 use mathlib.Core.Bool.{true}
-use mathlib.Core.Option.{none}
 use mathlib.Core.List.{List}
 use Prim.Native.Nat.{ℕ, ◌-◌, ◌^◌, ◌<◌}
 use lib.ListN.{length}
@@ -10,7 +10,6 @@ use borrow.Author.Tests.{ltb-true, eq-eqb, ne_eqb}
 use Rattle.layout.specs.Journal.{commit}
 use Rattle.layout.specs.declared.CommitTime.{CommitTime}
 use Rattle.store.specs.declared.Answer.TheVariants.{Done, Committed}
-use Rattle.store.specs.declared.Found.TheVariants.{At}
 use Rattle.store.specs.declared.Refusal.{Refusal}
 use Rattle.store.specs.declared.State.{State}
 use Rattle.store.specs.Answer.{Outcome, leaves, refuses, ask}
@@ -38,7 +37,7 @@ pub record CommitAsked (s : State) (m c : List ℕ) : Type 0 where
   pub last : s.last.0 < 2 ^ 64 - 1
   pub log : may_log s m 19 ≡ true
 
-module _ (s : State) (m c : List ℕ) (n i : ℕ) (e : ask (commit_asks s m c n) ≡ none) (f : find_active s.places n ≡ At i) where
+module _ (s : State) (m c : List ℕ) (n i : ℕ) (e : ask (commit_asks s m c n) ≡ None) (f : find_active s.places n ≡ Some i) where
   pub commit_empty : (clock : ℕ) (t : State) → (place_at s.places i).waiting ≡ 0 → t ≡ with_place s i free_place
       → leaves Done t m c ≡ commit_of s m c n clock
   unfolding commit_of commit_if

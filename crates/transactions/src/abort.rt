@@ -4,7 +4,7 @@ ghost use Rattle.store.specs.Answer.{leaves};
 ghost use Rattle.store.specs.Abort.{abort_of};
 ghost use Rattle.memory.specs.Memory.{state_of};
 
-use store::{Answer, Found, Refusal};
+use store::{Answer, Refusal};
 
 pub fn abort(
     words: &mut [u64; 448],
@@ -20,8 +20,8 @@ pub fn abort(
     }
     let f = live::places::find_active(words, number);
     match f {
-        Found::Nothing => Answer::Refused(Refusal::NotActive),
-        Found::At(i) => {
+        None => Answer::Refused(Refusal::NotActive),
+        Some(i) => {
             live::places::free(words, i as usize);
             Answer::Done
         }

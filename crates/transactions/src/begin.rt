@@ -6,7 +6,7 @@ ghost use Rattle.memory.specs.Memory.{state_of};
 
 use layout::TxNumber;
 use memory::{NEXT, RING};
-use store::{Answer, Found, Refusal};
+use store::{Answer, Refusal};
 
 // Puts a new transaction into place i.
 fn take_place(words: &mut [u64], i: u64, clock: u64)
@@ -39,8 +39,8 @@ pub fn begin(
     let ring = words[RING];
     let f = live::places::find_free(words, ring);
     match f {
-        Found::Nothing => Answer::Refused(Refusal::NoPlace),
-        Found::At(k) => {
+        None => Answer::Refused(Refusal::NoPlace),
+        Some(k) => {
             take_place(words, (ring % 64 + k) % 64, clock);
             Answer::Begun(TxNumber(number))
         }

@@ -1,7 +1,5 @@
 // Commit.
-ghost use Rattle.std.specs.Prelude.{◌≡◌, List, ℕ, ◌+◌, ◌-◌, ◌<◌, ◌^◌, length, get_or};
-ghost use Rattle.std.proofs.Math.Option.{none};
-ghost use Rattle.store.specs.declared.Found.TheVariants.{At};
+ghost use Rattle.std.specs.Prelude.{◌≡◌, List, ℕ, ◌+◌, ◌-◌, ◌<◌, ◌^◌, length, get_or, None, Some};
 ghost use Rattle.store.specs.Answer.{leaves, ask};
 ghost use Rattle.store.specs.Places.{find_active, place_at};
 ghost use Rattle.store.specs.Tail.{tail_end};
@@ -13,7 +11,7 @@ use layout::item::Pair;
 use layout::{CommitTime, EndPlace, TxNumber};
 use memory::LAST;
 use questions::refuse::Verdict;
-use store::{Answer, Found, Refusal};
+use store::{Answer, Refusal};
 
 // The questions put to a commit: one without versions is asked only the first two.
 fn asks(words: &[u64; 448], tail: &[u8; 512], medium: &[u8], cache: &[u8], number: u64) -> Verdict
@@ -23,7 +21,7 @@ fn asks(words: &[u64; 448], tail: &[u8; 512], medium: &[u8], cache: &[u8], numbe
         return Verdict::No(Refusal::Unfit);
     }
     let f = live::places::find_active(words, number);
-    let Found::At(i) = f else {
+    let Some(i) = f else {
         return Verdict::No(Refusal::NotActive);
     };
     if live::places::waiting_at(words, i as usize) == 0 {
@@ -68,8 +66,8 @@ fn step(
     number: u64,
     time: CommitTime,
 ) -> Answer
-    requires number_value { ask (commit_asks (state_of words.old tail.old) medium.old cache.now number) ≡ none }
-    requires number_value_2 { find_active (places_of words.old) number ≡ At i }
+    requires number_value { ask (commit_asks (state_of words.old tail.old) medium.old cache.now number) ≡ None }
+    requires number_value_2 { find_active (places_of words.old) number ≡ Some i }
     requires fact { (place_at (places_of words.old) i).waiting ≡ 0 → ⊥ }
     ensures { leaves result (state_of words.new tail.new) medium.new cache.now ≡ commit_step (state_of words.old tail.old) medium.old cache.now i number time }
 {

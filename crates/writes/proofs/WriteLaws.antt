@@ -1,7 +1,7 @@
 -- How a write or an erase ends: where its questions refuse, and where its step is the definition's. Assumes nothing.
+use Rattle.std.specs.Prelude.{Option, None, Some}
 use mathlib.Core.Path.{◌≡◌, refl, sym, ap, ◌∙◌}
 use mathlib.Core.Bool.{true}
-use mathlib.Core.Option.{Option, none, some}
 use mathlib.Core.List.{List}
 use Prim.Native.Nat.{ℕ, ◌+◌, ◌*◌, ◌≤◌, ◌<◌}
 use native.Mathlib.Omega.{arith}
@@ -15,8 +15,6 @@ use Rattle.layout.specs.declared.EndPlace.{EndPlace}
 use Rattle.layout.specs.declared.item.VersionHead.{VersionHead}
 use Rattle.layout.specs.declared.slot.Slot.TheVariants.{Waiting}
 use Rattle.store.specs.declared.Answer.TheVariants.{Written}
-use Rattle.store.specs.declared.Found.{Found}
-use Rattle.store.specs.declared.Found.TheVariants.{At, Nothing}
 use Rattle.store.specs.declared.Refusal.{Refusal}
 use Rattle.store.specs.declared.Refusal.TheVariants.{NotActive}
 use Rattle.store.specs.declared.State.{State}
@@ -40,35 +38,35 @@ pub record WriteAsked (s : State) (m c : List ℕ) : Type 0 where
   pub slot : ltb s.slots (15 * s.pages) ≡ true
   pub log : may_log s m 34 ≡ true
 
-pub write_asked : (s : State) (m c : List ℕ) (n key : ℕ) → ask (write_asks s m c n key) ≡ none → WriteAsked s m c
+pub write_asked : (s : State) (m c : List ℕ) (n key : ℕ) → ask (write_asks s m c n key) ≡ None → WriteAsked s m c
 write_asked s m c n key e =
     let p = passed (write_asks s m c n key) e in
     record { fit = p.0; slot = p.1.1.1.1.0; log = p.1.1.1.1.1.0 }
 
 -- v is the verdict that the code came to, n the record's newest version
 
-pub write_go : (v : Passed) (o : Option Refusal) (f n : Found) (i e : ℕ) → v ≡ write_verdict o f n → v ≡ Go i e
-    → (o ≡ none) × (f ≡ At i) × (e ≡ or_none n)
-write_go v (some r) f n i e q g = let z : ◌≡◌ {A = ℕ} 0 1 = cc in absurd (omega arith)
-write_go v none (At j) n i e q g =
+pub write_go : (v : Passed) (o : Option Refusal) (f n : Option ℕ) (i e : ℕ) → v ≡ write_verdict o f n → v ≡ Go i e
+    → (o ≡ None) × (f ≡ Some i) × (e ≡ or_none n)
+write_go v (Some r) f n i e q g = let z : ◌≡◌ {A = ℕ} 0 1 = cc in absurd (omega arith)
+write_go v None (Some j) n i e q g =
     let h : j ≡ i = cc in
     let k : or_none n ≡ e = cc in
-    (refl, ap At h, sym k)
-write_go v none Nothing n i e q g = let z : ◌≡◌ {A = ℕ} 0 1 = cc in absurd (omega arith)
+    (refl, ap Some h, sym k)
+write_go v None None n i e q g = let z : ◌≡◌ {A = ℕ} 0 1 = cc in absurd (omega arith)
 
-pub write_refused : (v : Passed) (r : Refusal) (s : State) (m c : List ℕ) (w : Found) (n key kind : ℕ) (x : List ℕ)
+pub write_refused : (v : Passed) (r : Refusal) (s : State) (m c : List ℕ) (w : Option ℕ) (n key kind : ℕ) (x : List ℕ)
     → v ≡ write_verdict (ask (write_asks s m c n key)) (find_active s.places n) w → v ≡ No r → refuses r s m c ≡ add_of s m c n key kind x
 unfolding add_of write_if
 write_refused v r s m c w n key kind x e g = go (ask (write_asks s m c n key)) (find_active s.places n) refl refl e
   where
-    go : (o : Option Refusal) (f : Found) → ask (write_asks s m c n key) ≡ o → find_active s.places n ≡ f → v ≡ write_verdict o f w
+    go : (o : Option Refusal) (f : Option ℕ) → ask (write_asks s m c n key) ≡ o → find_active s.places n ≡ f → v ≡ write_verdict o f w
         → refuses r s m c ≡ add_of s m c n key kind x
-    go (some y) f a b q = let h : y ≡ r = cc in rw (a, h)
-    go none (At j) a b q = let z : ◌≡◌ {A = ℕ} 0 1 = cc in absurd (omega arith)
-    go none Nothing a b q = let h : r ≡ NotActive = cc in rw (a, b, h)
+    go (Some y) f a b q = let h : y ≡ r = cc in rw (a, h)
+    go None (Some j) a b q = let z : ◌≡◌ {A = ℕ} 0 1 = cc in absurd (omega arith)
+    go None None a b q = let h : r ≡ NotActive = cc in rw (a, b, h)
 
 pub write_passed : (s : State) (m c : List ℕ) (n key kind i : ℕ) (h : VersionHead) (v : List ℕ) (w : Outcome)
-    → ask (write_asks s m c n key) ≡ none → find_active s.places n ≡ At i → h ≡ new_head s c n key kind
+    → ask (write_asks s m c n key) ≡ None → find_active s.places n ≡ Some i → h ≡ new_head s c n key kind
     → w ≡ write_step s m c i h v → w ≡ add_of s m c n key kind v
 unfolding add_of write_if
 write_passed s m c n key kind i h v w e f eh ew = ew ∙ rw (e, f, eh)

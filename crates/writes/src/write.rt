@@ -1,8 +1,6 @@
 // Write, and what it shares with erase.
-ghost use Rattle.std.specs.Prelude.{◌≡◌, ◌<◌, length, get_or};
-ghost use Rattle.std.proofs.Math.Option.{none};
+ghost use Rattle.std.specs.Prelude.{◌≡◌, ◌<◌, length, get_or, None, Some};
 ghost use Rattle.layout.specs.declared.item.Width.TheVariants.{Two};
-ghost use Rattle.store.specs.declared.Found.TheVariants.{At};
 ghost use Rattle.store.specs.Answer.{leaves, ask};
 ghost use Rattle.store.specs.Places.{find_active};
 ghost use Rattle.store.specs.Chain.{newest};
@@ -13,7 +11,7 @@ ghost use Rattle.writes.specs.Asked.{write_verdict};
 use layout::TxNumber;
 use layout::item::{VersionHead, Width};
 use memory::{PAGES, SLOTS};
-use store::{Answer, Found, RECORDS, Refusal};
+use store::{Answer, RECORDS, Refusal};
 
 // What the questions put to a write say: why it is refused, or the place of its transaction and the earlier slot.
 #[derive(Clone, Copy)]
@@ -40,7 +38,7 @@ fn asks(
         return Passed::No(Refusal::NoRecord);
     }
     let f = live::places::find_active(words, number);
-    let Found::At(i) = f else {
+    let Some(i) = f else {
         return Passed::No(Refusal::NotActive);
     };
     let newest = chain::newest::find(cache, key, words[SLOTS]);
@@ -57,12 +55,12 @@ fn asks(
 }
 
 // The slot found, or 65535.
-fn slot_or_none(f: Found) -> u64
+fn slot_or_none(f: Option<u64>) -> u64
     ensures { result ≡ or_none f }
 {
     match f {
-        Found::At(s) => s,
-        Found::Nothing => 65535,
+        Some(s) => s,
+        None => 65535,
     }
 }
 
@@ -88,8 +86,8 @@ fn step(
     head: VersionHead,
     value: [u8; 16],
 ) -> Answer
-    requires key_value { ask (write_asks (state_of words.old tail.old) medium.old cache.old head.number.0 head.key) ≡ none }
-    requires number_value { find_active (places_of words.old) head.number.0 ≡ At i }
+    requires key_value { ask (write_asks (state_of words.old tail.old) medium.old cache.old head.number.0 head.key) ≡ None }
+    requires number_value { find_active (places_of words.old) head.number.0 ≡ Some i }
     requires slot_value { head.slot ≡ get_or words.old 2 0 }
     requires width_value { head.width ≡ Two }
     ensures { leaves result (state_of words.new tail.new) medium.new cache.new ≡ write_step (state_of words.old tail.old) medium.old cache.old i head value }

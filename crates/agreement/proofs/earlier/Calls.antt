@@ -1,10 +1,10 @@
 -- Every event but a write or an erase keeps the blocks before the pages, and the tail, free of tag 3. A call stores
 -- nothing, or the tail, a page, a block of pairs or a master; the tail of an opening is a block of the log, or empty.
+use Rattle.std.specs.Prelude.{Option}
 use Prim.Native.Nat.{ℕ, zero, suc, ◌+◌, ◌-◌, ◌^◌, ◌<◌}
 use native.Mathlib.Omega.{arith}
 use mathlib.Core.Bool.{true, false, false≢true}
 use mathlib.Core.List.{List}
-use mathlib.Core.Option.{Option}
 use mathlib.Core.Path.{◌≡◌, refl, sym, ◌∙◌}
 use lib.Dec.{ltb}
 use borrow.Author.Tests.{ltb-true}

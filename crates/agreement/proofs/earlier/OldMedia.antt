@@ -2,11 +2,11 @@
 -- tag 1 keeps it as one under tag 3 does, and what the store as it was leaves at a cut is a start like any other. Its
 -- medium is an old one at every moment, and byte 3 of every slot is zero in its cache too: so its openings, and its
 -- calls but for writes, are those of today.
+use Rattle.std.specs.Prelude.{Option}
 use Prim.Native.Nat.{ℕ, ◌*◌, ◌<◌}
 use native.Mathlib.Omega.{arith}
 use mathlib.Core.Bool.{true, false, not, false≢true}
 use mathlib.Core.List.{List, [], ◌∷◌, ◌++◌}
-use mathlib.Core.Option.{Option}
 use mathlib.Core.Path.{◌≡◌, refl, subst}
 use lib.Dec.{eqb}
 use lib.ListN.{length}
@@ -20,7 +20,6 @@ use Rattle.layout.specs.Item.{bytes_of}
 use Rattle.layout.specs.Journal.{Record, version as version_record}
 use Rattle.layout.specs.Slot.{kind_form}
 use Rattle.layout.specs.declared.item.Width.TheVariants.{One}
-use Rattle.store.specs.declared.Found.{Found}
 use Rattle.store.specs.declared.Refusal.{Refusal}
 use Rattle.store.specs.declared.State.{State}
 use Rattle.store.specs.Answer.{Outcome, refusal_number, answer_number, answer_value, ask}
@@ -94,7 +93,7 @@ module _ {l d : ℕ} {m c : List ℕ} {s : State} {b : Book} {disk : Disk} {clos
         (kept, short),
       ))
       (λ p. rw (head_same n key kind) (found
-      (λ (f : Found). Adds n key kind v (write_at f s m c (head_as One s c n key kind) v))
+      (λ (f : Option ℕ). Adds n key kind v (write_at f s m c (head_as One s c n key kind) v))
       (find_active s.places n) p.1.0
       (λ i f.
       let free : not (held c s.places s.slots key n) ≡ true = rw (held_same m c s low key n) at p.1.1.0 in

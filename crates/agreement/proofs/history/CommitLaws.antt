@@ -1,4 +1,5 @@
 -- A number commits once and times rise, so that looking a commit up in a longer history finds the same one.
+use Rattle.std.specs.Prelude.{Some}
 use Prim.Native.Nat.{zero, suc, ℕ, ◌≤◌, ◌<◌, max}
 use native.Mathlib.Nat.{not-suc-le-zero}
 use native.Mathlib.Omega.{arith}
@@ -9,7 +10,6 @@ use mathlib.Core.Path.{◌≡◌, refl, sym, ap, ◌∙◌, subst}
 use lib.Dec.{eqb}
 use borrow.Author.Tests.{eqb-true, eqb-false, ne_eqb, eq-eqb}
 use Rattle.fields.proofs.CellLaws.{Each, each_map}
-use Rattle.store.specs.declared.Timing.TheVariants.{Timed}
 use Rattle.agreement.proofs.history.Ghost.{timing, LoggedCommit, no_commit, find, last_of, Rising, Once}
 use Rattle.agreement.proofs.history.ListLaws.{same?}
 
@@ -156,6 +156,6 @@ rising_snoc lo [] c r h k = (h, tt)
 rising_snoc lo (d ∷ cs) c r h k = (r.0, rising_snoc d.time cs c r.1 (omega arith) (omega arith))
 
 -- a time that is not 0
-pub timed : (t : ℕ) → 0 < t → Timed (record { 0 = t }) ≡ timing t
+pub timed : (t : ℕ) → 0 < t → Some (record { 0 = t }) ≡ timing t
 timed zero h = absurd (omega arith)
 timed (suc t) h = refl

@@ -1,6 +1,8 @@
 -- The ghost of the proof of Demand 3: the log blocks since formatting, by sequence, with an empty block 0 in front, so
 -- that block s is `get_or bs s []`. All else is a function of it: placed records, versions, commits, the book's rows,
 -- and what a page holds. Definitions only.
+use Rattle.layout.specs.declared.CommitTime.{CommitTime}
+use Rattle.std.specs.Prelude.{Option, Some, None}
 use Prim.Native.Nat.{ℕ, zero, suc, ◌+◌, ◌-◌, ◌*◌, ◌^◌, ◌≤◌, ◌<◌, min, max}
 use mathlib.Core.Bool.{true, cond}
 use mathlib.Core.List.{List, [], ◌∷◌, ◌++◌}
@@ -14,10 +16,6 @@ use Rattle.layout.specs.declared.slot.Slot.TheVariants.{Waiting, Stamped}
 use Rattle.layout.proofs.RecordLaws.{RecordSized}
 use Rattle.fields.proofs.CellLaws.{Each}
 use Rattle.layout.proofs.PageLaws.{no_cell}
-use Rattle.store.specs.declared.Found.{Found}
-use Rattle.store.specs.declared.Found.TheVariants.{At, Nothing}
-use Rattle.store.specs.declared.Timing.{Timing}
-use Rattle.store.specs.declared.Timing.TheVariants.{Timed, Untimed}
 use Rattle.store.specs.OpenLog.{Placed, place_from, number_in}
 use Rattle.store.specs.OpenPairs.{waits_under}
 use Rattle.runs.specs.Book.{Row, version as version_row, committed as commit_row}
@@ -98,9 +96,9 @@ abbrev pub at : List LoggedVersion → ℕ → LoggedVersion
 at vs n = get_or vs n no_version
 
 -- the highest slot below n with this key, of the versions by slot
-unfoldable pub newest_of : List LoggedVersion → ℕ → ℕ → Found
-newest_of vs key zero = Nothing
-newest_of vs key (suc n) = cond (eqb (at vs n).key key) (At n) (newest_of vs key n)
+unfoldable pub newest_of : List LoggedVersion → ℕ → ℕ → Option ℕ
+newest_of vs key zero = None
+newest_of vs key (suc n) = cond (eqb (at vs n).key key) (Some n) (newest_of vs key n)
 
 -- ---- commits; a time of 0 says that there is none
 
@@ -146,9 +144,9 @@ Once [] = Unit {0}
 Once (c ∷ cs) = ((find cs c.num).time ≡ 0) × Once cs
 
 -- 0 as no time
-abbrev pub timing : ℕ → Timing
-timing zero = Untimed
-timing (suc t) = Timed (record { 0 = suc t })
+abbrev pub timing : ℕ → Option CommitTime
+timing zero = None
+timing (suc t) = Some (record { 0 = suc t })
 
 -- ---- cells
 

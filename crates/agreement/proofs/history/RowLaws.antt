@@ -1,11 +1,11 @@
 -- The rows of a history: what the book reads off them, in terms of versions and commits. Pure facts of lists.
+use Rattle.std.specs.Prelude.{Some}
 use Prim.Native.Nat.{ℕ, zero, suc, ◌<◌, max, suc-le-suc}
 use native.Mathlib.Nat.{le_of_suc-le-suc}
 use native.Mathlib.Omega.{arith}
 use mathlib.Core.Bool.{or-true, Bool, true, false, cond, ◌||◌}
 use mathlib.Core.List.{List, [], ◌∷◌, ◌++◌}
 use mathlib.Core.Logic.{◌⊎◌, inl, inr, ◌≢◌}
-use mathlib.Core.Option.{some}
 use mathlib.Core.Path.{◌≡◌, refl, sym, ap, ◌∙◌}
 use lib.Dec.{eqb}
 use lib.ListN.{length}
@@ -54,7 +54,7 @@ unfolding rows_for
 length_rows_for [] = refl
 length_rows_for (v ∷ vs) = ap suc (length_rows_for vs)
 
-pub some_timing : (t : ℕ) → 0 < t → time_in (timing t) ≡ some t
+pub some_timing : (t : ℕ) → 0 < t → time_in (timing t) ≡ Some t
 some_timing zero h = absurd (omega arith)
 some_timing (suc t) h = refl
 
@@ -71,7 +71,7 @@ time_row (x ∷ xs) low r n = go x.rec (λ a h. time_row xs a h n) r
     go (version h v) ih r = ih low r
     go (commit p) ih r = by (eqb p.number.0 n)
       where
-        by : (t : Bool) → cond t (some p.time.0) (time_of (rows_in xs) n)
+        by : (t : Bool) → cond t (Some p.time.0) (time_of (rows_in xs) n)
             ≡ time_in
             (timing (cond t (record { seq = x.seq; end = x.end; num = p.number.0; time = p.time.0 })
             (find (commits_in xs) n)).time)

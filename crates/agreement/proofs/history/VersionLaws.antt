@@ -1,5 +1,6 @@
 -- What holds of each record holds of each version and each commit, and the end places of versions rise with their
 -- slots.
+use Rattle.std.specs.Prelude.{Some, None}
 use Prim.Native.Nat.{ℕ, zero, suc, ◌+◌, ◌*◌, ◌≤◌, ◌<◌}
 use native.Mathlib.Nat.{le_of_suc-le-suc, not-suc-le-zero}
 use native.Mathlib.Omega.{arith}
@@ -12,7 +13,6 @@ use lib.ListN.{length, get_or-append}
 use borrow.Author.Tests.{eqb-true, eqb-false}
 use Rattle.layout.specs.Journal.{Record, version, commit, record_size}
 use Rattle.fields.proofs.CellLaws.{Each, each_at, each_append, each_map}
-use Rattle.store.specs.declared.Found.TheVariants.{At, Nothing}
 use Rattle.store.specs.OpenLog.{Placed, place_from, number_in}
 use Rattle.agreement.proofs.history.Ghost.{versions_of, commits_of, Sound, BlockSound, place_all, records}
 use Rattle.agreement.proofs.history.Ghost.{LoggedVersion, as_version, versions_in, no_version, at, newest_of}
@@ -181,13 +181,13 @@ pub record NewestAt (vs : List LoggedVersion) (key n j : ℕ) : Type 0 where
   pub keyed : (at vs j).key ≡ key
   pub last : (i : ℕ) → j < i → i < n → (at vs i).key ≢ key
 
-pub newest_at : (vs : List LoggedVersion) (key n j : ℕ) → newest_of vs key n ≡ At j → NewestAt vs key n j
+pub newest_at : (vs : List LoggedVersion) (key n j : ℕ) → newest_of vs key n ≡ Some j → NewestAt vs key n j
 unfolding newest_of
 newest_at vs key zero j e = let z : ◌≡◌ {A = ℕ} 0 1 = cc in absurd (omega arith)
 newest_at vs key (suc n) j e = go (newest_at vs key n j) (eqb (at vs n).key key) refl e
   where
-    go : (newest_of vs key n ≡ At j → NewestAt vs key n j) → (t : Bool) → eqb (at vs n).key key ≡ t
-        → cond t (At n) (newest_of vs key n) ≡ At j → NewestAt vs key (suc n) j
+    go : (newest_of vs key n ≡ Some j → NewestAt vs key n j) → (t : Bool) → eqb (at vs n).key key ≡ t
+        → cond t (Some n) (newest_of vs key n) ≡ Some j → NewestAt vs key (suc n) j
     go ih true q e =
         let z : n ≡ j = cc in
         record {
@@ -208,14 +208,14 @@ newest_at vs key (suc n) j e = go (newest_at vs key n j) (eqb (at vs n).key key)
         by i h k (inl s) = λ y. eqb-false _ _ q (ap (λ (a : ℕ). (at vs a).key) (sym s) ∙ y)
         by i h k (inr s) = (ih e).last i h (omega arith)
 
-pub newest_none : (vs : List LoggedVersion) (key n : ℕ) → newest_of vs key n ≡ Nothing → (i : ℕ) → i < n
+pub newest_none : (vs : List LoggedVersion) (key n : ℕ) → newest_of vs key n ≡ None → (i : ℕ) → i < n
     → (at vs i).key ≢ key
 unfolding newest_of
 newest_none vs key zero e i h = absurd (omega arith)
 newest_none vs key (suc n) e i h = go (newest_none vs key n) (eqb (at vs n).key key) refl e (same? i n)
   where
-    go : (newest_of vs key n ≡ Nothing → (i : ℕ) → i < n → (at vs i).key ≢ key) → (t : Bool) → eqb (at vs n).key key ≡ t
-        → cond t (At n) (newest_of vs key n) ≡ Nothing
+    go : (newest_of vs key n ≡ None → (i : ℕ) → i < n → (at vs i).key ≢ key) → (t : Bool) → eqb (at vs n).key key ≡ t
+        → cond t (Some n) (newest_of vs key n) ≡ None
         → (i ≡ n) ⊎ (i ≢ n) → (at vs i).key ≢ key
     go ih true q e s = let z : ◌≡◌ {A = ℕ} 0 1 = cc in absurd (omega arith)
     go ih false q e (inl s) = λ y. eqb-false _ _ q (ap (λ (a : ℕ). (at vs a).key) (sym s) ∙ y)

@@ -1,4 +1,5 @@
 -- A search over the places finds the one that the invariant speaks of, since numbers in places are distinct.
+use Rattle.std.specs.Prelude.{Option, Some, None}
 use Prim.Native.Nat.{ℕ, ◌<◌}
 use native.Mathlib.Omega.{arith}
 use mathlib.Core.Bool.{true, false≢true}
@@ -11,9 +12,6 @@ use Rattle.store.proofs.SearchLaws.{first_found, first_only}
 use Rattle.store.specs.Places.{is_free, place_at, find_active, find_committed, time_under, active_as, committed_as}
 use Rattle.store.specs.Places.{time_of, at_found}
 use Rattle.store.specs.declared.Place.{Place}
-use Rattle.store.specs.declared.Found.{Found}
-use Rattle.store.specs.declared.Found.TheVariants.{At, Nothing}
-use Rattle.store.specs.declared.Timing.TheVariants.{Untimed}
 use Rattle.store.specs.declared.Life.{Life}
 use Rattle.store.specs.declared.Life.TheVariants.{Free, Active, Committed}
 use Rattle.agreement.proofs.history.CommitLaws.{timed}
@@ -63,14 +61,14 @@ life_time_law (Committed a t k) h = timed t.0 h
 module _ {m : List ℕ} {cs : List LoggedCommit} {cells : List Cell} {o next : ℕ} {ps : List Place}
     (v : Living m cs cells o next ps) where
   -- the active place that was found
-  pub active_found : (n i : ℕ) → find_active ps n ≡ At i → (i < 64) × (0 < n) × (num_at ps i ≡ n) × (time_at ps i ≡ 0)
+  pub active_found : (n i : ℕ) → find_active ps n ≡ Some i → (i < 64) × (0 < n) × (num_at ps i ≡ n) × (time_at ps i ≡ 0)
   unfolding find_active
   active_found n i e =
       let r = first_found (λ j. active_as (place_at ps j).life n) 64 0 i e in
       let h : i < 64 = omega (arith, r.1) in
       let a = active_life (place_at ps i).life n (v.each i h).formed r.2 in (h, a.0, a.1, a.2)
 
-  pub active_finds : (n i : ℕ) → i < 64 → 0 < n → num_at ps i ≡ n → time_at ps i ≡ 0 → find_active ps n ≡ At i
+  pub active_finds : (n i : ℕ) → i < 64 → 0 < n → num_at ps i ≡ n → time_at ps i ≡ 0 → find_active ps n ≡ Some i
   unfolding find_active
   active_finds n i h z e t =
       first_only (λ j. active_as (place_at ps j).life n) 64 i h
@@ -78,14 +76,14 @@ module _ {m : List ℕ} {cs : List LoggedCommit} {cells : List Cell} {o next : �
       (λ j g a. let b = active_life (place_at ps j).life n (v.each j g).formed a in
       v.distinct j i g h (omega (arith, b.1)) (b.1 ∙ sym e))
 
-  pub committed_found : (n i : ℕ) → find_committed ps n ≡ At i → (i < 64) × (num_at ps i ≡ n) × (0 < time_at ps i)
+  pub committed_found : (n i : ℕ) → find_committed ps n ≡ Some i → (i < 64) × (num_at ps i ≡ n) × (0 < time_at ps i)
   unfolding find_committed
   committed_found n i e =
       let r = first_found (λ j. committed_as (place_at ps j).life n) 64 0 i e in
       let h : i < 64 = omega (arith, r.1) in
       let a = committed_life (place_at ps i).life n (v.each i h).formed r.2 in (h, a.0, a.1)
 
-  pub committed_finds : (n i : ℕ) → i < 64 → 0 < n → num_at ps i ≡ n → 0 < time_at ps i → find_committed ps n ≡ At i
+  pub committed_finds : (n i : ℕ) → i < 64 → 0 < n → num_at ps i ≡ n → 0 < time_at ps i → find_committed ps n ≡ Some i
   unfolding find_committed
   committed_finds n i h z e t =
       first_only (λ j. committed_as (place_at ps j).life n) 64 i h
@@ -104,15 +102,15 @@ module _ {m : List ℕ} {cs : List LoggedCommit} {cells : List Cell} {o next : �
           life_time_law (place_at ps i).life t
           ∙ ap timing (sym ((v.each i g).over t) ∙ ap (λ (j : ℕ). (find cs j).time) e)
 
-      go : ((find cs n).time ≡ 0) ⊎ ((find cs n).time ≢ 0) → (f : Found) → find_committed ps n ≡ f
+      go : ((find cs n).time ≡ 0) ⊎ ((find cs n).time ≢ 0) → (f : Option ℕ) → find_committed ps n ≡ f
           → at_found f (λ i. time_of (place_at ps i).life) ≡ timing (find cs n).time
-      go c (At i) e = let r = committed_found n i e in time_of_law i r.0 r.1 r.2
-      go (inl c) Nothing e = rw c
-      go (inr c) Nothing e = let (i, g, q) = v.all n h (omega arith) in by i g q (same? (time_at ps i) 0)
+      go c (Some i) e = let r = committed_found n i e in time_of_law i r.0 r.1 r.2
+      go (inl c) None e = rw c
+      go (inr c) None e = let (i, g, q) = v.all n h (omega arith) in by i g q (same? (time_at ps i) 0)
         where
           by : (i : ℕ) → i < 64 → num_at ps i ≡ n → (time_at ps i ≡ 0) ⊎ (time_at ps i ≢ 0)
-              → Untimed ≡ timing (find cs n).time
+              → None ≡ timing (find cs n).time
           by i g q (inl t) = absurd (c (rw q at ((v.each i g).unended (omega arith) t)))
           by i g q (inr t) =
-              let f : find_committed ps n ≡ At i = committed_finds n i g z q (omega arith) in
+              let f : find_committed ps n ≡ Some i = committed_finds n i g z q (omega arith) in
               let y : ◌≡◌ {A = ℕ} 0 1 = cc in absurd (omega arith)

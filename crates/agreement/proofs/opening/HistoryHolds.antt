@@ -1,6 +1,8 @@
 -- Condition 6 of opening holds of a store that is down: redo leaves the stored versions, so pages are full before the
 -- last, earlier slots are true, the times of a record are those of its commits, and numbers and times are below the
 -- opened ones.
+use Rattle.layout.specs.declared.CommitTime.{CommitTime}
+use Rattle.std.specs.Prelude.{Option, Some, None}
 use Prim.Native.Nat.{ℕ, zero, suc, ◌+◌, ◌*◌, ◌≤◌, ◌<◌}
 use native.Mathlib.Omega.{arith}
 use mathlib.Core.Bool.{Bool, true, false, not, ◌&&◌, ◌||◌}
@@ -15,8 +17,6 @@ use Rattle.layout.specs.Page.{page_used}
 use Rattle.layout.specs.Slot.{Cell}
 use Rattle.layout.specs.Table.{table_pair}
 use Rattle.fields.proofs.CellLaws.{each_at}
-use Rattle.store.specs.declared.Timing.{Timing}
-use Rattle.store.specs.declared.Timing.TheVariants.{Timed, Untimed}
 use Rattle.store.specs.Chain.{cell_at, is_version, version_of, version_time, newest}
 use Rattle.store.specs.Write.{or_none}
 use Rattle.store.specs.OpenLog.{read_log, next_number, last_time}
@@ -115,17 +115,17 @@ module _ {l d : ℕ} {m : List ℕ} {disk : Disk} (medium : OnMedium l d m disk 
 -- ---- a record's times
 
 -- the time that some version of the record below slot n has, or none
-data TimeOf (vs : List LoggedVersion) (cs : List LoggedCommit) (key n : ℕ) : Timing → Type 0 where
-  untimed : TimeOf vs cs key n Untimed
+data TimeOf (vs : List LoggedVersion) (cs : List LoggedCommit) (key n : ℕ) : Option CommitTime → Type 0 where
+  untimed : TimeOf vs cs key n None
   timed : (i : ℕ) → i < n → (at vs i).key ≡ key → (t : ℕ) → 0 < t → (find cs (at vs i).num).time ≡ t
-      → TimeOf vs cs key n (Timed (record { 0 = t }))
+      → TimeOf vs cs key n (Some (record { 0 = t }))
 
 module _ {vs : List LoggedVersion} {cs : List LoggedCommit} {key n : ℕ} where
-  time_later : (r : Timing) → TimeOf vs cs key n r → TimeOf vs cs key (suc n) r
+  time_later : (r : Option CommitTime) → TimeOf vs cs key n r → TimeOf vs cs key (suc n) r
   time_later r untimed = untimed
   time_later r (timed i h e t z f) = timed i (omega arith) e t z f
 
-  time_step : (b : Bool) (t : ℕ) (rest : Timing) → eqb (at vs n).key key ≡ b → (find cs (at vs n).num).time ≡ t
+  time_step : (b : Bool) (t : ℕ) (rest : Option CommitTime) → eqb (at vs n).key key ≡ b → (find cs (at vs n).num).time ≡ t
       → TimeOf vs cs key n rest → TimeOf vs cs key (suc n) (time_or b (timing t) rest)
   time_step true zero rest q f w = time_later rest w
   time_step true (suc t) rest q f w = timed n (omega arith) (eqb-true (at vs n).key key q) (suc t) (omega arith) f
@@ -141,7 +141,7 @@ module _ {l d : ℕ} {m : List ℕ} {b : Book} {disk : Disk} (x : Down l d m b d
       rw (cell_cached x.medium (redone_cache x.medium) n h)
       (go (cell disk.cells n) refl (x.medium.pages.slots.match n h))
     where
-      is_timed_law : (t : ℕ) → 0 < t → Timed (record { 0 = t }) ≡ timing t
+      is_timed_law : (t : ℕ) → 0 < t → Some (record { 0 = t }) ≡ timing t
       is_timed_law zero z = absurd (omega arith)
       is_timed_law (suc t) z = refl
 
@@ -172,7 +172,7 @@ module _ {l d : ℕ} {m : List ℕ} {b : Book} {disk : Disk} (x : Down l d m b d
       (find (commits_of disk.stored) (at (versions_of disk.stored) n).num).time refl
       (time_below_law (at (versions_of disk.stored) n).key n (omega arith)))
     where
-      go : (r : Timing) (t : ℕ) → (find (commits_of disk.stored) (at (versions_of disk.stored) n).num).time ≡ t
+      go : (r : Option CommitTime) (t : ℕ) → (find (commits_of disk.stored) (at (versions_of disk.stored) n).num).time ≡ t
           → TimeOf (versions_of disk.stored) (commits_of disk.stored) (at (versions_of disk.stored) n).key n r
           → not_above r (timing t) ≡ true
       go r zero e untimed = refl

@@ -1,5 +1,6 @@
 -- The pairs that an opening finds: a table place by its number, and where a commit is: in the log, as it is in the
 -- history, or below the log. A number that is waited for and has no table place has its commit, if any, in the log.
+use Rattle.std.specs.Prelude.{Option, Some, None}
 use Prim.Native.Nat.{ℕ, zero, suc, ◌≤◌, ◌<◌}
 use native.Mathlib.Omega.{arith}
 use mathlib.Core.Bool.{Bool, true, false, cond, not, false≢true}
@@ -12,8 +13,6 @@ use borrow.Author.Tests.{eqb-true, eqb-false}
 use Rattle.layout.specs.Table.{table_pair}
 use Rattle.fields.proofs.CellLaws.{Each}
 use Rattle.fields.proofs.Choose.{and_0, and_1}
-use Rattle.store.specs.declared.Found.{Found}
-use Rattle.store.specs.declared.Found.TheVariants.{At, Nothing}
 use Rattle.store.specs.Chain.{is_timed}
 use Rattle.store.specs.Places.{first, is_at}
 use Rattle.store.specs.OpenLog.{read_log, commit_under, next_number}
@@ -31,22 +30,22 @@ use Rattle.agreement.proofs.opening.Reading.{commit_time_law, log_split, log_bef
 
 -- ---- a table place by its number
 
-pub table_found : (m : List ℕ) (n i : ℕ) → table_find m n ≡ At i → (i < 64) × (0 < n) × (table_num m i ≡ n)
+pub table_found : (m : List ℕ) (n i : ℕ) → table_find m n ≡ Some i → (i < 64) × (0 < n) × (table_num m i ≡ n)
 unfolding table_find
 table_found m n i e = go (eqb n 0) refl e
   where
-    go : (t : Bool) → eqb n 0 ≡ t → cond t Nothing (first (λ j. eqb (table_pair m j).number.0 n) 64 0) ≡ At i
+    go : (t : Bool) → eqb n 0 ≡ t → cond t None (first (λ j. eqb (table_pair m j).number.0 n) 64 0) ≡ Some i
         → (i < 64) × (0 < n) × (table_num m i ≡ n)
     go true q e = let z : ◌≡◌ {A = ℕ} 0 1 = cc in absurd (omega arith)
     go false q e =
         let r = first_found (λ j. eqb (table_pair m j).number.0 n) 64 0 i e in
         let z : n ≢ 0 = eqb-false n 0 q in (omega (arith, r.1), omega arith, eqb-true (table_pair m i).number.0 n r.2)
 
-pub table_lacks : (m : List ℕ) (n : ℕ) → 0 < n → table_find m n ≡ Nothing → (i : ℕ) → i < 64 → table_num m i ≢ n
+pub table_lacks : (m : List ℕ) (n : ℕ) → 0 < n → table_find m n ≡ None → (i : ℕ) → i < 64 → table_num m i ≢ n
 unfolding table_find
 table_lacks m n z e i h = go (eqb n 0) refl e
   where
-    go : (t : Bool) → eqb n 0 ≡ t → cond t Nothing (first (λ j. eqb (table_pair m j).number.0 n) 64 0) ≡ Nothing
+    go : (t : Bool) → eqb n 0 ≡ t → cond t None (first (λ j. eqb (table_pair m j).number.0 n) 64 0) ≡ None
         → table_num m i ≢ n
     go true q e = absurd (omega (arith, eqb-true n 0 q))
     go false q e =
@@ -162,7 +161,7 @@ module _ {l d : ℕ} {m : List ℕ} {b : Book} {disk : Disk} (x : Down l d m b d
   -- ---- the pairs
 
   -- a number that is waited for and has no table place: its commit is the log's
-  pub unlisted : (n : ℕ) → 0 < count n disk.cells → table_find m n ≡ Nothing
+  pub unlisted : (n : ℕ) → 0 < count n disk.cells → table_find m n ≡ None
       → (find (commits_in (read_log m l)) n).time ≡ (find (commits_of disk.stored) n).time
   unlisted n h f =
       go (same? (find (commits_of disk.stored) n).time 0) (same? (find (commits_in (read_log m l)) n).time 0)
@@ -186,13 +185,13 @@ module _ {l d : ℕ} {m : List ℕ} {b : Book} {disk : Disk} (x : Down l d m b d
   unfolding pair_time
   pair_timing n h = go (table_find m n) refl
     where
-      go : (f : Found) → table_find m n ≡ f → table_or f m (time_of_commitment (commit_under (read_log m l) n))
+      go : (f : Option ℕ) → table_find m n ≡ f → table_or f m (time_of_commitment (commit_under (read_log m l) n))
           ≡ timing (find (commits_of disk.stored) n).time
-      go (At i) e =
+      go (Some i) e =
           let r = table_found m n i e in
           let p = x.medium.table.pair i r.0 (omega (arith, r.1, r.2)) in
           timed (table_time m i) p.0 ∙ ap timing (sym p.1 ∙ ap (λ (j : ℕ). (find (commits_of disk.stored) j).time) r.2)
-      go Nothing e = commit_time_law (read_log m l) n logged_times ∙ ap timing (unlisted n h e)
+      go None e = commit_time_law (read_log m l) n logged_times ∙ ap timing (unlisted n h e)
 
   -- a waited number with a pair has committed
   pub paired_commit : (n : ℕ) → 0 < count n disk.cells → is_paired m (read_log m l) n ≡ true
@@ -202,7 +201,7 @@ module _ {l d : ℕ} {m : List ℕ} {b : Book} {disk : Disk} (x : Down l d m b d
 
   -- a pair in the log alone
   pub alone_commit : (n : ℕ) → in_log_alone m (read_log m l) n ≡ true
-      → (table_find m n ≡ Nothing) × (0 < (find (commits_in (read_log m l)) n).time)
+      → (table_find m n ≡ None) × (0 < (find (commits_in (read_log m l)) n).time)
   unfolding in_log_alone
   alone_commit n e = (
     go (table_find m n) (and_0 (not (is_at (table_find m n)))
@@ -211,11 +210,11 @@ module _ {l d : ℕ} {m : List ℕ} {b : Book} {disk : Disk} (x : Down l d m b d
         ∙ and_1 (not (is_at (table_find m n))) (is_timed (time_of_commitment (commit_under (read_log m l) n))) e),
   )
     where
-      go : (f : Found) → not (is_at f) ≡ true → f ≡ Nothing
-      go (At i) e = absurd (false≢true e)
-      go Nothing e = refl
+      go : (f : Option ℕ) → not (is_at f) ≡ true → f ≡ None
+      go (Some i) e = absurd (false≢true e)
+      go None e = refl
 
-  pub commit_alone : (n : ℕ) → table_find m n ≡ Nothing → 0 < (find (commits_in (read_log m l)) n).time
+  pub commit_alone : (n : ℕ) → table_find m n ≡ None → 0 < (find (commits_in (read_log m l)) n).time
       → in_log_alone m (read_log m l) n ≡ true
   unfolding in_log_alone
   commit_alone n e h = rw (e, commit_time_law (read_log m l) n logged_times) (low_timed _ h)

@@ -1,11 +1,11 @@
 -- Conditions 7 to 10 of opening hold of a store that is down: numbers and times of sound records are at least 1 and
 -- below their limits, each number commits once, and each table pair is that of a stored commit.
+use Rattle.std.specs.Prelude.{Option, None, Some}
 use Prim.Native.Nat.{ℕ, ◌-◌, ◌*◌, ◌^◌, ◌≤◌, ◌<◌}
 use native.Mathlib.Omega.{arith}
 use mathlib.Core.Bool.{true, cond, not, ◌||◌}
 use mathlib.Core.List.{List, [], ◌∷◌, ◌++◌, append_assoc}
 use mathlib.Core.Logic.{◌⊎◌, inl, inr, ◌≢◌}
-use mathlib.Core.Option.{Option, none, some}
 use mathlib.Core.Path.{◌≡◌, refl, sym, ap, ◌∙◌}
 use lib.Dec.{eqb, leb, ltb}
 use lib.ListN.{length, take}
@@ -14,9 +14,6 @@ use Rattle.layout.specs.Journal.{Record, version, commit}
 use Rattle.layout.specs.Slot.{Cell}
 use Rattle.layout.specs.Table.{table_pair}
 use Rattle.fields.proofs.CellLaws.{Each, each_map}
-use Rattle.store.specs.declared.Found.{Found}
-use Rattle.store.specs.declared.Found.TheVariants.{At, Nothing}
-use Rattle.store.specs.declared.Timing.TheVariants.{Timed, Untimed}
 use Rattle.store.specs.Places.{first, is_at}
 use Rattle.store.specs.Chain.{cell_at}
 use Rattle.store.specs.OpenLog.{Placed, number_in, next_on, read_log, commit_under, Commitment}
@@ -45,10 +42,10 @@ at_least_one_law d (commit p) s =
     both (leb 1 p.number.0) (leb 1 p.time.0) (le-leb 1 p.number.0 s.low) (le-leb 1 p.time.0 s.placeable)
 
 -- no time, no commit record
-no_commit : (c : Option Commitment) (t : ℕ) → t ≡ 0 → time_of_commitment c ≡ timing t → c ≡ none
-no_commit none t z e = refl
-no_commit (some x) t z e =
-    let q : Timed (record { 0 = x.time }) ≡ Untimed = e ∙ ap timing z in
+no_commit : (c : Option Commitment) (t : ℕ) → t ≡ 0 → time_of_commitment c ≡ timing t → c ≡ None
+no_commit None t z e = refl
+no_commit (Some x) t z e =
+    let q : Some (record { 0 = x.time }) ≡ None = e ∙ ap timing z in
     let y : ◌≡◌ {A = ℕ} 0 1 = cc in absurd (omega arith)
 
 -- ---- a number that commits once
@@ -131,10 +128,10 @@ module _ {l d : ℕ} {m : List ℕ} {disk : Disk} (medium : OnMedium l d m disk 
       zero_or (table_pair m i).number.0 _ (λ z. go z
       (first (λ j. eqb (table_pair m j).number.0 (table_pair m i).number.0) i 0) refl)
     where
-      go : (table_pair m i).number.0 ≢ 0 → (f : Found)
+      go : (table_pair m i).number.0 ≢ 0 → (f : Option ℕ)
           → first (λ j. eqb (table_pair m j).number.0 (table_pair m i).number.0) i 0 ≡ f → not (is_at f) ≡ true
-      go z Nothing e = refl
-      go z (At j) e =
+      go z None e = refl
+      go z (Some j) e =
           let r = first_found (λ j. eqb (table_pair m j).number.0 (table_pair m i).number.0) i 0 j e in
           let lt : j < i = omega (arith, r.1) in
           absurd (omega (
@@ -148,9 +145,9 @@ module _ {l d : ℕ} {m : List ℕ} {disk : Disk} (medium : OnMedium l d m disk 
   unfolding table_find
   same_time_law n t e = go (same? n 0)
     where
-      by : (f : Found) → 0 < n → first (λ i. eqb (table_pair m i).number.0 n) 64 0 ≡ f → same_time f m t ≡ true
-      by Nothing z q = refl
-      by (At i) z q =
+      by : (f : Option ℕ) → 0 < n → first (λ i. eqb (table_pair m i).number.0 n) 64 0 ≡ f → same_time f m t ≡ true
+      by None z q = refl
+      by (Some i) z q =
           let r = first_found (λ i. eqb (table_pair m i).number.0 n) 64 0 i q in
           let h : i < 64 = omega (arith, r.1) in
           let g : (table_pair m i).number.0 ≡ n = eqb-true (table_pair m i).number.0 n r.2 in
@@ -159,7 +156,7 @@ module _ {l d : ℕ} {m : List ℕ} {disk : Disk} (medium : OnMedium l d m disk 
           ∙ ap (λ (j : ℕ). (find (commits_of disk.stored) j).time) g ∙ e)
 
       go : (n ≡ 0) ⊎ (n ≢ 0)
-          → same_time (cond (eqb n 0) Nothing (first (λ i. eqb (table_pair m i).number.0 n) 64 0)) m t ≡ true
+          → same_time (cond (eqb n 0) None (first (λ i. eqb (table_pair m i).number.0 n) 64 0)) m t ≡ true
       go (inl z) = rw (eq-eqb n 0 z)
       go (inr z) = rw (ne_eqb n 0 z) (by (first (λ i. eqb (table_pair m i).number.0 n) 64 0) (omega arith) refl)
 

@@ -1,11 +1,11 @@
 -- What an opening's folds over log records find, in terms of the ghost's commits: the commit under a number, the
 -- numbers, the times. By induction on the records.
+use Rattle.std.specs.Prelude.{Option, None, Some}
 use Prim.Native.Nat.{ℕ, suc, ◌+◌, ◌-◌, ◌≤◌, ◌<◌, max}
 use native.Mathlib.Omega.{arith}
 use mathlib.Core.Bool.{Bool, true, false, cond}
 use mathlib.Core.List.{List, [], ◌∷◌, ◌++◌}
 use mathlib.Core.Logic.{◌≢◌}
-use mathlib.Core.Option.{Option, none, some}
 use mathlib.Core.Path.{◌≡◌, refl, sym, ap, ◌∙◌}
 use lib.Dec.{eqb}
 use lib.ListN.{length, take, get_or}
@@ -39,7 +39,7 @@ commit_finds (x ∷ xs) n z = go x.rec x.seq x.end z (commit_finds xs n)
     go (version h v) q e z f = f z
     go (commit p) q e z f = by (eqb p.number.0 n)
       where
-        by : (t : Bool) → Finds (or_else (cond t (some (record { time = p.time.0; end = e })) none) (commit_under xs n))
+        by : (t : Bool) → Finds (or_else (cond t (Some (record { time = p.time.0; end = e })) None) (commit_under xs n))
             (cond t (record { seq = q; end = e; num = p.number.0; time = p.time.0 }) (find (commits_in xs) n))
         by true = (timed p.time.0 z.0, refl, refl)
         by false = f z.1

@@ -1,6 +1,7 @@
 -- The places that an opening makes: those of the table's live pairs, then one for each live pair of the log alone.
 -- While numbers are still to come, each waiting committed number has a place or is among them; a free place there is
 -- for each, as the numbers in places and the next one have 64 owners.
+use Rattle.std.specs.Prelude.{Option, Some, None}
 use Prim.Native.Nat.{ℕ, zero, suc, ◌+◌, ◌≤◌, ◌<◌}
 use native.Mathlib.Nat.{not-suc-le-zero, le_of_suc-le-suc, add-zero}
 use native.Mathlib.Omega.{arith}
@@ -13,8 +14,6 @@ use lib.ListN.{length, get_or, set, length-set}
 use borrow.Author.Tests.{lt-ltb, le-ltb, ltb-true, ltb-false, eqb-true, eqb-false}
 use Rattle.layout.specs.Slot.{Cell}
 use Rattle.fields.proofs.CellLaws.{Each, each_map}
-use Rattle.store.specs.declared.Found.{Found}
-use Rattle.store.specs.declared.Found.TheVariants.{At, Nothing}
 use Rattle.store.specs.declared.Life.{Life}
 use Rattle.store.specs.declared.Life.TheVariants.{Free, Active, Committed}
 use Rattle.store.specs.declared.Place.{Place}
@@ -112,7 +111,7 @@ module _ {l d : ℕ} {m : List ℕ} {b : Book} {disk : Disk} (x : Down l d m b d
     unfolding name
     name_out i a = ap (λ (t : Bool). cond t (num_at ps i) n) (le-ltb i 64 a)
 
-    some_free : first (λ i. is_free (place_at ps i).life) 64 0 ≡ Nothing → ⊥
+    some_free : first (λ i. is_free (place_at ps i).life) 64 0 ≡ None → ⊥
     some_free e =
         pigeon 64 (λ i j. get_or x.owners j 0 ≡ name i) (λ i a. owner i a (split i 64))
         (λ i j r a q s t. same i j a q (split i 64) (split j 64) (sym s ∙ t))
@@ -247,13 +246,13 @@ module _ {l d : ℕ} {m : List ℕ} {b : Book} {disk : Disk} (x : Down l d m b d
   took [] ps r e p = p
   took (n ∷ ns) ps r e p = took ns _ r.1 e.1 (go (first (λ i. is_free (place_at ps i).life) 64 0) refl)
     where
-      go : (f : Found) → first (λ i. is_free (place_at ps i).life) 64 0 ≡ f
+      go : (f : Option ℕ) → first (λ i. is_free (place_at ps i).life) 64 0 ≡ f
           → Took (take_at f ps (live_place m (read_log m l) c slots n (time_or_zero (commit_under (read_log m l) n))))
           ns
-      go (At i) q =
+      go (Some i) q =
           let s = first_found (λ i. is_free (place_at ps i).life) 64 0 i q in
           placed ps n ns p e.0.0 e.0.1 r.0 i (omega (arith, s.1)) (free_num (place_at ps i).life s.2)
-      go Nothing q =
+      go None q =
           let w : find (commits_of disk.stored) n ≡ find (commits_in (read_log m l)) n = (commit_logged x n e.0.1).0 in
           absurd (some_free ps (n ∷ ns) p n e.0.0 (rw w e.0.1) p.apart.0 q)
 
@@ -323,8 +322,8 @@ module _ {l d : ℕ} {m : List ℕ} {b : Book} {disk : Disk} (x : Down l d m b d
   spot_fill i e (bare (inr w)) a b = absurd (omega arith)
 
   -- ns are the waited numbers whose pair is in the log alone
-  begun : (ns : List ℕ) → Each (λ (n : ℕ). (0 < count n disk.cells) × (table_find m n ≡ Nothing)) ns
-      → ((n : ℕ) → 0 < count n disk.cells → table_find m n ≡ Nothing → 0 < (find (commits_in (read_log m l)) n).time
+  begun : (ns : List ℕ) → Each (λ (n : ℕ). (0 < count n disk.cells) × (table_find m n ≡ None)) ns
+      → ((n : ℕ) → 0 < count n disk.cells → table_find m n ≡ None → 0 < (find (commits_in (read_log m l)) n).time
       → Among n ns)
       → Took listed ns
   begun ns alone rest = record {
@@ -344,15 +343,15 @@ module _ {l d : ℕ} {m : List ℕ} {b : Book} {disk : Disk} (x : Down l d m b d
       timed_num : (i : ℕ) → i < 64 → 0 < time_at listed i → 0 < num_at listed i
       timed_num i h z = life_low (place_at listed i).life (spot_lively i h (place_at listed i) (spot_at i h)).formed z
 
-      all' : (n : ℕ) → 0 < count n disk.cells → 0 < (find (commits_of disk.stored) n).time → (f : Found)
+      all' : (n : ℕ) → 0 < count n disk.cells → 0 < (find (commits_of disk.stored) n).time → (f : Option ℕ)
           → table_find m n ≡ f
           → ((i : ℕ) × (i < 64) × (num_at listed i ≡ n)) ⊎ Among n ns
-      all' n h z (At i) e =
+      all' n h z (Some i) e =
           let r = table_found m n i e in
           inl (i, r.0, spot_fill i (place_at listed i) (spot_at i r.0) (omega (arith, r.1, r.2)) (rw r.2 h) ∙ r.2)
-      all' n h z Nothing e = inr (rest n h e (omega (arith, unlisted x n h e)))
+      all' n h z None e = inr (rest n h e (omega (arith, unlisted x n h e)))
 
-      apart' : (ys : List ℕ) → Each (λ (n : ℕ). (0 < count n disk.cells) × (table_find m n ≡ Nothing)) ys
+      apart' : (ys : List ℕ) → Each (λ (n : ℕ). (0 < count n disk.cells) × (table_find m n ≡ None)) ys
           → Each (λ (n : ℕ). (j : ℕ) → j < 64 → num_at listed j ≢ n) ys
       apart' [] q = tt
       apart' (n ∷ ys) q = (
@@ -371,7 +370,7 @@ module _ {l d : ℕ} {m : List ℕ} {b : Book} {disk : Disk} (x : Down l d m b d
       (each_map P (λ (n : ℕ). (0 < count n disk.cells) × (0 < (find (commits_in (read_log m l)) n).time)) ns
       (λ n f. (omega (arith, f.1, counts n), (alone_commit x n f.0).1)) each_waits)
       (begun ns
-      (each_map P (λ (n : ℕ). (0 < count n disk.cells) × (table_find m n ≡ Nothing)) ns
+      (each_map P (λ (n : ℕ). (0 < count n disk.cells) × (table_find m n ≡ None)) ns
       (λ n f. (omega (arith, f.1, counts n), (alone_commit x n f.0).0)) each_waits)
       (λ n h e f. waiting_all c p slots n (commit_alone x n e f) (omega (arith, counts n))))
     where

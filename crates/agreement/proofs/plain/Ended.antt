@@ -1,10 +1,10 @@
 -- Aborted and cut_off work, in plain words: its number is neither open nor committed, and no turn of the book commits
 -- such a number before it is begun anew; then no row of it is left, by what begin answers.
+use Rattle.std.specs.Prelude.{None}
 use Prim.Native.Nat.{ℕ}
 use mathlib.Core.Bool.{Bool, true, false, false≢true}
 use mathlib.Core.List.{List, [], ◌∷◌, ◌++◌, append_assoc}
 use mathlib.Core.Logic.{◌⊎◌, inl, inr}
-use mathlib.Core.Option.{none}
 use mathlib.Core.Path.{◌≡◌, refl, sym, ap, ◌∙◌, subst}
 use lib.Dec.{eqb}
 use borrow.Author.Tests.{eqb-true, ne_eqb}
@@ -25,7 +25,7 @@ use Rattle.agreement.proofs.plain.Reads.{next_fits}
 
 pub record Idle (n : ℕ) (b : Book) : Type 0 where
   pub shut : is_open b.opened n ≡ false
-  pub uncommitted : time_of b.rows n ≡ none
+  pub uncommitted : time_of b.rows n ≡ None
 
 shut_less : (os : List Opened) (m n : ℕ) → is_open os n ≡ false → is_open (close os m) n ≡ false
 shut_less os m n e = go (is_open (close os m) n) refl
@@ -61,12 +61,12 @@ stays_idle {l} {d} es fs n t r i q a =
     none_among (book_at l d (es ++ fs)).rows n t
     (since es fs r (begins n) (λ b hs. Idle n b) (idle_turn n) q i).uncommitted a
 
-aborted_idle : (b : Book) (n : ℕ) (o : Observation) → o.refusal ≡ 0 → time_of b.rows n ≡ none
+aborted_idle : (b : Book) (n : ℕ) (o : Observation) → o.refusal ≡ 0 → time_of b.rows n ≡ None
     → Idle n (feed b (call (abort n)) o)
 unfolding feed entered
 aborted_idle b n o z e = rw z (record { shut = close_shuts b.opened n; uncommitted = e })
 
-cut_idle : (b : Book) (n : ℕ) (o : Observation) → time_of (fall b).rows n ≡ none → Idle n (feed b cut o)
+cut_idle : (b : Book) (n : ℕ) (o : Observation) → time_of (fall b).rows n ≡ None → Idle n (feed b cut o)
 unfolding feed fall is_open
 cut_idle b n o e = record { shut = refl; uncommitted = e }
 

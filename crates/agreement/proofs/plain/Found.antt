@@ -1,11 +1,11 @@
 -- What openings find, in plain words: rows that are stored stay, each turn of the book adds behind them, and no number
 -- with a stored row commits any more once all numbers are closed.
+use Rattle.std.specs.Prelude.{Option, None, Some}
 use Prim.Native.Nat.{ℕ, zero, suc, ◌≤◌}
 use native.Mathlib.Omega.{arith}
 use mathlib.Core.Bool.{Bool, true, false, cond, false≢true}
 use mathlib.Core.List.{List, [], ◌∷◌, ◌++◌, append_assoc, append-nil}
 use mathlib.Core.Logic.{inl, inr}
-use mathlib.Core.Option.{Option, none, some}
 use mathlib.Core.Path.{◌≡◌, refl, sym, ap, ◌∙◌, subst}
 use lib.ListN.{length, take, length-take, length-append}
 use borrow.Author.Tests.{ne_eqb}
@@ -98,7 +98,7 @@ foreign_append R [] ss h g = g
 foreign_append R (version v ∷ rs) ss h g = foreign_append R rs ss h g
 foreign_append R (committed n t ∷ rs) ss h g = (h.0, foreign_append R rs ss h.1 g)
 
-foreign_none : (R rs : List Row) (n : ℕ) → has_row R n ≡ true → Foreign R rs → time_of rs n ≡ none
+foreign_none : (R rs : List Row) (n : ℕ) → has_row R n ≡ true → Foreign R rs → time_of rs n ≡ None
 unfolding time_of
 foreign_none R [] n h f = refl
 foreign_none R (version v ∷ rs) n h f = foreign_none R rs n h f
@@ -109,8 +109,8 @@ foreign_time : (R rs : List Row) (n : ℕ) → has_row R n ≡ true → Foreign 
 foreign_time R rs n h f = go (time_of R n) refl
   where
     go : (t : Option ℕ) → time_of R n ≡ t → time_of (R ++ rs) n ≡ t
-    go none e = time_none R rs n e ∙ foreign_none R rs n h f
-    go (some t) e = time_front R rs n t e
+    go None e = time_none R rs n e ∙ foreign_none R rs n h f
+    go (Some t) e = time_front R rs n t e
 
 record Shown (R : List Row) (b : Book) : Type 0 where
   rest : List Row

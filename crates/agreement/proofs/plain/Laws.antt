@@ -1,11 +1,11 @@
 -- Laws of the book's rows: what stays of them where rows are added or go. All by induction over the rows.
+use Rattle.std.specs.Prelude.{Option, None, Some}
 use Prim.Native.Nat.{ℕ, zero, suc, ◌≤◌}
 use native.Mathlib.Nat.{le_of_suc-le-suc}
 use native.Mathlib.Omega.{arith}
 use mathlib.Core.Bool.{or-true, Bool, true, false, cond, ◌||◌, false≢true}
 use mathlib.Core.List.{List, [], ◌∷◌, ◌++◌}
 use mathlib.Core.Logic.{◌⊎◌, inl, inr, ◌≢◌}
-use mathlib.Core.Option.{Option, none, some}
 use mathlib.Core.Path.{◌≡◌, refl, sym, ap, ◌∙◌}
 use lib.Dec.{eqb}
 use lib.ListN.{length, take}
@@ -48,7 +48,7 @@ among_take x (suc n) (y ∷ xs) (inr h) = inr (among_take x n xs h)
 
 -- ---- Bool and Option
 
-pub none_some : {t : ℕ} → none ≡ some t → ⊥
+pub none_some : {t : ℕ} → None ≡ Some t → ⊥
 none_some e = let z : ◌≡◌ {A = ℕ} 0 1 = cc in omega arith
 
 pub neither_true : (a b : Bool) → (a || b) ≡ false → (a ≡ false) × (b ≡ false)
@@ -118,61 +118,61 @@ transaction_row x (committed k u ∷ rs) (inr h) = inr (transaction_row x rs h)
 
 -- ---- the time of a number
 
-pub time_among : (rs : List Row) (n t : ℕ) → time_of rs n ≡ some t → Among (committed n t) rs
+pub time_among : (rs : List Row) (n t : ℕ) → time_of rs n ≡ Some t → Among (committed n t) rs
 unfolding time_of
 time_among [] n t e = absurd (none_some e)
 time_among (version v ∷ rs) n t e = inr (time_among rs n t e)
 time_among (committed k u ∷ rs) n t e = go (eqb k n) refl e (time_among rs n t)
   where
-    go : (b : Bool) → eqb k n ≡ b → cond b (some u) (time_of rs n) ≡ some t
-        → (time_of rs n ≡ some t → Among (committed n t) rs) → Among (committed n t) (committed k u ∷ rs)
+    go : (b : Bool) → eqb k n ≡ b → cond b (Some u) (time_of rs n) ≡ Some t
+        → (time_of rs n ≡ Some t → Among (committed n t) rs) → Among (committed n t) (committed k u ∷ rs)
     go true q e ih = let z : k ≡ n = eqb-true k n q in inl cc
     go false q e ih = inr (ih e)
 
-pub time_front : (rs ss : List Row) (n t : ℕ) → time_of rs n ≡ some t → time_of (rs ++ ss) n ≡ some t
+pub time_front : (rs ss : List Row) (n t : ℕ) → time_of rs n ≡ Some t → time_of (rs ++ ss) n ≡ Some t
 unfolding time_of
 time_front [] ss n t e = absurd (none_some e)
 time_front (version v ∷ rs) ss n t e = time_front rs ss n t e
 time_front (committed k u ∷ rs) ss n t e = go (eqb k n) e (time_front rs ss n t)
   where
-    go : (b : Bool) → cond b (some u) (time_of rs n) ≡ some t → (time_of rs n ≡ some t → time_of (rs ++ ss) n ≡ some t)
-        → cond b (some u) (time_of (rs ++ ss) n) ≡ some t
+    go : (b : Bool) → cond b (Some u) (time_of rs n) ≡ Some t → (time_of rs n ≡ Some t → time_of (rs ++ ss) n ≡ Some t)
+        → cond b (Some u) (time_of (rs ++ ss) n) ≡ Some t
     go true e ih = e
     go false e ih = ih e
 
-pub time_none : (rs ss : List Row) (n : ℕ) → time_of rs n ≡ none → time_of (rs ++ ss) n ≡ time_of ss n
+pub time_none : (rs ss : List Row) (n : ℕ) → time_of rs n ≡ None → time_of (rs ++ ss) n ≡ time_of ss n
 unfolding time_of
 time_none [] ss n e = refl
 time_none (version v ∷ rs) ss n e = time_none rs ss n e
 time_none (committed k u ∷ rs) ss n e = go (eqb k n) e (time_none rs ss n)
   where
-    go : (b : Bool) → cond b (some u) (time_of rs n) ≡ none
-        → (time_of rs n ≡ none → time_of (rs ++ ss) n ≡ time_of ss n)
-        → cond b (some u) (time_of (rs ++ ss) n) ≡ time_of ss n
+    go : (b : Bool) → cond b (Some u) (time_of rs n) ≡ None
+        → (time_of rs n ≡ None → time_of (rs ++ ss) n ≡ time_of ss n)
+        → cond b (Some u) (time_of (rs ++ ss) n) ≡ time_of ss n
     go true e ih = absurd (none_some (sym e))
     go false e ih = ih e
 
-pub time_left : (rs ss : List Row) (n : ℕ) → time_of (rs ++ ss) n ≡ none → time_of rs n ≡ none
+pub time_left : (rs ss : List Row) (n : ℕ) → time_of (rs ++ ss) n ≡ None → time_of rs n ≡ None
 time_left rs ss n e = go (time_of rs n) refl
   where
-    go : (x : Option ℕ) → time_of rs n ≡ x → x ≡ none
-    go none q = refl
-    go (some t) q = absurd (none_some (sym e ∙ time_front rs ss n t q))
+    go : (x : Option ℕ) → time_of rs n ≡ x → x ≡ None
+    go None q = refl
+    go (Some t) q = absurd (none_some (sym e ∙ time_front rs ss n t q))
 
 -- no commit among the rows, none among a beginning of them
-pub none_take : (i : ℕ) (rs : List Row) (n : ℕ) → time_of rs n ≡ none → time_of (take i rs) n ≡ none
+pub none_take : (i : ℕ) (rs : List Row) (n : ℕ) → time_of rs n ≡ None → time_of (take i rs) n ≡ None
 unfolding time_of
 none_take zero rs n e = refl
 none_take (suc i) [] n e = refl
 none_take (suc i) (version v ∷ rs) n e = none_take i rs n e
 none_take (suc i) (committed k u ∷ rs) n e = go (eqb k n) e (none_take i rs n)
   where
-    go : (b : Bool) → cond b (some u) (time_of rs n) ≡ none → (time_of rs n ≡ none → time_of (take i rs) n ≡ none)
-        → cond b (some u) (time_of (take i rs) n) ≡ none
+    go : (b : Bool) → cond b (Some u) (time_of rs n) ≡ None → (time_of rs n ≡ None → time_of (take i rs) n ≡ None)
+        → cond b (Some u) (time_of (take i rs) n) ≡ None
     go true e ih = absurd (none_some (sym e))
     go false e ih = ih e
 
-pub none_among : (rs : List Row) (n t : ℕ) → time_of rs n ≡ none → Among (committed n t) rs → ⊥
+pub none_among : (rs : List Row) (n t : ℕ) → time_of rs n ≡ None → Among (committed n t) rs → ⊥
 unfolding time_of
 none_among [] n t e h = h
 none_among (version v ∷ rs) n t e (inl q) = let z : ◌≡◌ {A = ℕ} 0 1 = cc in omega arith
@@ -180,7 +180,7 @@ none_among (version v ∷ rs) n t e (inr h) = none_among rs n t e h
 none_among (committed k u ∷ rs) n t e (inl q) = let z : n ≡ k = cc in none_some (sym (rw (eq-eqb k n (sym z)) at e))
 none_among (committed k u ∷ rs) n t e (inr h) = go (eqb k n) e (λ q. none_among rs n t q h)
   where
-    go : (b : Bool) → cond b (some u) (time_of rs n) ≡ none → (time_of rs n ≡ none → ⊥) → ⊥
+    go : (b : Bool) → cond b (Some u) (time_of rs n) ≡ None → (time_of rs n ≡ None → ⊥) → ⊥
     go true e ih = none_some (sym e)
     go false e ih = ih e
 
@@ -189,13 +189,13 @@ pub time_other : (rs : List Row) (n t k : ℕ) → k ≢ n → time_of (rs ++ (c
 unfolding time_of
 time_other [] n t k h = rw (ne_eqb n k (λ e. h (sym e)))
 time_other (version v ∷ rs) n t k h = time_other rs n t k h
-time_other (committed m u ∷ rs) n t k h = ap (λ (x : Option ℕ). cond (eqb m k) (some u) x) (time_other rs n t k h)
+time_other (committed m u ∷ rs) n t k h = ap (λ (x : Option ℕ). cond (eqb m k) (Some u) x) (time_other rs n t k h)
 
 pub time_version : (rs : List Row) (v : Version) (k : ℕ) → time_of (rs ++ (version v ∷ [])) k ≡ time_of rs k
 unfolding time_of
 time_version [] v k = refl
 time_version (version w ∷ rs) v k = time_version rs v k
-time_version (committed m u ∷ rs) v k = ap (λ (x : Option ℕ). cond (eqb m k) (some u) x) (time_version rs v k)
+time_version (committed m u ∷ rs) v k = ap (λ (x : Option ℕ). cond (eqb m k) (Some u) x) (time_version rs v k)
 
 -- ---- rows of a number
 
@@ -207,7 +207,7 @@ rowless_left (version v ∷ rs) ss n e =
 rowless_left (committed k t ∷ rs) ss n e =
     let q = neither_true (eqb k n) (has_row (rs ++ ss) n) e in rw q.0 (rowless_left rs ss n q.1)
 
-pub rowless_none : (rs : List Row) (n : ℕ) → has_row rs n ≡ false → time_of rs n ≡ none
+pub rowless_none : (rs : List Row) (n : ℕ) → has_row rs n ≡ false → time_of rs n ≡ None
 unfolding has_row time_of
 rowless_none [] n e = refl
 rowless_none (version v ∷ rs) n e = rowless_none rs n (neither_true (eqb v.number n) (has_row rs n) e).1

@@ -1,11 +1,11 @@
 -- What reads and lists give, in plain words: by the book's steps each is a version row with a commit row, or the
 -- reader's own, and each row of the book was brought by an accepted call.
+use Rattle.std.specs.Prelude.{Option, None, Some}
 use Prim.Native.Nat.{ℕ, zero, suc, ◌≤◌, ◌<◌}
 use native.Mathlib.Omega.{arith}
 use mathlib.Core.Bool.{Bool, true, false, cond, ◌&&◌, ◌||◌, false≢true}
 use mathlib.Core.List.{List, [], ◌∷◌, ◌++◌}
 use mathlib.Core.Logic.{◌⊎◌, inl, inr}
-use mathlib.Core.Option.{Option, none, some}
 use mathlib.Core.Path.{◌≡◌, refl, ◌∙◌, subst}
 use lib.Dec.{eqb, leb, ltb}
 use borrow.Author.Tests.{eqb-true, ltb-true, ltb-false}
@@ -58,7 +58,7 @@ module _ {l d : ℕ} {es : List Event} (r : Run l d es) where
 
   committed_by : (v : Version) (key kind : ℕ) (value : List ℕ) (t : ℕ) → v.key ≡ key → v.kind ≡ kind → v.value ≡ value
       → Among v (versions (book_at l d es).rows)
-      → time_of (book_at l d es).rows v.number ≡ some t → Committed l d es key kind value t
+      → time_of (book_at l d es).rows v.number ≡ Some t → Committed l d es key kind value t
   committed_by v key kind value t e f g a z =
       let h : Among (committed v.number t) (book_at l d es).rows = time_among (book_at l d es).rows v.number t z in
       record {
@@ -78,17 +78,17 @@ pub record From (rs : List Row) (key limit : ℕ) (vs : List Version) (x : Dated
   keyed : which.key ≡ key
   kinded : which.kind ≡ x.kind
   valued : which.value ≡ x.value
-  timed : time_of rs which.number ≡ some x.time
+  timed : time_of rs which.number ≡ Some x.time
   pub below : x.time < limit
 
 best_from : (rs : List Row) (key limit : ℕ) (vs : List Version) (best : Option Dated) (x : Dated)
-    → best_below rs key limit best vs ≡ some x → (best ≡ some x) ⊎ From rs key limit vs x
+    → best_below rs key limit best vs ≡ Some x → (best ≡ Some x) ⊎ From rs key limit vs x
 unfolding best_below
 best_from rs key limit [] best x e = inl e
 best_from rs key limit (v ∷ vs) best x e = go (best_from rs key limit vs _ x e)
   where
-    mine : (t : ℕ) → v.key ≡ key → time_of rs v.number ≡ some t → t < limit
-        → some (record { time = t; kind = v.kind; value = v.value }) ≡ some x → From rs key limit (v ∷ vs) x
+    mine : (t : ℕ) → v.key ≡ key → time_of rs v.number ≡ Some t → t < limit
+        → Some (record { time = t; kind = v.kind; value = v.value }) ≡ Some x → From rs key limit (v ∷ vs) x
     mine t a b c e = record {
       which = v;
       among = inl refl;
@@ -99,35 +99,35 @@ best_from rs key limit (v ∷ vs) best x e = go (best_from rs key limit vs _ x e
       below = let z : t ≡ x.time = cc in omega arith;
     }
 
-    later : (t : ℕ) → v.key ≡ key → time_of rs v.number ≡ some t → (y : Option Dated)
-        → later_of y limit (record { time = t; kind = v.kind; value = v.value }) ≡ some x
-        → (y ≡ some x) ⊎ From rs key limit (v ∷ vs) x
-    later t a b none e = by (ltb t limit) refl e
+    later : (t : ℕ) → v.key ≡ key → time_of rs v.number ≡ Some t → (y : Option Dated)
+        → later_of y limit (record { time = t; kind = v.kind; value = v.value }) ≡ Some x
+        → (y ≡ Some x) ⊎ From rs key limit (v ∷ vs) x
+    later t a b None e = by (ltb t limit) refl e
       where
-        by : (c : Bool) → ltb t limit ≡ c → cond c (some (record { time = t; kind = v.kind; value = v.value })) none
-            ≡ some x → (none ≡ some x) ⊎ From rs key limit (v ∷ vs) x
+        by : (c : Bool) → ltb t limit ≡ c → cond c (Some (record { time = t; kind = v.kind; value = v.value })) None
+            ≡ Some x → (None ≡ Some x) ⊎ From rs key limit (v ∷ vs) x
         by true q e = inr (mine t a b (ltb-true t limit q) e)
         by false q e = inl e
-    later t a b (some y) e = by (ltb t limit && leb y.time t) refl e
+    later t a b (Some y) e = by (ltb t limit && leb y.time t) refl e
       where
         by : (c : Bool) → (ltb t limit && leb y.time t) ≡ c
-            → cond c (some (record { time = t; kind = v.kind; value = v.value })) (some y) ≡ some x
-            → (some y ≡ some x) ⊎ From rs key limit (v ∷ vs) x
+            → cond c (Some (record { time = t; kind = v.kind; value = v.value })) (Some y) ≡ Some x
+            → (Some y ≡ Some x) ⊎ From rs key limit (v ∷ vs) x
         by true q e = inr (mine t a b (ltb-true t limit (and_0 (ltb t limit) (leb y.time t) q)) e)
         by false q e = inl e
 
-    dated : v.key ≡ key → (z : Option ℕ) → time_of rs v.number ≡ z → dated_of z best limit v ≡ some x
-        → (best ≡ some x) ⊎ From rs key limit (v ∷ vs) x
-    dated a none b e = inl e
-    dated a (some t) b e = later t a b best e
+    dated : v.key ≡ key → (z : Option ℕ) → time_of rs v.number ≡ z → dated_of z best limit v ≡ Some x
+        → (best ≡ Some x) ⊎ From rs key limit (v ∷ vs) x
+    dated a None b e = inl e
+    dated a (Some t) b e = later t a b best e
 
-    keyed? : (c : Bool) → eqb v.key key ≡ c → cond c (dated_of (time_of rs v.number) best limit v) best ≡ some x
-        → (best ≡ some x) ⊎ From rs key limit (v ∷ vs) x
+    keyed? : (c : Bool) → eqb v.key key ≡ c → cond c (dated_of (time_of rs v.number) best limit v) best ≡ Some x
+        → (best ≡ Some x) ⊎ From rs key limit (v ∷ vs) x
     keyed? true a e = dated (eqb-true v.key key a) (time_of rs v.number) refl e
     keyed? false a e = inl e
 
-    go : (cond (eqb v.key key) (dated_of (time_of rs v.number) best limit v) best ≡ some x) ⊎ From rs key limit vs x
-        → (best ≡ some x) ⊎ From rs key limit (v ∷ vs) x
+    go : (cond (eqb v.key key) (dated_of (time_of rs v.number) best limit v) best ≡ Some x) ⊎ From rs key limit vs x
+        → (best ≡ Some x) ⊎ From rs key limit (v ∷ vs) x
     go (inl e) = keyed? (eqb v.key key) refl e
     go (inr f) =
         inr (record {
@@ -140,12 +140,12 @@ best_from rs key limit (v ∷ vs) best x e = go (best_from rs key limit vs _ x e
           below = f.below;
         })
 
-pub last_from : (rs : List Row) (key limit : ℕ) (x : Dated) → last_below rs key limit ≡ some x
+pub last_from : (rs : List Row) (key limit : ℕ) (x : Dated) → last_below rs key limit ≡ Some x
     → From rs key limit (versions rs) x
 unfolding last_below
-last_from rs key limit x e = go (best_from rs key limit (versions rs) none x e)
+last_from rs key limit x e = go (best_from rs key limit (versions rs) None x e)
   where
-    go : (none ≡ some x) ⊎ From rs key limit (versions rs) x → From rs key limit (versions rs) x
+    go : (None ≡ Some x) ⊎ From rs key limit (versions rs) x → From rs key limit (versions rs) x
     go (inl e) = let z : ◌≡◌ {A = ℕ} 0 1 = cc in absurd (omega arith)
     go (inr f) = f
 
@@ -158,8 +158,8 @@ lines_from rs key t1 (suc k) limit x a = go (last_below rs key limit) refl a (λ
     go : (z : Option Dated) → last_below rs key limit ≡ z → Among x (lines_at rs key t1 (lines_below rs key t1 k) z)
         → ((y : ℕ) → Among x (lines_below rs key t1 k y) → (t1 ≤ x.time) × From rs key y (versions rs) x)
         → (t1 ≤ x.time) × From rs key limit (versions rs) x
-    go none e a ih = absurd a
-    go (some y) e a ih = by (ltb y.time t1) refl a
+    go None e a ih = absurd a
+    go (Some y) e a ih = by (ltb y.time t1) refl a
       where
         source : From rs key limit (versions rs) y
         source = last_from rs key limit y e
@@ -204,11 +204,11 @@ record Mine (rs : List Row) (n key : ℕ) (vs : List Version) (s : Strip) : Type
   among : Among which vs
   keyed : which.key ≡ key
   strip : s ≡ strip_of which.kind which.value
-  whose : (which.number ≡ n) ⊎ ((t : ℕ) × (time_of rs which.number ≡ some t))
+  whose : (which.number ≡ n) ⊎ ((t : ℕ) × (time_of rs which.number ≡ Some t))
 
-some_time : (z : Option ℕ) → is_some z ≡ true → (t : ℕ) × (z ≡ some t)
-some_time none e = absurd (false≢true e)
-some_time (some t) e = (t, refl)
+some_time : (z : Option ℕ) → is_some z ≡ true → (t : ℕ) × (z ≡ Some t)
+some_time None e = absurd (false≢true e)
+some_time (Some t) e = (t, refl)
 
 current_from : (rs : List Row) (n key : ℕ) (vs : List Version) (before : Strip)
     → (current_of rs n key before vs ≡ before) ⊎ Mine rs n key vs (current_of rs n key before vs)
@@ -218,7 +218,7 @@ current_from rs n key (v ∷ vs) before =
     go (eqb v.key key && (eqb v.number n || is_some (time_of rs v.number))) refl (λ y. current_from rs n key vs y)
   where
     whose' : (eqb v.number n ≡ true) ⊎ (is_some (time_of rs v.number) ≡ true)
-        → (v.number ≡ n) ⊎ ((t : ℕ) × (time_of rs v.number ≡ some t))
+        → (v.number ≡ n) ⊎ ((t : ℕ) × (time_of rs v.number ≡ Some t))
     whose' (inl q) = inl (eqb-true v.number n q)
     whose' (inr q) = inr (some_time (time_of rs v.number) q)
 
@@ -269,8 +269,8 @@ clean_as_of l d es key t r a =
         → ((seen_at l d es (call (as_of key t))).strip ≡ missing)
         ⊎ ((kind : ℕ) × (value : List ℕ) × (u : ℕ) × (u ≤ t)
         × ((seen_at l d es (call (as_of key t))).strip ≡ strip_of kind value) × Committed l d es key kind value u)
-    go none e s = inl s
-    go (some x) e s =
+    go None e s = inl s
+    go (Some x) e s =
         let f = last_from (book_at l d es).rows key (suc t) x e in
         inr (
           x.kind,
@@ -314,7 +314,7 @@ clean_current l d es n key r a = go (current_from (book_at l d es).rows n key (v
     run = front_run es (call (current_read n key) ∷ []) r
 
     whose' : (v : Version) → Among v (versions rs) → v.key ≡ key
-        → (v.number ≡ n) ⊎ ((t : ℕ) × (time_of rs v.number ≡ some t))
+        → (v.number ≡ n) ⊎ ((t : ℕ) × (time_of rs v.number ≡ Some t))
         → Written l d es (record { number = n; key = key; kind = v.kind; value = v.value })
         ⊎ ((u : ℕ) × Committed l d es key v.kind v.value u)
     whose' v h e (inl q) = inl (rw q at (written_by run v key v.kind v.value e refl refl h))

@@ -1,17 +1,15 @@
 -- A run event by event: what each event does to the book (`Turn`), by `keeps`, and what holds at every moment if each
 -- turn keeps it (`along`). An accepted call names an open number because an active place's number is open in the book.
+use Rattle.std.specs.Prelude.{Some, Option}
 use Prim.Native.Nat.{ℕ, zero, suc, ◌<◌}
 use native.Mathlib.Omega.{arith}
 use mathlib.Core.Bool.{Bool, true, false, cond, false≢true}
 use mathlib.Core.List.{List, [], ◌∷◌, ◌++◌, append_assoc, append-nil}
-use mathlib.Core.Option.{some}
 use mathlib.Core.Path.{◌≡◌, refl, sym, subst}
 use lib.ListN.{length}
 use borrow.Author.Tests.{eq-eqb}
 use Rattle.layout.specs.Journal.{Record}
 use Rattle.fields.proofs.Choose.{and_0, and_1}
-use Rattle.store.specs.declared.Found.{Found}
-use Rattle.store.specs.declared.Found.TheVariants.{At}
 use Rattle.store.specs.declared.State.{State}
 use Rattle.store.specs.Answer.{Outcome, answer_number}
 use Rattle.store.specs.Places.{find_active}
@@ -37,12 +35,12 @@ use Rattle.agreement.proofs.plain.Laws.{none_some, neither_true}
 
 module _ {l d : ℕ} {m c : List ℕ} {s : State} {b : Book} {disk : Disk} {closed : List (List Record)}
     {tail : List Record} (u : Up l d m c s b disk closed tail) where
-  active_open : (n i : ℕ) → find_active s.places n ≡ At i → is_open b.opened n ≡ true
+  active_open : (n i : ℕ) → find_active s.places n ≡ Some i → is_open b.opened n ≡ true
   active_open n i f =
       let a = active_found u.living n i f in
       rw a.2 at (u.opens.known i a.0 (omega (arith, a.1, a.2)) a.3)
 
-  named_open : (x : Call) {o : Outcome} → Way m c s x o → (n : ℕ) → named x ≡ some n → answer_number o.answer ≡ 0
+  named_open : (x : Call) {o : Outcome} → Way m c s x o → (n : ℕ) → named x ≡ Some n → answer_number o.answer ≡ 0
       → is_open b.opened n ≡ true
   unfolding answer_number
   named_open x (refused y r w) n e z = absurd (omega (arith, positive r))
@@ -51,13 +49,13 @@ module _ {l d : ℕ} {m c : List ℕ} {s : State} {b : Book} {disk : Disk} {clos
   named_open x (erases a key i p w) n e z = let q : a ≡ n = cc in rw q at (active_open a i w)
   named_open x (looks y a v w r p q g) n e z = looked y r p e
     where
-      looked : (y : Call) → is_reading y ≡ true → Passed (asks m c s y) → named y ≡ some n → is_open b.opened n ≡ true
+      looked : (y : Call) → is_reading y ≡ true → Passed (asks m c s y) → named y ≡ Some n → is_open b.opened n ≡ true
       looked (begin k) r p e = absurd (none_some e)
       looked (write a key v) r p e = absurd (false≢true r)
       looked (erase a key) r p e = absurd (false≢true r)
       looked (current_read a key) r p e =
           let q : a ≡ n = cc in
-          found (λ (f : Found). find_active s.places a ≡ f → is_open b.opened n ≡ true) (find_active s.places a) p.1.1.0
+          found (λ (f : Option ℕ). find_active s.places a ≡ f → is_open b.opened n ≡ true) (find_active s.places a) p.1.1.0
           (λ i g h. rw q at (active_open a i h)) refl
       looked (commit a k) r p e = absurd (false≢true r)
       looked (abort a) r p e = absurd (false≢true r)
@@ -76,7 +74,7 @@ module _ {l d : ℕ} {m c : List ℕ} {s : State} {b : Book} {disk : Disk} {clos
 abbrev pub Knows : Book → Event → Observation → Type 0
 Knows b (opening c) o = Unit {0}
 Knows b cut o = Unit {0}
-Knows b (call k) o = (n : ℕ) → named k ≡ some n → o.refusal ≡ 0 → is_open b.opened n ≡ true
+Knows b (call k) o = (n : ℕ) → named k ≡ Some n → o.refusal ≡ 0 → is_open b.opened n ≡ true
 
 pub knows : (l d : ℕ) (w : World) (b : Book) (e : Event) → Inv l d w b → allowed l d w e ≡ true
     → Knows b e (step l d w e).seen
@@ -106,7 +104,7 @@ seen_time n zero h = absurd (omega arith)
 seen_time n (suc t) h = refl
 
 call_turn : (b : Book) (x : Call) (o : Observation) → o.refusal ≡ 0 → Answers b x o
-    → ((n : ℕ) → named x ≡ some n → is_open b.opened n ≡ true)
+    → ((n : ℕ) → named x ≡ Some n → is_open b.opened n ≡ true)
     → Turn b (call x) o (entered b x o.result o.changed) (row_seen x o.result)
 unfolding entered
 call_turn b (begin k) o z a n = opens o.result k (rw (z, eq-eqb o.result o.result refl)) a.1

@@ -1,12 +1,12 @@
 -- From one opening to the next, in plain words: until the first cut the rows seen follow those found; from then on
 -- nothing but cuts and refused openings comes. Every commit in the book has a version before it, so an opening shows
 -- its time.
+use Rattle.std.specs.Prelude.{Some}
 use Prim.Native.Nat.{ℕ, zero, suc, ◌≤◌}
 use native.Mathlib.Omega.{arith}
 use mathlib.Core.Bool.{true, false, false≢true}
 use mathlib.Core.List.{List, [], ◌∷◌, ◌++◌, append_assoc, append-nil}
 use mathlib.Core.Logic.{◌⊎◌, inl, inr, ◌≢◌}
-use mathlib.Core.Option.{some}
 use mathlib.Core.Path.{◌≡◌, refl, sym, ap, ◌∙◌, subst}
 use lib.Dec.{eqb}
 use lib.ListN.{length, take, length-take}
@@ -262,7 +262,7 @@ among_sight rs [] s a = absurd a
 among_sight rs (w ∷ vs) s (inl e) = (w, e)
 among_sight rs (w ∷ vs) s (inr a) = among_sight rs vs s a
 
-shows : (rs : List Row) (s : Sight) (t : ℕ) → Among s (sights rs (versions rs)) → s.time ≡ some t
+shows : (rs : List Row) (s : Sight) (t : ℕ) → Among s (sights rs (versions rs)) → s.time ≡ Some t
     → (n : ℕ) × Among (record { number = n; time = t }) (transactions rs)
 unfolding sight
 shows rs s t a e =
@@ -270,14 +270,14 @@ shows rs s t a e =
     (v.number, row_transaction v.number t rs (time_among rs v.number t (sym (ap (λ (x : Sight). x.time) q) ∙ e)))
 
 shown : (rs : List Row) → Rooted [] rs → Once rs → (x : Transaction) → Among x (transactions rs)
-    → (s : Sight) × Among s (sights rs (versions rs)) × (s.time ≡ some x.time)
+    → (s : Sight) × Among s (sights rs (versions rs)) × (s.time ≡ Some x.time)
 unfolding sight
 shown rs r o x a =
     let c : Among (committed x.number x.time) rs = transaction_row x rs a in
     go (rooted_each [] rs x.number x.time r c) (once_time rs x.number x.time o c)
   where
-    go : By [] x.number ⊎ By (versions rs) x.number → time_of rs x.number ≡ some x.time
-        → (s : Sight) × Among s (sights rs (versions rs)) × (s.time ≡ some x.time)
+    go : By [] x.number ⊎ By (versions rs) x.number → time_of rs x.number ≡ Some x.time
+        → (s : Sight) × Among s (sights rs (versions rs)) × (s.time ≡ Some x.time)
     go (inl (v, h, e)) t = absurd h
     go (inr (v, h, e)) t = (sight rs v, sight_among rs (versions rs) v h, ap (time_of rs) e ∙ t)
 

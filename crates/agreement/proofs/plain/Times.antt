@@ -1,11 +1,11 @@
 -- Numbers and times in plain words: each turn of the book keeps that times rise, that a number commits once,
 -- and that an open number has no commit.
+use Rattle.std.specs.Prelude.{None, Some}
 use Prim.Native.Nat.{ℕ, zero, suc, ◌<◌}
 use native.Mathlib.Omega.{arith}
 use mathlib.Core.Bool.{Bool, true, false, cond, false≢true}
 use mathlib.Core.List.{List, [], ◌∷◌, ◌++◌, append_assoc, append-nil}
 use mathlib.Core.Logic.{◌⊎◌, inl, inr, ◌≢◌}
-use mathlib.Core.Option.{none, some}
 use mathlib.Core.Path.{◌≡◌, refl, sym, ap, ◌∙◌, subst}
 use lib.Dec.{eqb}
 use lib.ListN.{take}
@@ -131,7 +131,7 @@ rising_answers l d es fs r n =
 abbrev pub Once : List Row → Type 0
 Once [] = Unit {0}
 Once (version v ∷ rs) = Once rs
-Once (committed n t ∷ rs) = (time_of rs n ≡ none) × Once rs
+Once (committed n t ∷ rs) = (time_of rs n ≡ None) × Once rs
 
 pub once_take : (i : ℕ) (rs : List Row) → Once rs → Once (take i rs)
 once_take zero rs h = tt
@@ -144,18 +144,18 @@ once_version [] v h = tt
 once_version (version w ∷ rs) v h = once_version rs v h
 once_version (committed n t ∷ rs) v h = (time_version rs v n ∙ h.0, once_version rs v h.1)
 
-once_commit : (rs : List Row) (n t : ℕ) → time_of rs n ≡ none → Once rs → Once (rs ++ (committed n t ∷ []))
+once_commit : (rs : List Row) (n t : ℕ) → time_of rs n ≡ None → Once rs → Once (rs ++ (committed n t ∷ []))
 unfolding time_of
 once_commit [] n t e h = (refl, tt)
 once_commit (version w ∷ rs) n t e h = once_commit rs n t e h
 once_commit (committed k u ∷ rs) n t e h = go (eqb k n) refl e (λ q. once_commit rs n t q h.1)
   where
-    go : (b : Bool) → eqb k n ≡ b → cond b (some u) (time_of rs n) ≡ none
-        → (time_of rs n ≡ none → Once (rs ++ (committed n t ∷ []))) → Once (committed k u ∷ rs ++ (committed n t ∷ []))
+    go : (b : Bool) → eqb k n ≡ b → cond b (Some u) (time_of rs n) ≡ None
+        → (time_of rs n ≡ None → Once (rs ++ (committed n t ∷ []))) → Once (committed k u ∷ rs ++ (committed n t ∷ []))
     go true q e ih = absurd (none_some (sym e))
     go false q e ih = (time_other rs n t k (λ z. false≢true (sym q ∙ eq-eqb k n z)) ∙ h.0, ih e)
 
-pub once_time : (rs : List Row) (n t : ℕ) → Once rs → Among (committed n t) rs → time_of rs n ≡ some t
+pub once_time : (rs : List Row) (n t : ℕ) → Once rs → Among (committed n t) rs → time_of rs n ≡ Some t
 unfolding time_of
 once_time [] n t h a = absurd a
 once_time (version v ∷ rs) n t h (inl e) = let z : ◌≡◌ {A = ℕ} 0 1 = cc in absurd (omega arith)
@@ -163,13 +163,13 @@ once_time (version v ∷ rs) n t h (inr a) = once_time rs n t h a
 once_time (committed k u ∷ rs) n t h (inl e) = let z : n ≡ k = cc in rw (eq-eqb k n (sym z)) cc
 once_time (committed k u ∷ rs) n t h (inr a) = go (eqb k n) refl (once_time rs n t h.1 a)
   where
-    go : (b : Bool) → eqb k n ≡ b → time_of rs n ≡ some t → cond b (some u) (time_of rs n) ≡ some t
+    go : (b : Bool) → eqb k n ≡ b → time_of rs n ≡ Some t → cond b (Some u) (time_of rs n) ≡ Some t
     go true q e = absurd (none_some (sym h.0 ∙ ap (time_of rs) (eqb-true k n q) ∙ e))
     go false q e = e
 
 pub record Orderly (b : Book) : Type 0 where
   pub once : Once b.rows
-  pub unended : (n : ℕ) → is_open b.opened n ≡ true → time_of b.rows n ≡ none
+  pub unended : (n : ℕ) → is_open b.opened n ≡ true → time_of b.rows n ≡ None
 
 -- a number is open after one more opens: it was, or is the new one
 pub opened_cases : {B : Type 0} (n k x : ℕ) (os : List Opened)

@@ -1,10 +1,10 @@
 -- Current read, read as of and list of changes answer as the book's rows say. A record's versions are found by
 -- following earlier slots from its newest: these are all of them (PagesOn.chain). Each call that is not refused passed
 -- its questions.
+use Rattle.std.specs.Prelude.{Option}
 use Prim.Native.Nat.{ℕ, suc, ◌*◌}
 use native.Mathlib.Omega.{arith}
 use mathlib.Core.List.{List, []}
-use mathlib.Core.Option.{Option}
 use mathlib.Core.Path.{◌≡◌, ◌∙◌}
 use lib.ListN.{length}
 use borrow.Author.Tests.{leb-true}

@@ -1,10 +1,10 @@
 -- A read as of a time finds, along earlier slots, the version that the book's fold over all version rows gives: both
 -- are a fold over the record's versions by rising slot (WalkLaws), and they agree at each slot.
+use Rattle.std.specs.Prelude.{Option, None, Some}
 use Prim.Native.Nat.{ℕ, zero, suc, ◌≤◌, ◌<◌}
 use native.Mathlib.Omega.{arith}
 use mathlib.Core.Bool.{Bool, true, false, cond, ◌&&◌}
 use mathlib.Core.List.{List, [], ◌∷◌, ◌++◌}
-use mathlib.Core.Option.{Option, none, some}
 use mathlib.Core.Path.{◌≡◌, refl, ap, ◌∙◌}
 use lib.Dec.{eqb, leb, ltb}
 use lib.ListN.{length, take}
@@ -13,11 +13,6 @@ use Rattle.layout.specs.Journal.{Record}
 use Rattle.layout.specs.Slot.{Cell}
 use Rattle.layout.specs.declared.CommitTime.{CommitTime}
 use Rattle.store.proofs.ChainLaws.{unless_some}
-use Rattle.store.specs.declared.Best.{Best}
-use Rattle.store.specs.declared.Best.TheVariants.{Version, Neither}
-use Rattle.store.specs.declared.Found.{Found}
-use Rattle.store.specs.declared.Found.TheVariants.{At, Nothing}
-use Rattle.store.specs.declared.Timing.{Timing}
 use Rattle.store.specs.declared.State.{State}
 use Rattle.store.specs.Places.{time_under}
 use Rattle.store.specs.Chain.{newest, cell_at, is_version, version_time, unless_empty, better_of, best_from, best_of}
@@ -54,31 +49,31 @@ unfolding best_below
 best_snoc rs key limit best vs v = best_append rs key limit best vs (v ∷ [])
 
 -- nothing has a time below 0
-pub none_below : (rs : List Row) (key : ℕ) → last_below rs key 0 ≡ none
+pub none_below : (rs : List Row) (key : ℕ) → last_below rs key 0 ≡ None
 unfolding last_below best_below
 none_below rs key = go (versions rs)
   where
-    dated : (t : Option ℕ) (v : RowVersion) → dated_of t none 0 v ≡ none
-    dated none v = refl
-    dated (some t) v = rw (le-ltb t 0 (omega arith))
+    dated : (t : Option ℕ) (v : RowVersion) → dated_of t None 0 v ≡ None
+    dated None v = refl
+    dated (Some t) v = rw (le-ltb t 0 (omega arith))
 
-    same : (t : Bool) (x : Option Dated) → x ≡ none → cond t x none ≡ none
+    same : (t : Bool) (x : Option Dated) → x ≡ None → cond t x None ≡ None
     same true x e = e
     same false x e = refl
 
-    go : (vs : List RowVersion) → best_below rs key 0 none vs ≡ none
+    go : (vs : List RowVersion) → best_below rs key 0 None vs ≡ None
     go [] = refl
     go (v ∷ vs) =
         ap (λ (x : Option Dated). best_below rs key 0 x vs)
-        (same (eqb v.key key) (dated_of (time_of rs v.number) none 0 v) (dated (time_of rs v.number) v))
+        (same (eqb v.key key) (dated_of (time_of rs v.number) None 0 v) (dated (time_of rs v.number) v))
         ∙ go vs
 
 -- ---- a slot found and the book's dated version are the same
 
-pub data Agree (vs : List LoggedVersion) : Best → Option Dated → Type 0 where
-  neither : Agree vs Neither none
+pub data Agree (vs : List LoggedVersion) : Option (ℕ × CommitTime) → Option Dated → Type 0 where
+  neither : Agree vs None None
   either : (n : ℕ) (t : CommitTime) → n < length vs
-      → Agree vs (Version n t) (some (record { time = t.0; kind = (at vs n).kind; value = (at vs n).value }))
+      → Agree vs (Some (n, t)) (Some (record { time = t.0; kind = (at vs n).kind; value = (at vs n).value }))
 
 below_next : (a t : ℕ) → ltb a (suc t) ≡ leb a t
 below_next a t = go (leb a t) refl
@@ -87,7 +82,7 @@ below_next a t = go (leb a t) refl
     go true e = lt-ltb a (suc t) (omega (arith, leb-true a t e))
     go false e = le-ltb a (suc t) (omega (arith, leb-false a t e))
 
-better_is : (vs : List LoggedVersion) (x n t : ℕ) (rest : Best) (best : Option Dated) → n < length vs
+better_is : (vs : List LoggedVersion) (x n t : ℕ) (rest : Option (ℕ × CommitTime)) (best : Option Dated) → n < length vs
     → Agree vs rest best
     → Agree vs (better_of (timing x) n t rest) (dated_of (time_in (timing x)) best (suc t) (row_for (at vs n)))
 better_is vs zero n t rest best h a = a
@@ -99,12 +94,12 @@ better_is vs (suc x) n t rest best h a = go rest best a
     row : Dated
     row = record { time = suc x; kind = (at vs n).kind; value = (at vs n).value }
 
-    go : (rest : Best) (best : Option Dated) → Agree vs rest best
+    go : (rest : Option (ℕ × CommitTime)) (best : Option Dated) → Agree vs rest best
         → Agree vs (better_of (timing (suc x)) n t rest)
         (later_row best (suc t) (record { time = suc x; kind = (at vs n).kind; value = (at vs n).value }))
     go rest best neither = rw (below_next (suc x) t) (by (leb (suc x) t))
       where
-        by : (y : Bool) → Agree vs (cond y (Version n me) Neither) (cond y (some row) none)
+        by : (y : Bool) → Agree vs (cond y (Some (n, me)) None) (cond y (Some row) None)
         by true = either n me h
         by false = neither
     go rest best (either r w g) = rw (below_next (suc x) t) (by (leb (suc x) t) (leb w.0 (suc x)))
@@ -112,8 +107,8 @@ better_is vs (suc x) n t rest best h a = go rest best a
         old : Dated
         old = record { time = w.0; kind = (at vs r).kind; value = (at vs r).value }
 
-        by : (y z : Bool) → Agree vs (cond y (cond z (Version n me) (Version r w)) (Version r w))
-            (cond (y && z) (some row) (some old))
+        by : (y z : Bool) → Agree vs (cond y (cond z (Some (n, me)) (Some (r, w))) (Some (r, w)))
+            (cond (y && z) (Some row) (Some old))
         by true true = either n me h
         by true false = either r w g
         by false z = either r w g
@@ -121,46 +116,46 @@ better_is vs (suc x) n t rest best h a = go rest best a
 -- ---- the walk
 
 -- a slot of the walk: it counts if it has a time not above t
-abbrev counting : List ℕ → (ℕ → Timing) → ℕ → ℕ → Best → Best
+abbrev counting : List ℕ → (ℕ → Option CommitTime) → ℕ → ℕ → Option (ℕ × CommitTime) → Option (ℕ × CommitTime)
 counting c pair t j rest =
-    unless_empty (cell_at c j).state Neither (better_of (version_time pair (cell_at c j).state) j t rest)
+    unless_empty (cell_at c j).state None (better_of (version_time pair (cell_at c j).state) j t rest)
 
-best_reached : (c : List ℕ) (pair : ℕ → Timing) (t : ℕ) (f : Found) (a : Best)
-    → Reaches (best_from c pair t) Neither f a → best_of f c pair t ≡ a
+best_reached : (c : List ℕ) (pair : ℕ → Option CommitTime) (t : ℕ) (f : Option ℕ) (a : Option (ℕ × CommitTime))
+    → Reaches (best_from c pair t) None f a → best_of f c pair t ≡ a
 unfolding best_of
-best_reached c pair t (At j) a r = r (suc j) (omega arith)
-best_reached c pair t Nothing a r = r
+best_reached c pair t (Some j) a r = r (suc j) (omega arith)
+best_reached c pair t None a r = r
 
 module _ {l d : ℕ} {m c : List ℕ} {s : State} {b : Book} {disk : Disk} {closed : List (List Record)}
     {tail : List Record} (u : Up l d m c s b disk closed tail) where
-  counting_is : (t j : ℕ) (rest : Best) → j < length (versions_of (closed ++ (tail ∷ [])))
+  counting_is : (t j : ℕ) (rest : Option (ℕ × CommitTime)) → j < length (versions_of (closed ++ (tail ∷ [])))
       → counting c (time_under s.places) t j rest
       ≡ better_of
       (timing (find (commits_of (closed ++ (tail ∷ []))) (at (versions_of (closed ++ (tail ∷ []))) j).num).time) j t
       rest
   counting_is t j rest h =
-      unless_some (cell_at c j).state Neither _
+      unless_some (cell_at c j).state None _
       (ap (λ (x : Cell). is_version x.state) (cell_cached u.medium u.cache j h) ∙ (cell_fields u.medium j h).0)
-      ∙ ap (λ (x : Timing). better_of x j t rest) (version_time_law u j h)
+      ∙ ap (λ (x : Option CommitTime). better_of x j t rest) (version_time_law u j h)
 
   folds : (key t j : ℕ) → j ≤ length (versions_of (closed ++ (tail ∷ [])))
       → Agree (versions_of (closed ++ (tail ∷ [])))
-      (over_all Neither (counting c (time_under s.places) t) (versions_of (closed ++ (tail ∷ []))) key j)
-      (best_below b.rows key (suc t) none (rows_for (take j (versions_of (closed ++ (tail ∷ []))))))
+      (over_all None (counting c (time_under s.places) t) (versions_of (closed ++ (tail ∷ []))) key j)
+      (best_below b.rows key (suc t) None (rows_for (take j (versions_of (closed ++ (tail ∷ []))))))
   unfolding over_all rows_for best_below
   folds key t zero h = neither
   folds key t (suc j) h =
       rw (
-        counting_is t j (over_all Neither (counting c (time_under s.places) t)
+        counting_is t j (over_all None (counting c (time_under s.places) t)
             (versions_of (closed ++ (tail ∷ []))) key j) h,
         rows_for_step (versions_of (closed ++ (tail ∷ []))) j h,
-        best_snoc b.rows key (suc t) none (rows_for (take j (versions_of (closed ++ (tail ∷ [])))))
+        best_snoc b.rows key (suc t) None (rows_for (take j (versions_of (closed ++ (tail ∷ [])))))
             (row_for (at (versions_of (closed ++ (tail ∷ []))) j)),
         row_time_law u (at (versions_of (closed ++ (tail ∷ []))) j).num,
       )
       (go (eqb (at (versions_of (closed ++ (tail ∷ []))) j).key key) _ _ (folds key t j (omega arith)))
     where
-      go : (y : Bool) (rest : Best) (best : Option Dated) → Agree (versions_of (closed ++ (tail ∷ []))) rest best
+      go : (y : Bool) (rest : Option (ℕ × CommitTime)) (best : Option Dated) → Agree (versions_of (closed ++ (tail ∷ []))) rest best
           → Agree (versions_of (closed ++ (tail ∷ [])))
           (cond y (better_of
           (timing (find (commits_of (closed ++ (tail ∷ [])))
@@ -182,11 +177,11 @@ module _ {l d : ℕ} {m c : List ℕ} {s : State} {b : Book} {disk : Disk} {clos
   unfolding best_from last_below
   best_found key t =
       let e : best_of (newest c key s.slots) c (time_under s.places) t
-      ≡ over_all Neither (counting c (time_under s.places) t) (versions_of (closed ++ (tail ∷ []))) key
+      ≡ over_all None (counting c (time_under s.places) t) (versions_of (closed ++ (tail ∷ []))) key
       (length (versions_of (closed ++ (tail ∷ [])))) =
-      ap (λ (f : Found). best_of f c (time_under s.places) t) (newest_is u key)
+      ap (λ (f : Option ℕ). best_of f c (time_under s.places) t) (newest_is u key)
       ∙ best_reached c (time_under s.places) t _ _
-      (walked Neither (counting c (time_under s.places) t) (λ j. (cell_at c j).earlier)
+      (walked None (counting c (time_under s.places) t) (λ j. (cell_at c j).earlier)
       (best_from c (time_under s.places) t) (λ i j. refl)
       (versions_of (closed ++ (tail ∷ []))) key (few_slots u) (chain_cached u)
       (length (versions_of (closed ++ (tail ∷ [])))) (omega arith)) in
@@ -201,7 +196,7 @@ module _ {l d : ℕ} {m c : List ℕ} {s : State} {b : Book} {disk : Disk} {clos
   before_is key (suc t) = best_found key t
 
   -- what is read
-  pub best_strip : (x : Best) (y : Option Dated) → Agree (versions_of (closed ++ (tail ∷ []))) x y
+  pub best_strip : (x : Option (ℕ × CommitTime)) (y : Option Dated) → Agree (versions_of (closed ++ (tail ∷ []))) x y
       → strip_of (as_of_at x s m c).answer (as_of_at x s m c).value ≡ strip_at y
   best_strip x y neither = refl
   best_strip x y (either n t h) = cell_strip (cell_at c n) s m c ∙ rw (kind_cached u n h, value_cached u n h)

@@ -1,10 +1,11 @@
 -- A list of changes has the book's lines: each step takes the last version below a time, in which both agree (AsOf),
 -- by induction on the steps; and their bytes, which the buffer has room for, are the book's listing.
+use Rattle.layout.specs.declared.CommitTime.{CommitTime}
+use Rattle.std.specs.Prelude.{Option}
 use Prim.Native.Nat.{ℕ, zero, suc, ◌*◌, ◌/◌, ◌%◌, ◌≤◌, ◌<◌}
 use native.Mathlib.Omega.{arith}
 use mathlib.Core.Bool.{Bool, true, false, cond, ◌&&◌}
 use mathlib.Core.List.{List, [], ◌∷◌, ◌++◌}
-use mathlib.Core.Option.{Option}
 use mathlib.Core.Path.{◌≡◌, refl, ap, ◌∙◌}
 use lib.Dec.{eqb, ltb}
 use lib.ListN.{length, drop, length-append, length-replicate}
@@ -16,7 +17,6 @@ use Rattle.fields.specs.Cells.{flat}
 use Rattle.layout.specs.Journal.{Record}
 use Rattle.fields.proofs.FieldLaws.{length_enc}
 use Rattle.fields.proofs.PartLaws.{splice_is}
-use Rattle.store.specs.declared.Best.{Best}
 use Rattle.store.specs.declared.State.{State}
 use Rattle.store.specs.Places.{time_under}
 use Rattle.store.specs.Chain.{newest}
@@ -88,7 +88,7 @@ same_is (x ∷ xs) (y ∷ ys) = ap (λ (t : Bool). eqb x y && t) (same_is xs ys)
 
 module _ {l d : ℕ} {m c : List ℕ} {s : State} {b : Book} {disk : Disk} {closed : List (List Record)}
     {tail : List Record} (u : Up l d m c s b disk closed tail) where
-  differs_is : (n t : ℕ) → n < length (versions_of (closed ++ (tail ∷ []))) → (x : Best) (y : Option Dated)
+  differs_is : (n t : ℕ) → n < length (versions_of (closed ++ (tail ∷ []))) → (x : Option (ℕ × CommitTime)) (y : Option Dated)
       → Agree (versions_of (closed ++ (tail ∷ []))) x y
       → differs_from c n x
       ≡ row_differs (record {
@@ -114,7 +114,7 @@ module _ {l d : ℕ} {m c : List ℕ} {s : State} {b : Book} {disk : Disk} {clos
   lines_below_law key t1 zero t = ended
   lines_below_law key t1 (suc i) t = go _ _ (before_is u key t) (lines_below_law key t1 i)
     where
-      go : (x : Best) (y : Option Dated) → Agree (versions_of (closed ++ (tail ∷ []))) x y
+      go : (x : Option (ℕ × CommitTime)) (y : Option Dated) → Agree (versions_of (closed ++ (tail ∷ []))) x y
           → ((a : ℕ) → Alike (lines_below c (time_under s.places) (newest c key s.slots) t1 i a)
           (row_lines_below b.rows key t1 i a))
           → Alike (lines_at c (time_under s.places) (newest c key s.slots)

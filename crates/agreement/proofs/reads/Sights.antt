@@ -1,5 +1,6 @@
 -- What the slots of a running store show is what the book's rows say: a slot has its version's fields, and its stamp or
 -- its number's place gives the time of the commit row.
+use Rattle.std.specs.Prelude.{Some}
 use Prim.Native.Nat.{ℕ, zero, suc, ◌+◌, ◌<◌}
 use native.Mathlib.Numerals.{add-one}
 use native.Mathlib.Omega.{arith}
@@ -10,7 +11,6 @@ use lib.Seq.{drop-cons}
 use Rattle.layout.specs.Journal.{Record}
 use Rattle.layout.specs.Slot.{Cell}
 use Rattle.store.specs.declared.State.{State}
-use Rattle.store.specs.declared.Timing.TheVariants.{Timed}
 use Rattle.store.specs.Places.{time_under}
 use Rattle.store.specs.Chain.{cell_at, version_time}
 use Rattle.runs.specs.Book.{Book, versions, sight, sights, last_time}
@@ -37,7 +37,7 @@ module _ {l d : ℕ} {m c : List ℕ} {s : State} {b : Book} {disk : Disk} {clos
       v : LoggedVersion
       v = at (versions_of (closed ++ (tail ∷ []))) n
 
-      timed : (t : ℕ) → 0 < t → Timed (record { 0 = t }) ≡ timing t
+      timed : (t : ℕ) → 0 < t → Some (record { 0 = t }) ≡ timing t
       timed zero z = absurd (omega arith)
       timed (suc t) z = refl
 

@@ -1,5 +1,6 @@
 -- A walk along earlier slots gives what a fold over all versions of the record gives: by induction on the slots, since
 -- the earlier slot is the next lower one of the record and those between are of other records. Assumes nothing.
+use Rattle.std.specs.Prelude.{Option, Some, None}
 use Prim.Native.Nat.{ℕ, zero, suc, ◌≤◌, ◌<◌}
 use native.Mathlib.Omega.{arith}
 use mathlib.Core.Bool.{Bool, true, false, cond}
@@ -8,8 +9,6 @@ use mathlib.Core.Path.{◌≡◌, refl, ap, ◌∙◌}
 use lib.Dec.{eqb}
 use lib.ListN.{length}
 use borrow.Author.Tests.{eqb-true, lt-ltb, le-ltb}
-use Rattle.store.specs.declared.Found.{Found}
-use Rattle.store.specs.declared.Found.TheVariants.{At, Nothing}
 use Rattle.store.specs.Chain.{down_to}
 use Rattle.store.specs.Write.{or_none}
 use Rattle.agreement.proofs.history.Ghost.{LoggedVersion, at, newest_of}
@@ -22,17 +21,17 @@ module _ {A : Type 0} (stop : A) (step : ℕ → A → A) (vs : List LoggedVersi
   over_all (suc n) = cond (eqb (at vs n).key key) (step n (over_all n)) (over_all n)
 
 -- a walk with steps enough gives a from the slot found, or a is the end of a walk
-abbrev pub Reaches : {A : Type 0} → (ℕ → ℕ → A) → A → Found → A → Type 0
-Reaches walk stop (At s) a = (k : ℕ) → s < k → walk k s ≡ a
-Reaches walk stop Nothing a = stop ≡ a
+abbrev pub Reaches : {A : Type 0} → (ℕ → ℕ → A) → A → Option ℕ → A → Type 0
+Reaches walk stop (Some s) a = (k : ℕ) → s < k → walk k s ≡ a
+Reaches walk stop None a = stop ≡ a
 
 module _ {A : Type 0} (stop : A) (step : ℕ → A → A) (earlier : ℕ → ℕ) (walk : ℕ → ℕ → A)
     (walks : (k s : ℕ) → walk (suc k) s ≡ step s (down_to (earlier s) s stop (walk k))) where
   -- the walk goes on from what was found below slot n
-  on : (f : Found) (n k : ℕ) (a : A) → n ≤ k → n < 65535 → ((s : ℕ) → f ≡ At s → s < n) → Reaches walk stop f a
+  on : (f : Option ℕ) (n k : ℕ) (a : A) → n ≤ k → n < 65535 → ((s : ℕ) → f ≡ Some s → s < n) → Reaches walk stop f a
       → down_to (or_none f) n stop (walk k) ≡ a
-  on (At s) n k a h r below reached = rw (lt-ltb s n (below s refl)) (reached k (omega (arith, below s refl)))
-  on Nothing n k a h r below reached = rw (le-ltb 65535 n (omega arith)) reached
+  on (Some s) n k a h r below reached = rw (lt-ltb s n (below s refl)) (reached k (omega (arith, below s refl)))
+  on None n k a h r below reached = rw (le-ltb 65535 n (omega arith)) reached
 
   pub walked : (vs : List LoggedVersion) (key : ℕ) → length vs ≤ 65535
       → ((n : ℕ) → n < length vs → earlier n ≡ or_none (newest_of vs (at vs n).key n))
@@ -45,7 +44,7 @@ module _ {A : Type 0} (stop : A) (step : ℕ → A → A) (earlier : ℕ → ℕ
       rest = over_all stop step vs key n
 
       go : Reaches walk stop (newest_of vs key n) rest → (t : Bool) → eqb (at vs n).key key ≡ t
-          → Reaches walk stop (cond t (At n) (newest_of vs key n)) (cond t (step n rest) rest)
+          → Reaches walk stop (cond t (Some n) (newest_of vs key n)) (cond t (step n rest) rest)
       go ih false q = ih
       go ih true q = up
         where

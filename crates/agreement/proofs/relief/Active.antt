@@ -1,5 +1,7 @@
 -- Active places stay through stores and checkpoint calls: storing a page counts down committed places only, and frees
 -- no other.
+use Rattle.layout.specs.declared.CommitTime.{CommitTime}
+use Rattle.std.specs.Prelude.{Option, Some, None}
 use Prim.Native.Nat.{ℕ, zero, suc, ◌+◌, ◌<◌}
 use mathlib.Core.Path.{◌≡◌, refl, sym, ap, ◌∙◌, subst}
 use mathlib.Core.Bool.{Bool, true, false, false≢true}
@@ -8,14 +10,10 @@ use Rattle.layout.specs.Page.{page_slot}
 use Rattle.layout.specs.Slot.{slot_state}
 use Rattle.layout.specs.declared.slot.Slot.{Slot}
 use Rattle.layout.specs.declared.slot.Slot.TheVariants.{Empty, Waiting, Stamped}
-use Rattle.store.specs.declared.Found.{Found}
-use Rattle.store.specs.declared.Found.TheVariants.{At, Nothing}
 use Rattle.store.specs.declared.Life.{Life}
 use Rattle.store.specs.declared.Life.TheVariants.{Free, Active, Committed}
 use Rattle.store.specs.declared.Place.{Place}
 use Rattle.store.specs.declared.State.{State}
-use Rattle.store.specs.declared.Timing.{Timing}
-use Rattle.store.specs.declared.Timing.TheVariants.{Timed, Untimed}
 use Rattle.store.specs.Places.{place_at, active_as, committed_as, find_active, find_committed, lowered}
 use Rattle.store.specs.StorePage.{stamp_time, lower_at, settle_with, settle_from, stored_pair, settled}
 use Rattle.store.proofs.SearchLaws.{first_found, first_same}
@@ -51,22 +49,22 @@ not_both (Committed m t z) n k e f = false≢true e
 
 -- a version that is stamped counts down a committed place
 module _ (old : List Place) (j n : ℕ) (h : active_as (place_at old j).life n ≡ true) where
-  lower_active : (x : ℕ) (f : Found) → find_committed old x ≡ f → (ps : List Place)
+  lower_active : (x : ℕ) (f : Option ℕ) → find_committed old x ≡ f → (ps : List Place)
       → place_at (lower_at f ps) j ≡ place_at ps j
   unfolding find_committed
-  lower_active x Nothing e ps = refl
-  lower_active x (At i) e ps = place_at_other ps i j (lowered (place_at ps i)) (λ z.
+  lower_active x None e ps = refl
+  lower_active x (Some i) e ps = place_at_other ps i j (lowered (place_at ps i)) (λ z.
       not_both (place_at old j).life n x h
       (subst (λ (a : ℕ). committed_as (place_at old a).life x ≡ true) (sym z)
       (first_found (λ a. committed_as (place_at old a).life x) 64 0 i e).2))
 
-  settle_active : (t : Timing) (slot : Slot) (ps : List Place) → place_at (settle_with t slot old ps) j ≡ place_at ps j
-  settle_active Untimed slot ps = refl
-  settle_active (Timed t) Empty ps = refl
-  settle_active (Timed t) (Waiting x) ps = lower_active x.0 (find_committed old x.0) refl ps
-  settle_active (Timed t) (Stamped u) ps = refl
+  settle_active : (t : Option CommitTime) (slot : Slot) (ps : List Place) → place_at (settle_with t slot old ps) j ≡ place_at ps j
+  settle_active None slot ps = refl
+  settle_active (Some t) Empty ps = refl
+  settle_active (Some t) (Waiting x) ps = lower_active x.0 (find_committed old x.0) refl ps
+  settle_active (Some t) (Stamped u) ps = refl
 
-  settles_active : (pair : ℕ → Timing) (page : List ℕ) (ps : List Place) (i k : ℕ)
+  settles_active : (pair : ℕ → Option CommitTime) (page : List ℕ) (ps : List Place) (i k : ℕ)
       → place_at (settle_from pair old page ps i k) j ≡ place_at ps j
   unfolding settle_from
   settles_active pair page ps i zero = refl

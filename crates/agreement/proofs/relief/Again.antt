@@ -1,11 +1,11 @@
 -- A call that was refused 8 is done once the log may take its record: its other questions were answered "yes" then, and
 -- are answered the same as long as the log's history and the active places are. A record is held just if its newest
 -- version's number is another that is active.
+use Rattle.std.specs.Prelude.{Some, Option, None}
 use Prim.Native.Nat.{ℕ, ◌-◌, ◌*◌, ◌^◌}
 use native.Mathlib.Omega.{arith}
 use mathlib.Core.Path.{◌≡◌, refl, sym, ap, ◌∙◌}
 use mathlib.Core.Bool.{Bool, true, false, not, ◌&&◌, ◌||◌, and-false, or-true, false≢true}
-use mathlib.Core.Option.{some}
 use mathlib.Core.List.{List, [], ◌∷◌, ◌++◌}
 use lib.ListN.{length}
 use lib.Dec.{eqb, ltb}
@@ -15,8 +15,6 @@ use Rattle.layout.specs.Slot.{Cell, key_form}
 use Rattle.store.specs.declared.Answer.{Answer}
 use Rattle.store.specs.declared.Answer.TheVariants.{Refused, Done, Begun, Written, Committed, Opened, Missing, Erased}
 use Rattle.store.specs.declared.Answer.TheVariants.{Present, Listed}
-use Rattle.store.specs.declared.Found.{Found}
-use Rattle.store.specs.declared.Found.TheVariants.{At, Nothing}
 use Rattle.store.specs.declared.Phase.TheVariants.{Idle, FirstStored, SecondStored}
 use Rattle.store.specs.declared.Place.{Place}
 use Rattle.store.specs.declared.Refusal.{Refusal}
@@ -88,13 +86,13 @@ done_number Present h = refl
 done_number (Listed n) h = refl
 
 pub record Filled (m c : List ℕ) (s : State) (x : Call) (o : Outcome) : Type 0 where
-  pub no : ask (asks m c s x) ≡ some LogFull
+  pub no : ask (asks m c s x) ≡ Some LogFull
   pub stays : after o ≡ up m c s
 
 pub full_way : {m c : List ℕ} {s : State} {x : Call} {o : Outcome} → Way m c s x o → answer_number o.answer ≡ 8
     → Filled m c s x o
 unfolding answer_number write_step commit_step store_log_if store_page_if checkpoint_step
-full_way (refused k r w) e = record { no = w ∙ ap some (full_of r e); stays = refl }
+full_way (refused k r w) e = record { no = w ∙ ap Some (full_of r e); stays = refl }
 full_way (begins clock i p w) e = absurd (omega arith)
 full_way (writes n key i v p w) e = absurd (omega arith)
 full_way (erases n key i p w) e = absurd (omega arith)
@@ -129,7 +127,7 @@ done_way (checks (SecondStored n t) p w) e = refl
 
 -- those before question 8 were answered "yes"
 before_write : (v k w x y z : Bool) → ask ((v, Unfit) ∷ (k, NoRecord) ∷ (w, NotActive) ∷ (x, Held) ∷ (y, NoSlot)
-    ∷ (z, LogFull) ∷ []) ≡ some LogFull
+    ∷ (z, LogFull) ∷ []) ≡ Some LogFull
     → (k ≡ true) × (w ≡ true) × (x ≡ true) × (y ≡ true)
 before_write true true true true true z e = (refl, refl, refl, refl)
 before_write true true true true false z e = let o : ◌≡◌ {A = ℕ} 0 1 = cc in absurd (omega arith)
@@ -138,7 +136,7 @@ before_write true true false x y z e = let o : ◌≡◌ {A = ℕ} 0 1 = cc in a
 before_write true false w x y z e = let o : ◌≡◌ {A = ℕ} 0 1 = cc in absurd (omega arith)
 before_write false k w x y z e = let o : ◌≡◌ {A = ℕ} 0 1 = cc in absurd (omega arith)
 
-before_commit : (v w x z : Bool) → ask ((v, Unfit) ∷ (w, NotActive) ∷ (x, NoTime) ∷ (z, LogFull) ∷ []) ≡ some LogFull
+before_commit : (v w x z : Bool) → ask ((v, Unfit) ∷ (w, NotActive) ∷ (x, NoTime) ∷ (z, LogFull) ∷ []) ≡ Some LogFull
     → (w ≡ true) × (x ≡ true)
 before_commit true true true z e = (refl, refl)
 before_commit true true false z e = let o : ◌≡◌ {A = ℕ} 0 1 = cc in absurd (omega arith)
@@ -165,7 +163,7 @@ is_full NoNumber = false
 is_full Unfit = false
 is_full NoRecord = false
 
-never : (qs : List (Bool × Refusal)) → Each (λ (q : Bool × Refusal). is_full q.1 ≡ false) qs → ask qs ≡ some LogFull → ⊥
+never : (qs : List (Bool × Refusal)) → Each (λ (q : Bool × Refusal). is_full q.1 ≡ false) qs → ask qs ≡ Some LogFull → ⊥
 never [] h e = let o : ◌≡◌ {A = ℕ} 0 1 = cc in omega arith
 never ((true, r) ∷ qs) h e = never qs h.1 e
 never ((false, r) ∷ qs) h e = let f : r ≡ LogFull = cc in false≢true (sym h.0 ∙ ap is_full f)
@@ -173,9 +171,9 @@ never ((false, r) ∷ qs) h e = let f : r ≡ LogFull = cc in false≢true (sym 
 -- ---- a record that is held
 
 -- the newest version's number is another, and active
-abbrev pub holder : Found → List LoggedVersion → List Place → ℕ → Bool
-holder Nothing vs ps n = false
-holder (At y) vs ps n = not (eqb (at vs y).num n) && is_at (find_active ps (at vs y).num)
+abbrev pub holder : Option ℕ → List LoggedVersion → List Place → ℕ → Bool
+holder None vs ps n = false
+holder (Some y) vs ps n = not (eqb (at vs y).num n) && is_at (find_active ps (at vs y).num)
 
 module _ {l d : ℕ} {m c : List ℕ} {s : State} {b : Book} {disk : Disk} {closed : List (List Record)}
     {tail : List Record} (u : Up l d m c s b disk closed tail) where
@@ -184,15 +182,15 @@ module _ {l d : ℕ} {m c : List ℕ} {s : State} {b : Book} {disk : Disk} {clos
 
   pub held_is : (key n : ℕ) → held c s.places s.slots key n ≡ holder (newest_of vs key (length vs)) vs s.places n
   unfolding held
-  held_is key n = ap (λ (f : Found). held_at f c s.places n) (newest_is u key) ∙ go (newest_of vs key (length vs)) refl
+  held_is key n = ap (λ (f : Option ℕ). held_at f c s.places n) (newest_is u key) ∙ go (newest_of vs key (length vs)) refl
     where
-      not_active : (x : ℕ) (f : Found) → find_active s.places x ≡ f → ((i : ℕ) → find_active s.places x ≡ At i → ⊥)
+      not_active : (x : ℕ) (f : Option ℕ) → find_active s.places x ≡ f → ((i : ℕ) → find_active s.places x ≡ Some i → ⊥)
           → is_at f ≡ false
-      not_active x Nothing e h = refl
-      not_active x (At i) e h = absurd (h i e)
+      not_active x None e h = refl
+      not_active x (Some i) e h = absurd (h i e)
 
       by : (y : ℕ) → (v : LoggedVersion) (z : Cell) → Match (commits_of disk.stored) v z
-          → ((i : ℕ) → find_active s.places v.num ≡ At i → z ≡ waiting_cell v)
+          → ((i : ℕ) → find_active s.places v.num ≡ Some i → z ≡ waiting_cell v)
           → held_as z.state s.places n ≡ not (eqb v.num n) && is_at (find_active s.places v.num)
       by y v z still h = refl
       by y v z (marked t a e) h =
@@ -200,9 +198,9 @@ module _ {l d : ℕ} {m c : List ℕ} {s : State} {b : Book} {disk : Disk} {clos
           (λ i q. let w = ap (λ (x : Cell). x.state) (h i q) in let o : ◌≡◌ {A = ℕ} 0 1 = cc in omega arith))
           (and-false (not (eqb v.num n))))
 
-      go : (f : Found) → newest_of vs key (length vs) ≡ f → held_at f c s.places n ≡ holder f vs s.places n
-      go Nothing e = refl
-      go (At y) e =
+      go : (f : Option ℕ) → newest_of vs key (length vs) ≡ f → held_at f c s.places n ≡ holder f vs s.places n
+      go None e = refl
+      go (Some y) e =
           let w = newest_at vs key (length vs) y e in
           ap (λ (z : Cell). held_as z.state s.places n) (cell_cached u.medium u.cache y w.below)
           ∙ by y (at vs y) (cell disk.cells y) (u.medium.pages.slots.match y w.below)
@@ -210,7 +208,7 @@ module _ {l d : ℕ} {m c : List ℕ} {s : State} {b : Book} {disk : Disk} {clos
 
 -- ---- the same call
 
-pub active_there : (ps : List Place) (x i : ℕ) → find_active ps x ≡ At i → active_as (place_at ps i).life x ≡ true
+pub active_there : (ps : List Place) (x i : ℕ) → find_active ps x ≡ Some i → active_as (place_at ps i).life x ≡ true
 unfolding find_active
 active_there ps x i e = (first_found (λ j. active_as (place_at ps j).life x) 64 0 i e).2
 
@@ -221,9 +219,9 @@ module _ {l d : ℕ} {m c n a : List ℕ} {s t : State} {b b' : Book} {disk disk
   held_same : (key x : ℕ) → held a t.places t.slots key x ≡ held c s.places s.slots key x
   held_same key x = held_is w key x ∙ go (newest_of (vs u) key (length (vs u))) ∙ sym (held_is u key x)
     where
-      go : (f : Found) → holder f (vs u) t.places x ≡ holder f (vs u) s.places x
-      go Nothing = refl
-      go (At y) = rw (same.active (at (vs u) y).num)
+      go : (f : Option ℕ) → holder f (vs u) t.places x ≡ holder f (vs u) s.places x
+      go None = refl
+      go (Some y) = rw (same.active (at (vs u) y).num)
 
   slots_same : t.slots ≡ s.slots
   slots_same = w.state.slots ∙ sym u.state.slots
@@ -237,11 +235,11 @@ module _ {l d : ℕ} {m c n a : List ℕ} {s t : State} {b b' : Book} {disk disk
   none_same : (x : ℕ) → no_versions (find_active t.places x) t ≡ no_versions (find_active s.places x) s
   none_same x = rw (same.active x) (go (find_active s.places x) refl)
     where
-      go : (f : Found) → find_active s.places x ≡ f → no_versions f t ≡ no_versions f s
-      go Nothing e = refl
-      go (At i) e = ap (λ (p : Place). eqb p.waiting 0) (same.place i x (active_there s.places x i e))
+      go : (f : Option ℕ) → find_active s.places x ≡ f → no_versions f t ≡ no_versions f s
+      go None e = refl
+      go (Some i) e = ap (λ (p : Place). eqb p.waiting 0) (same.place i x (active_there s.places x i e))
 
-  write_passes : (x key : ℕ) → ask (write_asks s m c x key) ≡ some LogFull → Passed (write_asks t n a x key)
+  write_passes : (x key : ℕ) → ask (write_asks s m c x key) ≡ Some LogFull → Passed (write_asks t n a x key)
   write_passes x key e =
       let p = before_write (fits s (length m) (length c)) (key_form key) (is_at (find_active s.places x))
       (not (held c s.places s.slots key x)) (ltb s.slots (15 * s.pages)) (may_log s m 34) e in (
@@ -249,7 +247,7 @@ module _ {l d : ℕ} {m c n a : List ℕ} {s t : State} {b b' : Book} {disk disk
         (p.0, (rw (same.active x) p.1, (rw (held_same key x) p.2, (rw (slots_same, pages_same) p.3, (room 34, tt))))),
       )
 
-  commit_passes : (x : ℕ) → ask (commit_asks s m c x) ≡ some LogFull → Passed (commit_asks t n a x)
+  commit_passes : (x : ℕ) → ask (commit_asks s m c x) ≡ Some LogFull → Passed (commit_asks t n a x)
   commit_passes x e =
       let p = before_commit (fits s (length m) (length c)) (is_at (find_active s.places x))
       (no_versions (find_active s.places x) s || ltb s.last.0 (2 ^ 64 - 1))
@@ -264,7 +262,7 @@ module _ {l d : ℕ} {m c n a : List ℕ} {s t : State} {b b' : Book} {disk disk
         ),
       )
 
-  passes_again : (x : Call) → ask (asks m c s x) ≡ some LogFull → Passed (asks n a t x)
+  passes_again : (x : Call) → ask (asks m c s x) ≡ Some LogFull → Passed (asks n a t x)
   passes_again (begin y) e = absurd (never (asks m c s (begin y)) (refl, (refl, (refl, tt))) e)
   passes_again (write y key v) e = write_passes y key e
   passes_again (erase y key) e = write_passes y key e

@@ -1,12 +1,12 @@
 -- One call of the way out of a full log, in a running store. What it leaves is read off from its definition: a store is
 -- refused 13 or done, and a checkpoint call is done. None adds a record, so the log's history stays; each that is done
 -- is the one that asking names, since those before it do not differ any more.
+use Rattle.std.specs.Prelude.{None}
 use Prim.Native.Nat.{ℕ, ◌+◌, ◌-◌, ◌*◌, ◌≤◌, ◌<◌}
 use native.Mathlib.Omega.{arith}
 use mathlib.Core.Path.{◌≡◌, refl, sym, ap, ◌∙◌, subst}
 use mathlib.Core.Logic.{◌⊎◌, inl, inr, ◌≢◌}
 use mathlib.Core.Bool.{Bool, true, false, not, ◌&&◌, ◌||◌}
-use mathlib.Core.Option.{none}
 use mathlib.Core.List.{List, [], ◌∷◌, ◌++◌}
 use lib.ListN.{length, get_or, set}
 use lib.Seq.{get_or-set_same, get_or-set_other}
@@ -25,7 +25,6 @@ use Rattle.layout.specs.declared.TxNumber.{TxNumber}
 use Rattle.layout.specs.declared.slot.Slot.TheVariants.{Waiting}
 use Rattle.layout.proofs.MasterLaws.{length_master_bytes}
 use Rattle.layout.proofs.PlaceLaws.{log_page_apart, log_not_first}
-use Rattle.store.specs.declared.Found.TheVariants.{Nothing}
 use Rattle.store.specs.declared.Phase.{Phase}
 use Rattle.store.specs.declared.Phase.TheVariants.{Idle, FirstStored, SecondStored}
 use Rattle.store.specs.declared.Refusal.TheVariants.{Unchanged}
@@ -131,7 +130,7 @@ module _ {l d : ℕ} {m c : List ℕ} {s : State} {b : Book} {disk : Disk} {clos
   unfolding called store_log_of store_log_if
   log_refused e = rw (fits_up u, e)
 
-  log_done : log_equal ≡ false → called m c s store_log ≡ store_log_if none s m c
+  log_done : log_equal ≡ false → called m c s store_log ≡ store_log_if None s m c
   unfolding called store_log_of
   log_done e = rw (fits_up u, e)
 
@@ -160,8 +159,8 @@ module _ {l d : ℕ} {m c : List ℕ} {s : State} {b : Book} {disk : Disk} {clos
             quiet = λ j h. absurd (omega arith);
           }))
       go false e =
-          stored (refusal_is store_log (store_log_if none s m c) (log_done e)) (log_named e)
-          (landed (Clear l closed tail r Ph 0) store_log (store_log_if none s m c) (log_done e)
+          stored (refusal_is store_log (store_log_if None s m c) (log_done e)) (log_named e)
+          (landed (Clear l closed tail r Ph 0) store_log (store_log_if None s m c) (log_done e)
           (subst (λ (x : List ℕ). Running l d closed tail (Clear l closed tail r Ph 0) (up x c (log_stored s)))
           (sym (medium_is u))
           (runs _ c (log_stored s) _ _ (log_up u) (record {
@@ -217,7 +216,7 @@ module _ {l d : ℕ} {m c : List ℕ} {s : State} {b : Book} {disk : Disk} {clos
             e,
           )
 
-      page_done : page_equal p ≡ false → called m c s (store_page p) ≡ store_page_if none s m c p
+      page_done : page_equal p ≡ false → called m c s (store_page p) ≡ store_page_if None s m c p
       unfolding called store_page_of
       page_done e =
           rw (
@@ -291,8 +290,8 @@ module _ {l d : ℕ} {m c : List ℕ} {s : State} {b : Book} {disk : Disk} {clos
                 quiet = λ j h. kept_quiet j h e (split j (15 * p));
               }))
           go false e =
-              stored (refusal_is (store_page p) (store_page_if none s m c p) (page_done e)) (page_named e)
-              (landed (Clear l closed tail r Ph (p + 1)) (store_page p) (store_page_if none s m c p) (page_done e)
+              stored (refusal_is (store_page p) (store_page_if None s m c p) (page_done e)) (page_named e)
+              (landed (Clear l closed tail r Ph (p + 1)) (store_page p) (store_page_if None s m c p) (page_done e)
               (subst (λ (x : ℕ). Running l d closed tail (Clear l closed tail r Ph (p + 1))
               (up (put m (page_block_at x p) (stamped_page s (blk c p))) (put c p (stamped_page s (blk c p)))
               (page_stored s p (blk c p)))) (sym u.state.blocks)
@@ -372,7 +371,7 @@ module _ {l d : ℕ} {m c : List ℕ} {s : State} {b : Book} {disk : Disk} {clos
     new_oldest_tail : new_oldest s ≡ sequence_of s.tail
     new_oldest_tail = oldest_tail u a.clear
 
-    pages_passed : next_in (up m c s) ≡ named (after_log Nothing (checkpoint_left s m))
+    pages_passed : next_in (up m c s) ≡ named (after_log None (checkpoint_left s m))
     unfolding page_left
     pages_passed =
         log_passed (logged_equal a)
@@ -381,7 +380,7 @@ module _ {l d : ℕ} {m c : List ℕ} {s : State} {b : Book} {disk : Disk} {clos
 
     -- what is named then, by the phase, and whether one more would leave the oldest block where it is
     abbrev by_phase : Phase → Bool → List Event
-    by_phase ph same = named (after_log Nothing (under_way ph || not same))
+    by_phase ph same = named (after_log None (under_way ph || not same))
 
     -- a checkpoint while one is under way, or would make the tail the oldest block, and nothing once the tail is
     pub under_named : under_way s.phase ≡ true → next_in (up m c s) ≡ call checkpoint ∷ []

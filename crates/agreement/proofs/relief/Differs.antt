@@ -2,6 +2,8 @@
 -- place is stored. A page that equals its stamped copy has all its versions on the medium, so it has no first change,
 -- and what still waits in it has no commit; and a page of which both hold does not differ. With no first change left
 -- the new oldest block is the tail.
+use Rattle.layout.specs.declared.CommitTime.{CommitTime}
+use Rattle.std.specs.Prelude.{Option, Some, None}
 use Prim.Native.Nat.{ℕ, zero, suc, ◌+◌, ◌*◌, ◌/◌, ◌%◌, ◌^◌, ◌≤◌, ◌<◌}
 use Prim.Native.Nat.{suc-le-suc}
 use native.Mathlib.Omega.{arith}
@@ -21,13 +23,9 @@ use Rattle.layout.specs.declared.TxNumber.{TxNumber}
 use Rattle.layout.specs.declared.slot.Slot.{Slot}
 use Rattle.layout.specs.declared.slot.Slot.TheVariants.{Empty, Waiting, Stamped}
 use Rattle.layout.proofs.PageLaws.{no_cell}
-use Rattle.store.specs.declared.Found.{Found}
-use Rattle.store.specs.declared.Found.TheVariants.{At, Nothing}
 use Rattle.store.specs.declared.Life.{Life}
 use Rattle.store.specs.declared.Life.TheVariants.{Free, Active, Committed}
 use Rattle.store.specs.declared.State.{State}
-use Rattle.store.specs.declared.Timing.{Timing}
-use Rattle.store.specs.declared.Timing.TheVariants.{Untimed}
 use Rattle.store.specs.Places.{place_at, find_committed, stored_under, time_up_to, at_found}
 use Rattle.store.specs.OpenPairs.{waits_under}
 use Rattle.store.specs.OpenLog.{Placed, place_from}
@@ -59,8 +57,8 @@ least_none q [] f = refl
 least_none q (x ∷ xs) f = rw (eq-eqb x 0 (f 0 (omega arith))) (least_none q xs (λ p h. f (suc p) (suc-le-suc h)))
 
 -- no slot is stamped
-stamps_none : (pair : ℕ → Timing) (page : List ℕ) (i k : ℕ)
-    → ((j : ℕ) → i ≤ j → j < i + k → stamp_time pair (slot_state (page_slot page j)) ≡ Untimed)
+stamps_none : (pair : ℕ → Option CommitTime) (page : List ℕ) (i k : ℕ)
+    → ((j : ℕ) → i ≤ j → j < i + k → stamp_time pair (slot_state (page_slot page j)) ≡ None)
     → stamp_from pair page i k ≡ page
 unfolding stamp_from
 stamps_none pair page i zero f = refl
@@ -155,7 +153,7 @@ module _ {l d : ℕ} {m c : List ℕ} {s : State} {b : Book} {disk : Disk} {clos
             )
 
     -- a live number without a stored commit has none
-    unpaired : (n i : ℕ) → i < 64 → num_at s.places i ≡ n → 0 < n → stored_pair s n ≡ Untimed
+    unpaired : (n i : ℕ) → i < 64 → num_at s.places i ≡ n → 0 < n → stored_pair s n ≡ None
         → (find (commits_of history) n).time ≡ 0
     unfolding stored_pair stored_under
     unpaired n i h e z w = go (same? (time_at s.places i) 0)
@@ -163,7 +161,7 @@ module _ {l d : ℕ} {m c : List ℕ} {s : State} {b : Book} {disk : Disk} {clos
         lively : Lively (commits_of history) disk.cells disk.oldest s.next.0 (place_at s.places i)
         lively = u.living.each i h
 
-        timed : (x : Life) → 0 < life_time x → life_end x ≤ s.end.0 → time_up_to x s.end.0 ≡ Untimed → ⊥
+        timed : (x : Life) → 0 < life_time x → life_end x ≤ s.end.0 → time_up_to x s.end.0 ≡ None → ⊥
         timed Free a q r = omega arith
         timed (Active y v) a q r = omega arith
         timed (Committed y v o) a q r =
@@ -284,16 +282,16 @@ module _ {l d : ℕ} {m c : List ℕ} {s : State} {b : Book} {disk : Disk} {clos
             ))
 
     unstamped : (x : Slot) → ((n : TxNumber) → x ≡ Waiting n → (find (commits_of history) n.0).time ≡ 0)
-        → stamp_time (stored_pair s) x ≡ Untimed
+        → stamp_time (stored_pair s) x ≡ None
     unfolding stamp_time stored_pair stored_under
     unstamped Empty f = refl
     unstamped (Stamped t) f = refl
     unstamped (Waiting n) f = go (find_committed s.places n.0) refl
       where
-        go : (x : Found) → find_committed s.places n.0 ≡ x
-            → at_found x (λ i. time_up_to (place_at s.places i).life s.end.0) ≡ Untimed
-        go Nothing e = refl
-        go (At i) e =
+        go : (x : Option ℕ) → find_committed s.places n.0 ≡ x
+            → at_found x (λ i. time_up_to (place_at s.places i).life s.end.0) ≡ None
+        go None e = refl
+        go (Some i) e =
             let r = committed_found u.living n.0 i e in
             absurd (omega (
               arith,

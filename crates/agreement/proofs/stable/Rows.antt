@@ -1,11 +1,11 @@
 -- Rows that come later change no answer as of a time that the rows before have reached: a later commit row has a
 -- greater time, and a later version row is of a number without a commit row before it. So the versions that count are
 -- the same.
+use Rattle.std.specs.Prelude.{Option, None, Some}
 use Prim.Native.Nat.{ℕ, zero, suc, ◌≤◌, ◌<◌}
 use native.Mathlib.Omega.{arith}
 use mathlib.Core.Bool.{Bool, true, false, cond}
 use mathlib.Core.List.{List, [], ◌∷◌, ◌++◌, append_assoc, append-nil}
-use mathlib.Core.Option.{Option, none, some}
 use mathlib.Core.Path.{◌≡◌, refl, sym, ap, ◌∙◌, subst}
 use lib.Dec.{eqb}
 use lib.ListN.{take}
@@ -27,7 +27,7 @@ use Rattle.agreement.proofs.plain.Reads.{last_from}
 -- among the rows behind R, no version is of a number with a commit before it
 abbrev pub Fresh : List Row → List Row → Type 0
 Fresh R [] = Unit {0}
-Fresh R (version v ∷ rs) = (time_of R v.number ≡ none) × Fresh (R ++ (version v ∷ [])) rs
+Fresh R (version v ∷ rs) = (time_of R v.number ≡ None) × Fresh (R ++ (version v ∷ [])) rs
 Fresh R (committed n t ∷ rs) = Fresh (R ++ (committed n t ∷ [])) rs
 
 fresh_take : (i : ℕ) (R rs : List Row) → Fresh R rs → Fresh R (take i rs)
@@ -101,13 +101,13 @@ pub last_more : (rs ss : List Row) → Rises 0 (transactions (rs ++ ss)) → las
 unfolding last_time
 last_more rs ss r = last_from_low 0 0 rs ss r
 
-above : (low : ℕ) (rs : List Row) (n u : ℕ) → Rises low (transactions rs) → time_of rs n ≡ some u → low < u
+above : (low : ℕ) (rs : List Row) (n u : ℕ) → Rises low (transactions rs) → time_of rs n ≡ Some u → low < u
 unfolding transactions time_of
 above low [] n u r e = let z : ◌≡◌ {A = ℕ} 0 1 = cc in absurd (omega arith)
 above low (version v ∷ rs) n u r e = above low rs n u r e
 above low (committed k t ∷ rs) n u r e = go (eqb k n) e (above t rs n u r.1)
   where
-    go : (x : Bool) → cond x (some t) (time_of rs n) ≡ some u → (time_of rs n ≡ some u → t < u) → low < u
+    go : (x : Bool) → cond x (Some t) (time_of rs n) ≡ Some u → (time_of rs n ≡ Some u → t < u) → low < u
     go true e ih = let z : t ≡ u = cc in omega (arith, r.0)
     go false e ih = omega (arith, r.0, ih e)
 
@@ -115,8 +115,8 @@ above low (committed k t ∷ rs) n u r e = go (eqb k n) e (above t rs n u r.1)
 
 -- a time from the limit on
 pub too_late : (best : Option Dated) (limit : ℕ) (x : Dated) → limit ≤ x.time → later_of best limit x ≡ best
-too_late none limit x h = rw (le-ltb x.time limit h)
-too_late (some y) limit x h = rw (le-ltb x.time limit h)
+too_late None limit x h = rw (le-ltb x.time limit h)
+too_late (Some y) limit x h = rw (le-ltb x.time limit h)
 
 -- no time among the rows R
 best_fresh : (R S rs : List Row) (key limit : ℕ) (best : Option Dated) → Fresh (R ++ S) rs
@@ -152,8 +152,8 @@ module _ (rs qs : List Row) (key t1 top : ℕ) (last : (limit : ℕ) → limit �
       go : (x : Option Dated) → last_below rs key limit ≡ x
           → ((a : ℕ) → a ≤ top → lines_below qs key t1 k a ≡ lines_below rs key t1 k a)
           → lines_at qs key t1 (lines_below qs key t1 k) x ≡ lines_at rs key t1 (lines_below rs key t1 k) x
-      go none e ih = refl
-      go (some x) e ih =
+      go None e ih = refl
+      go (Some x) e ih =
           let low : x.time ≤ top = omega (arith, (last_from rs key limit x e).below) in
           rw (ih x.time low, last x.time low)
 
@@ -161,7 +161,7 @@ module _ (rs qs : List Row) (key t1 top : ℕ) (last : (limit : ℕ) → limit �
 
 module _ (R more : List Row) (rising : Rises 0 (transactions (R ++ more))) (fresh : Fresh [] (R ++ more)) (t : ℕ)
     (reached : t ≤ last_time R) where
-  later : (n u : ℕ) → time_of more n ≡ some u → t < u
+  later : (n u : ℕ) → time_of more n ≡ Some u → t < u
   unfolding last_time
   later n u e = omega (arith, above (last_time R) more n u (rises_right 0 0 R more rising) e)
 
@@ -170,16 +170,16 @@ module _ (R more : List Row) (rising : Rises 0 (transactions (R ++ more))) (fres
   dated_same v best limit h = go (time_of R v.number) refl
     where
       late : (x : Option ℕ) → time_of more v.number ≡ x → dated_of x best limit v ≡ best
-      late none e = refl
-      late (some u) e =
+      late None e = refl
+      late (Some u) e =
           too_late best limit (record { time = u; kind = v.kind; value = v.value }) (omega (arith, later v.number u e))
 
       go : (x : Option ℕ) → time_of R v.number ≡ x → dated_of (time_of (R ++ more) v.number) best limit v
           ≡ dated_of x best limit v
-      go none e =
+      go None e =
           ap (λ (x : Option ℕ). dated_of x best limit v) (time_none R more v.number e)
           ∙ late (time_of more v.number) refl
-      go (some u) e = ap (λ (x : Option ℕ). dated_of x best limit v) (time_front R more v.number u e)
+      go (Some u) e = ap (λ (x : Option ℕ). dated_of x best limit v) (time_front R more v.number u e)
 
   best_same : (key limit : ℕ) (best : Option Dated) (vs : List Version) → limit ≤ suc t
       → best_below (R ++ more) key limit best vs ≡ best_below R key limit best vs
@@ -193,10 +193,10 @@ module _ (R more : List Row) (rising : Rises 0 (transactions (R ++ more))) (fres
   last_same : (key limit : ℕ) → limit ≤ suc t → last_below (R ++ more) key limit ≡ last_below R key limit
   unfolding last_below
   last_same key limit h =
-      ap (best_below (R ++ more) key limit none) (versions_append R more)
-      ∙ best_same key limit none (versions R ++ versions more) h
-      ∙ best_append R key limit none (versions R) (versions more)
-      ∙ best_fresh R [] more key limit (best_below R key limit none (versions R))
+      ap (best_below (R ++ more) key limit None) (versions_append R more)
+      ∙ best_same key limit None (versions R ++ versions more) h
+      ∙ best_append R key limit None (versions R) (versions more)
+      ∙ best_fresh R [] more key limit (best_below R key limit None (versions R))
       (subst (λ (xs : List Row). Fresh xs more) (sym (append-nil R)) (fresh_right [] R more fresh))
 
   pub strip_same : (key : ℕ) → strip_as_of (R ++ more) key t ≡ strip_as_of R key t

@@ -1,6 +1,8 @@
 -- A read as of a time and a list of changes in a running store, of a record number below 1,024, are refused by their
 -- time just if it is above that of the last stored commit: the state's stored time is that of the rows which a cut
 -- would leave, and a running store fits its buffers.
+use Rattle.layout.specs.declared.CommitTime.{CommitTime}
+use Rattle.std.specs.Prelude.{Option, Some, None}
 use Prim.Native.Nat.{ℕ, ◌*◌}
 use mathlib.Core.Bool.{Bool, true, false, cond}
 use mathlib.Core.List.{List, [], ◌∷◌}
@@ -11,8 +13,6 @@ use Rattle.fields.specs.Block.{zeros}
 use Rattle.layout.specs.Journal.{Record}
 use Rattle.layout.specs.Slot.{key_form}
 use Rattle.store.specs.declared.Answer.TheVariants.{Erased, Present}
-use Rattle.store.specs.declared.Best.{Best}
-use Rattle.store.specs.declared.Best.TheVariants.{Version, Neither}
 use Rattle.store.specs.declared.Refusal.TheVariants.{Unfit, NoRecord, NotYet, ShortBuffer}
 use Rattle.store.specs.declared.State.{State}
 use Rattle.store.specs.Answer.{refusal_number, answer_number, ask}
@@ -39,10 +39,10 @@ module _ {l d : ℕ} {m c : List ℕ} {s : State} {b : Book} {disk : Disk} {clos
   -- ---- a read
 
   -- what is found is no refusal
-  read_answered : (x : Best) → answer_number (as_of_at x s m c).answer ≡ 0
+  read_answered : (x : Option (ℕ × CommitTime)) → answer_number (as_of_at x s m c).answer ≡ 0
   unfolding read_cell answer_number
-  read_answered Neither = refl
-  read_answered (Version n t) = go (eqb (cell_at c n).kind 1)
+  read_answered None = refl
+  read_answered (Some (n, t)) = go (eqb (cell_at c n).kind 1)
     where
       go : (y : Bool)
           → answer_number (cond y (reads Erased (zeros 16) s m c) (reads Present (cell_at c n).value s m c)).answer ≡ 0

@@ -1,6 +1,7 @@
 -- The 15 turns of storing a page: each stamps a slot that waits under a number whose commit is stored, and counts that
 -- number's place down. After each turn the page is the canonical page of the slots so far, and the places are true of
 -- them.
+use Rattle.std.specs.Prelude.{Option, Some, None}
 use Prim.Native.Nat.{ℕ, zero, suc, ◌+◌, ◌-◌, ◌*◌, ◌/◌, ◌≤◌, ◌<◌}
 use native.Mathlib.Nat.{add-zero}
 use native.Mathlib.Omega.{arith}
@@ -25,14 +26,10 @@ use Rattle.layout.specs.declared.slot.Slot.TheVariants.{Empty, Waiting, Stamped}
 use Rattle.fields.proofs.CellLaws.{Each, each_at}
 use Rattle.layout.proofs.PageLaws.{no_cell, free_page_bytes, stamp_page_bytes}
 use Rattle.layout.proofs.SlotLaws.{SlotSized, cell_stamped, cell_slot_bytes}
-use Rattle.store.specs.declared.Found.{Found}
-use Rattle.store.specs.declared.Found.TheVariants.{At, Nothing}
 use Rattle.store.specs.declared.Life.{Life}
 use Rattle.store.specs.declared.Life.TheVariants.{Free, Active, Committed}
 use Rattle.store.specs.declared.Place.{Place}
 use Rattle.store.specs.declared.State.{State}
-use Rattle.store.specs.declared.Timing.{Timing}
-use Rattle.store.specs.declared.Timing.TheVariants.{Timed, Untimed}
 use Rattle.store.specs.Places.{place_at, find_committed, stored_under, time_up_to, at_found}
 use Rattle.store.specs.OpenPairs.{waits_under}
 use Rattle.store.specs.StorePage.{stamp_time, stamp_with, stamp_from, stored_pair, stamped_page, lower_at, settle_with}
@@ -123,13 +120,13 @@ match_stamp cs v x n t (marked u y g) e z f = absurd (omega (arith, ap code_of e
 
 -- ---- the times of stored commits
 
-up_to : (x : Life) (limit : ℕ) (t : CommitTime) → time_up_to x limit ≡ Timed t
+up_to : (x : Life) (limit : ℕ) (t : CommitTime) → time_up_to x limit ≡ Some t
     → (life_time x ≡ t.0) × (life_end x ≤ limit)
 up_to Free limit t e = let z : ◌≡◌ {A = ℕ} 0 1 = cc in absurd (omega arith)
 up_to (Active a k) limit t e = let z : ◌≡◌ {A = ℕ} 0 1 = cc in absurd (omega arith)
 up_to (Committed a u k) limit t e = go (leb k.0 limit) refl e
   where
-    go : (b : Bool) → leb k.0 limit ≡ b → cond b (Timed u) Untimed ≡ Timed t → (u.0 ≡ t.0) × (k.0 ≤ limit)
+    go : (b : Bool) → leb k.0 limit ≡ b → cond b (Some u) None ≡ Some t → (u.0 ≡ t.0) × (k.0 ≤ limit)
     go true f e = (cc, leb-true k.0 limit f)
     go false f e = let z : ◌≡◌ {A = ℕ} 0 1 = cc in absurd (omega arith)
 
@@ -137,7 +134,7 @@ up_to (Committed a u k) limit t e = go (leb k.0 limit) refl e
 record Stamps (ps : List Place) (stored all : List LoggedCommit) (n t : ℕ) : Type 0 where
   place : ℕ
   inside : place < 64
-  found : find_committed ps n ≡ At place
+  found : find_committed ps n ≡ Some place
   num : num_at ps place ≡ n
   time : time_at ps place ≡ t
   low : 0 < n
@@ -147,22 +144,22 @@ record Stamps (ps : List Place) (stored all : List LoggedCommit) (n t : ℕ) : T
 
 -- ---- the turns
 
-stamp_none : (pair : ℕ → Timing) (page : List ℕ) (i : ℕ) → stamp_from pair page i 0 ≡ page
+stamp_none : (pair : ℕ → Option CommitTime) (page : List ℕ) (i : ℕ) → stamp_from pair page i 0 ≡ page
 unfolding stamp_from
 stamp_none pair page i = refl
 
-stamp_next : (pair : ℕ → Timing) (page : List ℕ) (i j : ℕ)
+stamp_next : (pair : ℕ → Option CommitTime) (page : List ℕ) (i j : ℕ)
     → stamp_from pair page i (suc j) ≡ stamp_from pair
     (stamp_with (stamp_time pair (slot_state (page_slot page i))) page i) (i + 1) j
 unfolding stamp_from
 stamp_next pair page i j = refl
 
-settle_none : (pair : ℕ → Timing) (old : List Place) (page : List ℕ) (ps : List Place) (i : ℕ)
+settle_none : (pair : ℕ → Option CommitTime) (old : List Place) (page : List ℕ) (ps : List Place) (i : ℕ)
     → settle_from pair old page ps i 0 ≡ ps
 unfolding settle_from
 settle_none pair old page ps i = refl
 
-settle_next : (pair : ℕ → Timing) (old : List Place) (page : List ℕ) (ps : List Place) (i j : ℕ)
+settle_next : (pair : ℕ → Option CommitTime) (old : List Place) (page : List ℕ) (ps : List Place) (i j : ℕ)
     → settle_from pair old page ps i (suc j) ≡ settle_from pair old page
     (settle_with (stamp_time pair (slot_state (page_slot page i))) (slot_state (page_slot page i)) old ps) (i + 1) j
 unfolding settle_from
@@ -170,7 +167,7 @@ settle_next pair old page ps i j = refl
 
 -- after the turns of the first i slots of page p: the slots so far, the page and the places
 pub record Turned (m : List ℕ) (disk : Disk) (vs : List LoggedVersion) (cs : List LoggedCommit) (next : ℕ)
-    (old : List Place) (pair : ℕ → Timing) (p i : ℕ) (page : List ℕ) (ps : List Place) : Type 0 where
+    (old : List Place) (pair : ℕ → Option CommitTime) (p i : ℕ) (page : List ℕ) (ps : List Place) : Type 0 where
   pub cells : List Cell
   pub size : length cells ≡ length vs
   pub bytes : page ≡ page_with vs cells p (full (length vs) p)
@@ -178,7 +175,7 @@ pub record Turned (m : List ℕ) (disk : Disk) (vs : List LoggedVersion) (cs : L
   pub ahead : (n : ℕ) → 15 * p + i ≤ n → cell cells n ≡ cell disk.cells n
   pub match : (n : ℕ) → n < length vs → Match (commits_of disk.stored) (at vs n) (cell cells n)
   -- what still waits has no stored commit
-  pub done : (j : ℕ) → j < i → (n : TxNumber) → (cell cells (15 * p + j)).state ≡ Waiting n → pair n.0 ≡ Untimed
+  pub done : (j : ℕ) → j < i → (n : TxNumber) → (cell cells (15 * p + j)).state ≡ Waiting n → pair n.0 ≡ None
   pub living : Living m cs cells disk.oldest next ps
   pub kept : AllKept old ps
 
@@ -188,16 +185,16 @@ module _ {l d : ℕ} {m c : List ℕ} {s : State} {b : Book} {disk : Disk} {clos
   history = closed ++ (tail ∷ [])
 
   -- a time that a slot is stamped with is that of a stored commit
-  stamps : (n : ℕ) (t : CommitTime) → stored_pair s n ≡ Timed t
+  stamps : (n : ℕ) (t : CommitTime) → stored_pair s n ≡ Some t
       → Stamps s.places (commits_of disk.stored) (commits_of history) n t.0
   unfolding stored_pair stored_under
   stamps n t e = go (find_committed s.places n) refl e
     where
-      go : (f : Found) → find_committed s.places n ≡ f
-          → at_found f (λ i. time_up_to (place_at s.places i).life s.end.0) ≡ Timed t
+      go : (f : Option ℕ) → find_committed s.places n ≡ f
+          → at_found f (λ i. time_up_to (place_at s.places i).life s.end.0) ≡ Some t
           → Stamps s.places (commits_of disk.stored) (commits_of history) n t.0
-      go Nothing f e = let z : ◌≡◌ {A = ℕ} 0 1 = cc in absurd (omega arith)
-      go (At i) f e =
+      go None f e = let z : ◌≡◌ {A = ℕ} 0 1 = cc in absurd (omega arith)
+      go (Some i) f e =
           let r = committed_found u.living n i f in
           let w = u.living.each i r.0 in
           let q = up_to (place_at s.places i).life s.end.0 t e in
@@ -236,7 +233,7 @@ module _ {l d : ℕ} {m c : List ℕ} {s : State} {b : Book} {disk : Disk} {clos
 
     -- nothing is stamped
     unstamped : (i : ℕ) (page : List ℕ) (ps : List Place)
-        → ((n : TxNumber) → (cell disk.cells (15 * p + i)).state ≡ Waiting n → stored_pair s n.0 ≡ Untimed)
+        → ((n : TxNumber) → (cell disk.cells (15 * p + i)).state ≡ Waiting n → stored_pair s n.0 ≡ None)
         → Here i page ps → Here (i + 1) page ps
     unstamped i page ps f t = record {
       cells = t.cells;
@@ -251,7 +248,7 @@ module _ {l d : ℕ} {m c : List ℕ} {s : State} {b : Book} {disk : Disk} {clos
     }
       where
         done' : (j : ℕ) → j < i + 1 → (j ≡ i) ⊎ (j ≢ i) → (n : TxNumber) → (cell t.cells (15 * p + j)).state ≡ Waiting n
-            → stored_pair s n.0 ≡ Untimed
+            → stored_pair s n.0 ≡ None
         done' j h (inl e) n w =
             f n (ap (λ (x : Cell). x.state) (sym (t.ahead (15 * p + i) (omega arith)))
             ∙ ap (λ (x : ℕ). (cell t.cells (15 * p + x)).state) (sym e) ∙ w)
@@ -260,9 +257,9 @@ module _ {l d : ℕ} {m c : List ℕ} {s : State} {b : Book} {disk : Disk} {clos
     -- a slot is stamped
     stamped : (i : ℕ) (page : List ℕ) (ps : List Place) → i < 15 → Here i page ps → (n : TxNumber) (w : CommitTime)
         → (cell disk.cells (15 * p + i)).state ≡ Waiting n
-        → stored_pair s n.0 ≡ Timed w → Here (i + 1) (stamp_cell page i w.0) (lower_at (find_committed s.places n.0) ps)
+        → stored_pair s n.0 ≡ Some w → Here (i + 1) (stamp_cell page i w.0) (lower_at (find_committed s.places n.0) ps)
     stamped i page ps h t n w e f =
-        subst (λ (x : Found). Here (i + 1) (stamp_cell page i w.0) (lower_at x ps)) (sym st.found) (record {
+        subst (λ (x : Option ℕ). Here (i + 1) (stamp_cell page i w.0) (lower_at x ps)) (sym st.found) (record {
           cells = set t.cells x new;
           size = length-set t.cells x new ∙ t.size;
           bytes = ap (λ (y : List ℕ). stamp_cell y i w.0) t.bytes
@@ -315,7 +312,7 @@ module _ {l d : ℕ} {m c : List ℕ} {s : State} {b : Book} {disk : Disk} {clos
         match' a g (inr q) = rw (get_or-set_other t.cells x a new no_cell q) (t.match a g)
 
         done' : (a : ℕ) → a < i + 1 → (a ≡ i) ⊎ (a ≢ i) → (y : TxNumber)
-            → (cell (set t.cells x new) (15 * p + a)).state ≡ Waiting y → stored_pair s y.0 ≡ Untimed
+            → (cell (set t.cells x new) (15 * p + a)).state ≡ Waiting y → stored_pair s y.0 ≡ None
         done' a g (inl q) y z =
             let v : new.state ≡ Waiting y = ap (λ (o : Cell). o.state) (sym (get_or-set_same t.cells x new no_cell lt))
             ∙ ap (λ (o : ℕ). (cell (set t.cells x new) (15 * p + o)).state) (sym q) ∙ z in
@@ -355,10 +352,10 @@ module _ {l d : ℕ} {m c : List ℕ} {s : State} {b : Book} {disk : Disk} {clos
         unstamped i page ps (λ n w. let o : ◌≡◌ {A = ℕ} 0 1 = cc in absurd (omega arith)) t
     turn i page ps h t (Waiting n) e = go (stored_pair s n.0) refl
       where
-        go : (x : Timing) → stored_pair s n.0 ≡ x
+        go : (x : Option CommitTime) → stored_pair s n.0 ≡ x
             → Here (i + 1) (stamp_with x page i) (settle_with x (Waiting n) s.places ps)
-        go Untimed f = unstamped i page ps (λ y w. let o : n.0 ≡ y.0 = cc in rw o at f) t
-        go (Timed w) f = stamped i page ps h t n w e f
+        go None f = unstamped i page ps (λ y w. let o : n.0 ≡ y.0 = cc in rw o at f) t
+        go (Some w) f = stamped i page ps h t n w e f
 
     pub old_state : (i : ℕ) → i < 15 → slot_state (page_slot (blk c p) i) ≡ (cell disk.cells (15 * p + i)).state
     old_state i h =

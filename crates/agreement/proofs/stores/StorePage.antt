@@ -1,11 +1,11 @@
 -- Store page: the page stamped and stored, and the places counted down. The page's last version is stored (question
 -- 12), so the page holds stored versions only; StampLaws says what the page and the places then are.
+use Rattle.std.specs.Prelude.{None}
 use Prim.Native.Nat.{ℕ, zero, suc, ◌+◌, ◌-◌, ◌*◌, ◌/◌, ◌%◌, ◌≤◌, ◌<◌}
 use native.Mathlib.Omega.{arith}
 use mathlib.Core.Bool.{Bool, cond}
 use mathlib.Core.List.{List, [], ◌∷◌, ◌++◌}
 use mathlib.Core.Logic.{◌⊎◌, inl, inr, ◌≢◌}
-use mathlib.Core.Option.{none}
 use mathlib.Core.Path.{◌≡◌, refl, sym, ap, ◌∙◌, subst}
 use lib.Dec.{eqb}
 use lib.ListN.{length, get_or, set, length-set}
@@ -252,7 +252,7 @@ module _ {l d : ℕ} {m c : List ℕ} {s : State} {b : Book} {disk : Disk} {clos
               (covered_kept m (commits_of history) s.places (settled s (blk c p)) o n h turned.kept q.covered);
         }
 
-  pub page_stored_law : (p : ℕ) → Passed (store_page_asks s m c p) → Inv l d (after (store_page_if none s m c p)) b
+  pub page_stored_law : (p : ℕ) → Passed (store_page_asks s m c p) → Inv l d (after (store_page_if None s m c p)) b
   unfolding store_page_if
   page_stored_law p a =
       subst (λ (x : ℕ). Inv l d (up (put m (page_block_at x p) (stamped_page s (blk c p)))

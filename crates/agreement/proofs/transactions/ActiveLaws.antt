@@ -1,5 +1,6 @@
 -- What holds of an active number, found in place i: it has no commit, no pair in the table, no other place, and all its
 -- versions wait. By the invariant of the places.
+use Rattle.std.specs.Prelude.{Some}
 use Prim.Native.Nat.{ℕ, ◌-◌, ◌^◌, ◌<◌}
 use native.Mathlib.Omega.{arith}
 use mathlib.Core.List.{List, [], ◌∷◌, ◌++◌}
@@ -8,7 +9,6 @@ use mathlib.Core.Path.{◌≡◌, refl, sym, ap, ◌∙◌}
 use lib.ListN.{length}
 use Rattle.layout.specs.Journal.{Record}
 use Rattle.layout.specs.Slot.{Cell}
-use Rattle.store.specs.declared.Found.TheVariants.{At}
 use Rattle.store.specs.declared.State.{State}
 use Rattle.store.specs.Places.{find_active, place_at}
 use Rattle.runs.specs.Book.{Book}
@@ -20,7 +20,7 @@ use Rattle.agreement.proofs.invariant.Invariant.{num_at, time_at, table_num, Up}
 
 module _ {l d : ℕ} {m c : List ℕ} {s : State} {b : Book} {disk : Disk} {closed : List (List Record)}
     {tail : List Record} (u : Up l d m c s b disk closed tail)
-    (n i : ℕ) (f : find_active s.places n ≡ At i) where
+    (n i : ℕ) (f : find_active s.places n ≡ Some i) where
   pub active_place : i < 64
   active_place = (active_found u.living n i f).0
 

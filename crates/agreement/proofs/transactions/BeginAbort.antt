@@ -1,5 +1,6 @@
 -- Begin, abort and commit without versions: only places and open numbers change, and a place that is taken or left has
 -- no live pair of the table, so everything said of the medium stays.
+use Rattle.std.specs.Prelude.{Some}
 use Prim.Native.Nat.{ℕ, ◌+◌, ◌-◌, ◌^◌, ◌≤◌, ◌<◌}
 use native.Mathlib.Omega.{arith}
 use mathlib.Core.Bool.{or-true, Bool, true, false, cond, ◌||◌}
@@ -13,7 +14,6 @@ use Rattle.layout.specs.Journal.{Record}
 use Rattle.fields.proofs.CellLaws.{Each, each_at, each_map}
 use Rattle.store.specs.declared.Life.TheVariants.{Active}
 use Rattle.store.specs.declared.Place.{Place}
-use Rattle.store.specs.declared.Found.TheVariants.{At}
 use Rattle.store.specs.declared.State.{State}
 use Rattle.store.specs.Places.{find_active, find_free, is_free, free_place, ring_place, place_at}
 use Rattle.store.specs.State.{with_place}
@@ -79,7 +79,7 @@ ring_below : (ring r : ℕ) → ring_place ring r < 64
 unfolding ring_place
 ring_below ring r = omega arith
 
-free_found : (ps : List Place) (ring r : ℕ) → find_free ps ring ≡ At r
+free_found : (ps : List Place) (ring r : ℕ) → find_free ps ring ≡ Some r
     → is_free (place_at ps (ring_place ring r)).life ≡ true
 unfolding find_free
 free_found ps ring r e = (first_found (λ k. is_free (place_at ps (ring_place ring k)).life) 64 0 r e).2
@@ -96,7 +96,7 @@ module _ {l d : ℕ} {m c : List ℕ} {s : State} {b : Book} {disk : Disk} {clos
       ∙ below_row (records (closed ++ (tail ∷ []))) s.next.0 u.state.numbers
 
   -- the place was free, so no live pair of the table is at it (home); nothing waits under the new number
-  pub began : (clock i : ℕ) → clock < 2 ^ 64 → Passed (begin_asks s m c) → find_free s.places s.ring ≡ At i
+  pub began : (clock i : ℕ) → clock < 2 ^ 64 → Passed (begin_asks s m c) → find_free s.places s.ring ≡ Some i
       → Inv l d (up m c (begun s (ring_place s.ring i) clock))
       (record { opened = record { number = s.next.0; clock = clock } ∷ b.opened; rows = b.rows; stored = b.stored })
   unfolding begun clock_in is_open
@@ -272,7 +272,7 @@ module _ {l d : ℕ} {m c : List ℕ} {s : State} {b : Book} {disk : Disk} {clos
           (λ z t. rw (u.opens.known j a z t) (or-true (eqb s.next.0 (num_at s.places j))))
 
   -- the number has no commit, so `all` and `home` do not speak of it
-  pub closes : (n i : ℕ) → find_active s.places n ≡ At i
+  pub closes : (n i : ℕ) → find_active s.places n ≡ Some i
       → Inv l d (up m c (with_place s i free_place))
       (record { opened = close b.opened n; rows = b.rows; stored = b.stored })
   unfolding with_place

@@ -1,6 +1,7 @@
 -- Commit of a number with versions: a running store goes on to the book with one commit row more. The log grows by the
 -- commit; only the number's own place and its commit change, and its versions all wait, so the table and the slots stay
 -- as they are.
+use Rattle.std.specs.Prelude.{Some}
 use Prim.Native.Nat.{ℕ, ◌-◌, ◌^◌, ◌≤◌, ◌<◌}
 use native.Mathlib.Omega.{arith}
 use mathlib.Core.Bool.{true, false}
@@ -17,7 +18,6 @@ use Rattle.store.specs.declared.Place.{Place}
 use Rattle.store.specs.Tail.{Logged, logged, may_log, tail_end}
 use Rattle.store.specs.OpenLog.{Placed, number_in}
 use Rattle.store.specs.Commit.{commit_asks, commit_time, commit_step, committed as committed_state}
-use Rattle.store.specs.declared.Found.TheVariants.{At}
 use Rattle.store.specs.declared.State.{State}
 use Rattle.store.specs.Places.{find_active, place_at, clock_of}
 use Rattle.store.specs.declared.Life.{Life}
@@ -52,14 +52,14 @@ clock_is (Committed n t e) = refl
 module _ {l d : ℕ} {m c : List ℕ} {s : State} {b : Book} {disk : Disk} {closed : List (List Record)}
     {tail : List Record} (u : Up l d m c s b disk closed tail) where
   -- an active number has rows just if versions wait in its place: its versions all wait, since it has no commit
-  pub some_row : (n i : ℕ) → find_active s.places n ≡ At i → eqb (place_at s.places i).waiting 0 ≡ false
+  pub some_row : (n i : ℕ) → find_active s.places n ≡ Some i → eqb (place_at s.places i).waiting 0 ≡ false
       → has_row b.rows n ≡ true
   some_row n i f w =
       let (j, h, e, q) = waiting_slot u.medium n
       (omega (arith, active_waits u n i f, eqb-false (place_at s.places i).waiting 0 w)) in
       ap (λ (rs : List Row). has_row rs n) u.rows ∙ version_row (records (closed ++ (tail ∷ []))) n j h e
 
-  pub no_row : (n i : ℕ) → find_active s.places n ≡ At i → eqb (place_at s.places i).waiting 0 ≡ true
+  pub no_row : (n i : ℕ) → find_active s.places n ≡ Some i → eqb (place_at s.places i).waiting 0 ≡ true
       → has_row b.rows n ≡ false
   no_row n i f w =
       ap (λ (rs : List Row). has_row rs n) u.rows
@@ -73,7 +73,7 @@ module _ {l d : ℕ} {m c : List ℕ} {s : State} {b : Book} {disk : Disk} {clos
       (uncommitted u n i f)
 
   -- the time is the book's: clocks by Opens.clocks, last time by StateIs.last and that times rise
-  pub row_time_law : (n clock i : ℕ) → find_active s.places n ≡ At i → (commit_time s i clock).0 ≡ row_time b n clock
+  pub row_time_law : (n clock i : ℕ) → find_active s.places n ≡ Some i → (commit_time s i clock).0 ≡ row_time b n clock
   unfolding commit_time row_time
   row_time_law n clock i f =
       let a : clock_of (place_at s.places i).life ≡ clock_in b.opened n =
@@ -87,7 +87,7 @@ module _ {l d : ℕ} {m c : List ℕ} {s : State} {b : Book} {disk : Disk} {clos
 
 module _ {l d : ℕ} {m c : List ℕ} {s : State} {b : Book} {disk : Disk} {closed : List (List Record)}
     {tail : List Record} (u : Up l d m c s b disk closed tail)
-    (n i : ℕ) (f : find_active s.places n ≡ At i) (t : CommitTime) (late : s.last.0 < t.0)
+    (n i : ℕ) (f : find_active s.places n ≡ Some i) (t : CommitTime) (late : s.last.0 < t.0)
     (some : eqb (place_at s.places i).waiting 0 ≡ false)
     (lg : Logged) (g : Grows l d m disk closed tail (commit (record { number = record { 0 = n }; time = t })) lg) where
   -- the commit, and the place committed
@@ -288,7 +288,7 @@ module _ {l d : ℕ} {m c : List ℕ} {s : State} {b : Book} {disk : Disk} {clos
 module _ {l d : ℕ} {m c : List ℕ} {s : State} {b : Book} {disk : Disk} {closed : List (List Record)}
     {tail : List Record} (u : Up l d m c s b disk closed tail) where
   -- the record that the call takes is sound: its time is above the last one, and below 2^64 by the questions
-  pub taken : (n clock i : ℕ) → clock < 2 ^ 64 → find_active s.places n ≡ At i → s.last.0 < 2 ^ 64 - 1
+  pub taken : (n clock i : ℕ) → clock < 2 ^ 64 → find_active s.places n ≡ Some i → s.last.0 < 2 ^ 64 - 1
       → Sound d (commit (record { number = record { 0 = n }; time = commit_time s i clock }))
   unfolding commit_time record_form
   taken n clock i h f a = record {
@@ -302,7 +302,7 @@ module _ {l d : ℕ} {m c : List ℕ} {s : State} {b : Book} {disk : Disk} {clos
     placeable = omega arith;
   }
 
-  pub committed_up : (n clock i : ℕ) → clock < 2 ^ 64 → Passed (commit_asks s m c n) → find_active s.places n ≡ At i
+  pub committed_up : (n clock i : ℕ) → clock < 2 ^ 64 → Passed (commit_asks s m c n) → find_active s.places n ≡ Some i
       → eqb (place_at s.places i).waiting 0 ≡ false
       → Inv l d (after (commit_step s m c i n (commit_time s i clock)))
       (add b (committed n (commit_time s i clock).0)

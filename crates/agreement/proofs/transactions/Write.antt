@@ -1,6 +1,7 @@
 -- Write and erase: a running store goes on to the book with one version row more. The log grows by the version, which
 -- waits in the next slot of its page; its number's place waits for one more, and no other active number wrote the
 -- record.
+use Rattle.std.specs.Prelude.{Option, Some, None}
 use Prim.Native.Nat.{ℕ, ◌+◌, ◌*◌, ◌/◌, ◌%◌, ◌^◌, ◌≤◌, ◌<◌}
 use native.Mathlib.Omega.{arith}
 use mathlib.Core.Bool.{Bool, true, false, not, false≢true}
@@ -26,8 +27,6 @@ use Rattle.store.specs.declared.Place.{Place}
 use Rattle.store.specs.Tail.{Logged, logged, may_log, tail_end}
 use Rattle.store.specs.OpenLog.{Placed, number_in}
 use Rattle.store.specs.Chain.{held, newest}
-use Rattle.store.specs.declared.Found.TheVariants.{At, Nothing}
-use Rattle.store.specs.declared.Found.{Found}
 use Rattle.store.specs.declared.State.{State}
 use Rattle.store.specs.Places.{find_active, place_at, raised}
 use Rattle.store.specs.Write.{write_asks, new_head, write_step, written, cell_for, or_none, touched}
@@ -70,7 +69,7 @@ head_as width s c n key kind =
 
 module _ {l d : ℕ} {m c : List ℕ} {s : State} {b : Book} {disk : Disk} {closed : List (List Record)}
     {tail : List Record} (u : Up l d m c s b disk closed tail)
-    (n i : ℕ) (f : find_active s.places n ≡ At i) (width : Width) (key kind earlier : ℕ) (v : List ℕ)
+    (n i : ℕ) (f : find_active s.places n ≡ Some i) (width : Width) (key kind earlier : ℕ) (v : List ℕ)
     (room : s.slots < 15 * d)
     (chained : earlier ≡ or_none (newest c key s.slots)) (free : held c s.places s.slots key n ≡ false)
     (lg : Logged) (g : Grows l d m disk closed tail
@@ -324,9 +323,9 @@ module _ {l d : ℕ} {m c : List ℕ} {s : State} {b : Book} {disk : Disk} {clos
       rw (newest_is u key)
       (go (newest_of (versions_of (closed ++ (tail ∷ []))) key (length (versions_of (closed ++ (tail ∷ []))))) refl)
     where
-      go : (x : Found) → newest_of (versions_of (closed ++ (tail ∷ []))) key
+      go : (x : Option ℕ) → newest_of (versions_of (closed ++ (tail ∷ []))) key
           (length (versions_of (closed ++ (tail ∷ [])))) ≡ x → or_none x < 65536
-      go (At j) e =
+      go (Some j) e =
           omega (
             arith,
             (newest_at (versions_of (closed ++ (tail ∷ []))) key (length (versions_of (closed ++ (tail ∷ [])))) j
@@ -334,7 +333,7 @@ module _ {l d : ℕ} {m c : List ℕ} {s : State} {b : Book} {disk : Disk} {clos
             u.medium.pages.slots.room,
             u.medium.sizes.range.pages_high,
           )
-      go Nothing e = omega arith
+      go None e = omega arith
 
   not_true : (x : Bool) → not x ≡ true → x ≡ false
   not_true true e = absurd (false≢true e)
@@ -343,7 +342,7 @@ module _ {l d : ℕ} {m c : List ℕ} {s : State} {b : Book} {disk : Disk} {clos
   -- the record that the call takes is sound by the questions and the types
   pub taken : (width : Width) (n key kind i : ℕ) (v : List ℕ) → key < 256 ^ bytes_of width → key_form key ≡ true
       → kind < 2 → length v ≡ 16 → Bytes v → kind_form kind v ≡ true
-      → find_active s.places n ≡ At i → s.slots < 15 * d → Sound d (version_record (head_as width s c n key kind) v)
+      → find_active s.places n ≡ Some i → s.slots < 15 * d → Sound d (version_record (head_as width s c n key kind) v)
   unfolding record_form
   taken width n key kind i v hk low hd size bytes form f room = record {
     sized = record {
@@ -364,7 +363,7 @@ module _ {l d : ℕ} {m c : List ℕ} {s : State} {b : Book} {disk : Disk} {clos
   -- under either tag
   pub wrote_as : (width : Width) (n key kind i : ℕ) (v : List ℕ) → key < 256 ^ bytes_of width → key_form key ≡ true
       → kind < 2 → length v ≡ 16 → Bytes v → kind_form kind v ≡ true
-      → find_active s.places n ≡ At i → not (held c s.places s.slots key n) ≡ true → ltb s.slots (15 * s.pages) ≡ true
+      → find_active s.places n ≡ Some i → not (held c s.places s.slots key n) ≡ true → ltb s.slots (15 * s.pages) ≡ true
       → may_log s m (32 + bytes_of width) ≡ true
       → Inv l d (after (write_step s m c i (head_as width s c n key kind) v))
       (add b (version (record { number = n; key = key; kind = kind; value = v }))
@@ -378,7 +377,7 @@ module _ {l d : ℕ} {m c : List ℕ} {s : State} {b : Book} {disk : Disk} {clos
       (grows u r (taken width n key kind i v hk low hd size bytes form f room) may))
 
   pub wrote : (n key kind i : ℕ) (v : List ℕ) → kind < 2 → length v ≡ 16 → Bytes v → kind_form kind v ≡ true
-      → Passed (write_asks s m c n key) → find_active s.places n ≡ At i
+      → Passed (write_asks s m c n key) → find_active s.places n ≡ Some i
       → Inv l d (after (write_step s m c i (new_head s c n key kind) v))
       (add b (version (record { number = n; key = key; kind = kind; value = v }))
       (log_changed l m (write_step s m c i (new_head s c n key kind) v).medium) b.opened)

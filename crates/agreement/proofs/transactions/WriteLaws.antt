@@ -1,6 +1,7 @@
 -- A version more, for the parts of the invariant: what waits under each number, the cache, the pages' first changes,
 -- and who may write a record. A number that wrote a record and is active holds it, since the record's newest version is
 -- then its own and waits.
+use Rattle.std.specs.Prelude.{Option, Some, None}
 use Prim.Native.Nat.{ℕ, suc, ◌+◌, ◌*◌, ◌/◌, ◌%◌, ◌≤◌, ◌<◌}
 use native.Mathlib.Omega.{arith}
 use mathlib.Core.Bool.{Bool, true, false, not, ◌&&◌, false≢true}
@@ -19,8 +20,6 @@ use Rattle.layout.proofs.CacheLaws.{length_put_version}
 use Rattle.fields.proofs.CellLaws.{Each}
 use Rattle.layout.proofs.PageLaws.{no_cell}
 use Rattle.layout.proofs.SlotLaws.{SlotSized}
-use Rattle.store.specs.declared.Found.{Found}
-use Rattle.store.specs.declared.Found.TheVariants.{At, Nothing}
 use Rattle.store.specs.declared.State.{State}
 use Rattle.store.specs.Places.{find_active}
 use Rattle.store.specs.Chain.{cell_at, newest, held, held_at, held_as}
@@ -129,7 +128,7 @@ module _ {l d : ℕ} {m c : List ℕ} {s : State} {b : Book} {disk : Disk} {clos
   unfolding held
   not_held n key q j h z t x a e w =
       go (newest_of (versions_of (closed ++ (tail ∷ []))) key (length (versions_of (closed ++ (tail ∷ []))))) refl
-      (sym (ap (λ (f : Found). held_at f c s.places n) (newest_is key)) ∙ q)
+      (sym (ap (λ (f : Option ℕ). held_at f c s.places n) (newest_is key)) ∙ q)
     where
       -- the newest is that number's own
       own : (y : ℕ) → y < length (versions_of (closed ++ (tail ∷ [])))
@@ -146,19 +145,19 @@ module _ {l d : ℕ} {m c : List ℕ} {s : State} {b : Book} {disk : Disk} {clos
               by (inl o) = o
               by (inr o) = absurd (p (omega arith))
 
-      active : find_active s.places (num_at s.places j) ≡ At j
+      active : find_active s.places (num_at s.places j) ≡ Some j
       active = active_finds u.living (num_at s.places j) j h z refl t
 
       same : (o : Bool) → eqb (num_at s.places j) n ≡ o → not o && true ≡ false → n ≡ num_at s.places j
       same true p r = sym (eqb-true _ _ p)
       same false p r = absurd (false≢true (sym r))
 
-      go : (f : Found) → newest_of (versions_of (closed ++ (tail ∷ []))) key
+      go : (f : Option ℕ) → newest_of (versions_of (closed ++ (tail ∷ []))) key
           (length (versions_of (closed ++ (tail ∷ [])))) ≡ f → held_at f c s.places n ≡ false → n ≡ num_at s.places j
-      go Nothing p r =
+      go None p r =
           absurd (newest_none (versions_of (closed ++ (tail ∷ []))) key
           (length (versions_of (closed ++ (tail ∷ [])))) p x a w)
-      go (At y) p r =
+      go (Some y) p r =
           let v = newest_at (versions_of (closed ++ (tail ∷ []))) key
           (length (versions_of (closed ++ (tail ∷ [])))) y p in
           let o : (at (versions_of (closed ++ (tail ∷ []))) y).num ≡ num_at s.places j =

@@ -1,5 +1,6 @@
 -- What taking a record makes of the tail: it stands behind the others, or begins the next block; so the end of the log
 -- moves on by at least its size.
+use Rattle.std.specs.Prelude.{Some}
 use Prim.Native.Nat.{ℕ, ◌+◌, ◌-◌, ◌^◌, ◌≤◌, ◌<◌, min}
 use native.Mathlib.Omega.{arith}
 use mathlib.Core.Path.{◌≡◌, refl, ap, ◌∙◌}
@@ -13,7 +14,6 @@ use Rattle.fields.specs.Block.{end_place}
 use Rattle.layout.specs.Journal.{Record, record_size, sequence_of, used_of, empty_block}
 use Rattle.layout.proofs.JournalLaws.{length_empty_block, sequence_empty_block, used_empty_block, sequence_add_record}
 use Rattle.layout.proofs.JournalLaws.{used_add_record}
-use Rattle.store.specs.declared.Found.TheVariants.{At}
 use Rattle.store.specs.declared.Life.{Life}
 use Rattle.store.specs.declared.State.{State}
 use Rattle.store.specs.Places.{place_at, active_as, find_active, raised}
@@ -58,9 +58,9 @@ takes_end s m size g h (next a c d) = omega arith
 
 -- ---- a version more, in place i of its active number
 
-module _ (s : State) (size : length s.places ≡ 64) (n i : ℕ) (f : find_active s.places n ≡ At i) (inside : i < 64)
+module _ (s : State) (size : length s.places ≡ 64) (n i : ℕ) (f : find_active s.places n ≡ Some i) (inside : i < 64)
     (g : Logged) where
-  pub still_active : find_active (written s i g).places n ≡ At i
+  pub still_active : find_active (written s i g).places n ≡ Some i
   unfolding find_active written raised
   still_active =
       first_same (λ j. active_as (place_at (set s.places i (raised (place_at s.places i))) j).life n)
@@ -73,7 +73,7 @@ module _ (s : State) (size : length s.places ≡ 64) (n i : ℕ) (f : find_activ
       go j (inl q) = rw (q, place_at_same s.places i (raised (place_at s.places i)) size inside)
       go j (inr q) = rw (place_at_other s.places i j (raised (place_at s.places i)) q)
 
-  one_waits : no_versions (At i) (written s i g) ≡ false
+  one_waits : no_versions (Some i) (written s i g) ≡ false
   unfolding written raised
   one_waits =
       rw (place_at_same s.places i (raised (place_at s.places i)) size inside)

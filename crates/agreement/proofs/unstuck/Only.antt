@@ -1,10 +1,10 @@
 -- Where numbers, slots, times or sequences are used up, no calls help: none of the four ever goes back in a running
 -- store. So a transaction that is begun, writes and commits later finds each of them left at the start.
+use Rattle.std.specs.Prelude.{Option, Some}
 use Prim.Native.Nat.{ℕ, ◌+◌, ◌-◌, ◌*◌, ◌^◌, ◌≤◌, ◌<◌}
 use native.Mathlib.Omega.{arith}
 use mathlib.Core.Path.{◌≡◌, refl, subst}
 use mathlib.Core.Bool.{true, false, ◌||◌}
-use mathlib.Core.Option.{Option}
 use mathlib.Core.List.{List, [], ◌∷◌}
 use lib.ListN.{length}
 use lib.Dec.{eqb, ltb}
@@ -14,8 +14,6 @@ use Rattle.layout.specs.Item.{bytes_of}
 use Rattle.layout.specs.Journal.{Record, record_size}
 use Rattle.layout.specs.Journal.{version as version_record, commit as commit_record}
 use Rattle.fields.proofs.Choose.{and_0, and_1}
-use Rattle.store.specs.declared.Found.{Found}
-use Rattle.store.specs.declared.Found.TheVariants.{At}
 use Rattle.store.specs.declared.Phase.TheVariants.{Idle, FirstStored, SecondStored}
 use Rattle.store.specs.declared.Refusal.{Refusal}
 use Rattle.store.specs.declared.State.{State}
@@ -143,11 +141,11 @@ module _ {l d : ℕ} {m c : List ℕ} {s : State} {b : Book} {disk : Disk} {clos
       asked (λ (a : Option Refusal). answer_number (write_if a s m c n key 0 v).answer ≡ 0
       → Wrote n (write_if a s m c n key 0 v)) (write_asks s m c n key)
       (λ r e z. absurd (omega (arith, positive r)))
-      (λ p. found (λ (f : Found). answer_number (write_at f s m c (new_head s c n key 0) v).answer ≡ 0
+      (λ p. found (λ (f : Option ℕ). answer_number (write_at f s m c (new_head s c n key 0) v).answer ≡ 0
       → Wrote n (write_at f s m c (new_head s c n key 0) v)) (find_active s.places n) p.1.1.0
       (λ i f z. by i f (ltb-true s.slots (15 * s.pages) p.1.1.1.1.0)))
     where
-      by : (i : ℕ) → find_active s.places n ≡ At i → s.slots < 15 * s.pages
+      by : (i : ℕ) → find_active s.places n ≡ Some i → s.slots < 15 * s.pages
           → Wrote n (write_step s m c i (new_head s c n key 0) v)
       by i f h =
           let g : Logged = logged s m (version_record (new_head s c n key 0) v) in (
@@ -166,12 +164,12 @@ module _ {l d : ℕ} {m c : List ℕ} {s : State} {b : Book} {disk : Disk} {clos
       asked (λ (a : Option Refusal). answer_number (commit_if a s m c n clock).answer ≡ 0
       → Ended (commit_if a s m c n clock)) (commit_asks s m c n)
       (λ r e z. absurd (omega (arith, positive r)))
-      (λ p. found (λ (f : Found). answer_number (commit_at f s m c n clock).answer ≡ 0
+      (λ p. found (λ (f : Option ℕ). answer_number (commit_at f s m c n clock).answer ≡ 0
       → Ended (commit_at f s m c n clock)) (find_active s.places n) p.1.0
       (λ i f z. by i f p.1.1.0))
     where
-      by : (i : ℕ) → find_active s.places n ≡ At i → no_versions (find_active s.places n) s || ltb s.last.0 (2 ^ 64 - 1)
-          ≡ true → Ended (commit_at (At i) s m c n clock)
+      by : (i : ℕ) → find_active s.places n ≡ Some i → no_versions (find_active s.places n) s || ltb s.last.0 (2 ^ 64 - 1)
+          ≡ true → Ended (commit_at (Some i) s m c n clock)
       by i f h =
           let g : eqb (place_at s.places i).waiting 0 ≡ false = rw f at waits in
           let t : ltb s.last.0 (2 ^ 64 - 1) ≡ true = rw waits at h in

@@ -1,5 +1,6 @@
 -- The places once the log is freed, and once all active transactions are aborted. No committed one is live then, since
 -- none of its versions waits any more; so what is left are the active ones, and each abort frees its own place.
+use Rattle.std.specs.Prelude.{Some}
 use Prim.Native.Nat.{ℕ, suc, ◌+◌, ◌^◌, ◌≤◌, ◌<◌}
 use native.Mathlib.Omega.{arith}
 use mathlib.Core.Path.{◌≡◌, refl, sym, ap, ◌∙◌, subst}
@@ -15,7 +16,6 @@ use Rattle.layout.specs.declared.CommitTime.{CommitTime}
 use Rattle.layout.specs.declared.EndPlace.{EndPlace}
 use Rattle.layout.specs.declared.TxNumber.{TxNumber}
 use Rattle.store.specs.declared.Answer.TheVariants.{Done}
-use Rattle.store.specs.declared.Found.TheVariants.{At}
 use Rattle.store.specs.declared.Life.{Life}
 use Rattle.store.specs.declared.Life.TheVariants.{Free, Active, Committed}
 use Rattle.store.specs.declared.Place.{Place}
@@ -80,7 +80,7 @@ module _ {l d : ℕ} {m c n a : List ℕ} {s t : State} {b b' : Book} {disk disk
       committed_time v o q r = r.1
   idle i h z (Active v o) e =
       let r : Formed (Active v o) = subst Formed e (w.living.each i h).formed in
-      let x : find_active s.places v.0 ≡ At i = sym (f.clear.alike.active v.0)
+      let x : find_active s.places v.0 ≡ Some i = sym (f.clear.alike.active v.0)
       ∙ active_finds w.living v.0 i h r (ap life_num e) (ap life_time e) in
       absurd (false≢true (sym (z v.0) ∙ active_there s.places v.0 i x))
 
@@ -129,7 +129,7 @@ pub record Emptied (r : State) (i : ℕ) (m : List ℕ) (s : State) : Type 0 whe
 
 module _ {l d : ℕ} {m c : List ℕ} {s : State} {b : Book} {disk : Disk} {closed : List (List Record)}
     {tail : List Record} (u : Up l d m c s b disk closed tail) where
-  abort_done : (x i : ℕ) → find_active s.places x ≡ At i → called m c s (abort x)
+  abort_done : (x i : ℕ) → find_active s.places x ≡ Some i → called m c s (abort x)
       ≡ leaves Done (with_place s i free_place) m c
   unfolding called abort_of abort_if
   abort_done x i e = rw (fits_up u, e) (rw e)
@@ -173,13 +173,13 @@ module _ (l d : ℕ) (r : State) where
   -- the place of a number that is left active
   active_left : {m c : List ℕ} {s : State} {b : Book} {disk : Disk} {closed : List (List Record)} {tail : List Record}
       → Up l d m c s b disk closed tail → (i : ℕ) → i < 64 → Emptied r i m s
-      → (v : TxNumber) (o : ℕ) → (place_at r.places i).life ≡ Active v o → find_active s.places v.0 ≡ At i
+      → (v : TxNumber) (o : ℕ) → (place_at r.places i).life ≡ Active v o → find_active s.places v.0 ≡ Some i
   active_left {s = s} u i h a v o e =
       let q : (place_at s.places i).life ≡ Active v o = a.rest i (omega arith) h ∙ ap left e in
       active_finds u.living v.0 i h (subst Formed q (u.living.each i h).formed) (ap life_num q) (ap life_time q)
 
   number_typed : {m c : List ℕ} {s : State} {b : Book} {disk : Disk} {closed : List (List Record)} {tail : List Record}
-      → Up l d m c s b disk closed tail → (v i : ℕ) → find_active s.places v ≡ At i
+      → Up l d m c s b disk closed tail → (v i : ℕ) → find_active s.places v ≡ Some i
       → call_typed (abort v) ≡ true
   unfolding call_typed
   number_typed u v i e = lt-ltb v (2 ^ 64) (omega (arith, active_high u v i e))

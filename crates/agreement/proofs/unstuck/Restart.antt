@@ -1,6 +1,7 @@
 -- No run is stuck. Once the log is freed and all active transactions are aborted, every place is free, no record is
 -- held, and the tail is the oldest block; so begin finds a place, and the log takes the version and the commit, in the
 -- tail or in the next block.
+use Rattle.std.specs.Prelude.{Option, Some, None}
 use Prim.Native.Nat.{ℕ, ◌+◌, ◌-◌, ◌*◌, ◌%◌, ◌^◌, ◌≤◌, ◌<◌}
 use native.Mathlib.Omega.{arith}
 use native.Mathlib.Nat.{mod-lt, zero-add}
@@ -19,8 +20,6 @@ use Rattle.layout.specs.Master.{oldest_on}
 use Rattle.layout.specs.Slot.{key_form}
 use Rattle.layout.specs.declared.TxNumber.{TxNumber}
 use Rattle.store.specs.declared.Answer.TheVariants.{Begun}
-use Rattle.store.specs.declared.Found.{Found}
-use Rattle.store.specs.declared.Found.TheVariants.{At, Nothing}
 use Rattle.store.specs.declared.Life.TheVariants.{Active}
 use Rattle.store.specs.declared.Place.{Place}
 use Rattle.store.specs.declared.State.{State}
@@ -72,7 +71,7 @@ pub record Alone (r : State) (m : List ℕ) (s : State) : Type 0 where
 module _ {l d : ℕ} {m c : List ℕ} {s : State} {b : Book} {disk : Disk} {closed : List (List Record)}
     {tail : List Record} (u : Up l d m c s b disk closed tail)
     (r : State) (e : Emptied r 64 m s) (left : Left d r) where
-  free_found : find_free s.places s.ring ≡ At 0
+  free_found : find_free s.places s.ring ≡ Some 0
   unfolding find_free first ring_place
   free_found = rw (e.free ((s.ring + 0) % 64) (mod-lt (s.ring + 0) (omega arith)))
 
@@ -122,7 +121,7 @@ module _ {l d : ℕ} {m c : List ℕ} {s : State} {b : Book} {disk : Disk} {clos
     {tail : List Record} (u : Up l d m c s b disk closed tail)
     (r : State) (a : Alone r m s) (left : Left d r) where
   -- an active number is this one
-  only : (x j : ℕ) → find_active s.places x ≡ At j → x ≡ r.next.0
+  only : (x j : ℕ) → find_active s.places x ≡ Some j → x ≡ r.next.0
   only x j e = go (same? j a.place)
     where
       f : (j < 64) × (0 < x) × (num_at s.places j ≡ x) × (time_at s.places j ≡ 0)
@@ -132,19 +131,19 @@ module _ {l d : ℕ} {m c : List ℕ} {s : State} {b : Book} {disk : Disk} {clos
       go (inl q) = sym f.2 ∙ ap (num_at s.places) q ∙ a.mine
       go (inr q) = absurd (omega (arith, f, a.others j f.0 q))
 
-  mine_found : find_active s.places r.next.0 ≡ At a.place
+  mine_found : find_active s.places r.next.0 ≡ Some a.place
   mine_found = active_finds u.living r.next.0 a.place a.inside a.low a.mine a.active
 
   not_held : (key : ℕ) → held c s.places s.slots key r.next.0 ≡ false
   not_held key = held_is u key r.next.0 ∙ go (newest_of (vs u) key (length (vs u)))
     where
-      by : (x : ℕ) (f : Found) → find_active s.places x ≡ f → not (eqb x r.next.0) && is_at f ≡ false
-      by x Nothing e = and-false (not (eqb x r.next.0))
-      by x (At j) e = rw (eq-eqb x r.next.0 (only x j e))
+      by : (x : ℕ) (f : Option ℕ) → find_active s.places x ≡ f → not (eqb x r.next.0) && is_at f ≡ false
+      by x None e = and-false (not (eqb x r.next.0))
+      by x (Some j) e = rw (eq-eqb x r.next.0 (only x j e))
 
-      go : (f : Found) → holder f (vs u) s.places r.next.0 ≡ false
-      go Nothing = refl
-      go (At y) = by (at (vs u) y).num (find_active s.places (at (vs u) y).num) refl
+      go : (f : Option ℕ) → holder f (vs u) s.places r.next.0 ≡ false
+      go None = refl
+      go (Some y) = by (at (vs u) y).num (find_active s.places (at (vs u) y).num) refl
 
   -- the tail is the oldest block, so the next may begin where its sequence is below 2^48
   may_log_law : (size : ℕ) → (used_of s.tail + size ≤ 512) ⊎ (sequence_of s.tail + 1 < 2 ^ 48) → may_log s m size ≡ true

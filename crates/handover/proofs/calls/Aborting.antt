@@ -1,13 +1,12 @@
 -- The abort of a handover is not refused, for every state, medium and cache: begin asks whether they fit and gives its number a
 -- place, and read, write and a refused commit leave a store that fits with the number active.
+use Rattle.std.specs.Prelude.{Option, None, Some}
 use Prim.Native.Nat.{ℕ}
 use mathlib.Core.Path.{◌≡◌, refl, ap, ◌∙◌}
 use mathlib.Core.Bool.{true}
-use mathlib.Core.Option.{Option, none, some}
 use mathlib.Core.List.{List}
 use lib.ListN.{length}
 use Rattle.store.specs.declared.Answer.TheVariants.{Done}
-use Rattle.store.specs.declared.Found.{Found}
 use Rattle.store.specs.declared.Refusal.{Refusal}
 use Rattle.store.specs.declared.Refusal.TheVariants.{Unfit}
 use Rattle.store.specs.declared.State.{State}
@@ -35,7 +34,7 @@ pub abort_done : (o : Outcome) (n : ℕ) → Abortable o n → (aborts o n).answ
 unfolding abort_of abort_if
 abort_done o n a =
     rw (a.fit, a.active)
-    (found (λ (f : Found). (abort_at f o.state o.medium o.cache).answer ≡ Done) (find_active o.state.places n) a.active (λ i e. refl))
+    (found (λ (f : Option ℕ). (abort_at f o.state o.medium o.cache).answer ≡ Done) (find_active o.state.places n) a.active (λ i e. refl))
 
 -- what fits goes on fitting
 fits_on : (m c : List ℕ) (s : State) (k : Call) → fits s (length m) (length c) ≡ true
@@ -44,15 +43,15 @@ fits_on m c s k h = go (refusal_in (called m c s k).answer) refl
   where
     go : (a : Option Refusal) → refusal_in (called m c s k).answer ≡ a
         → fits (called m c s k).state (length (called m c s k).medium) (length (called m c s k).cache) ≡ true
-    go (some r) e = let u = refusal_leaves m c s k r (in_refusal (called m c s k).answer r e) in rw (u.state, u.medium, u.cache) h
-    go none e = call_fits m c s k (λ q. no_refusal (called m c s k).answer Unfit e q)
+    go (Some r) e = let u = refusal_leaves m c s k r (in_refusal (called m c s k).answer r e) in rw (u.state, u.medium, u.cache) h
+    go None e = call_fits m c s k (λ q. no_refusal (called m c s k).answer Unfit e q)
 
 kept : (o x : Outcome) (n : ℕ) → x.state ≡ o.state → x.medium ≡ o.medium → x.cache ≡ o.cache → Abortable o n → Abortable x n
 kept o x n e f g a = record { fit = rw (e, f, g) a.fit; active = rw e a.active }
 
 -- ---- each call
 
-pub begin_abortable : (m c : List ℕ) (s : State) (h : Transfer) → refusal_in (begins s m c h).answer ≡ none → Abortable (begins s m c h) (answer_value (begins s m c h).answer)
+pub begin_abortable : (m c : List ℕ) (s : State) (h : Transfer) → refusal_in (begins s m c h).answer ≡ None → Abortable (begins s m c h) (answer_value (begins s m c h).answer)
 unfolding called
 begin_abortable m c s h given = record {
   fit = call_fits m c s (begin h.began) (λ q. no_refusal (begins s m c h).answer Unfit given q);
@@ -75,7 +74,7 @@ module _ (o : Outcome) (n : ℕ) (h : Transfer) (a : Abortable o n) where
         active = ap is_at (written_active (way o.medium o.cache o.state k) n) ∙ a.active;
       }
 
-  pub commit_abortable : (r : Refusal) → refusal_in (commits o n h).answer ≡ some r → Abortable (commits o n h) n
+  pub commit_abortable : (r : Refusal) → refusal_in (commits o n h).answer ≡ Some r → Abortable (commits o n h) n
   unfolding called
   commit_abortable r e =
       let u = refusal_leaves o.medium o.cache o.state (commit n h.ended) r (in_refusal (commits o n h).answer r e) in
@@ -86,8 +85,8 @@ aborts_done s m c h =
     let n = answer_value (begins s m c h).answer in
     let o1 = reads (begins s m c h) n h in
     let o2 = writes o1 n h in
-    let read : refusal_in (begins s m c h).answer ≡ none → Abortable o1 n = λ g. read_abortable (begins s m c h) n h (begin_abortable m c s h g) in
-    let written : refusal_in (begins s m c h).answer ≡ none → Abortable o2 n = λ g. write_abortable o1 n h (read g) in
+    let read : refusal_in (begins s m c h).answer ≡ None → Abortable o1 n = λ g. read_abortable (begins s m c h) n h (begin_abortable m c s h g) in
+    let written : refusal_in (begins s m c h).answer ≡ None → Abortable o2 n = λ g. write_abortable o1 n h (read g) in
     record {
       read = λ g. abort_done o1 n (read g);
       written = λ g. abort_done o2 n (written g);

@@ -1,5 +1,6 @@
 -- Which numbers are active once place i is replaced: as before, for every number under which it was and is equally active. So a call
 -- that replaces its number's place changes the activity of that number alone.
+use Rattle.std.specs.Prelude.{Option, Some, None}
 use Prim.Native.Nat.{ℕ, ◌<◌}
 use native.Mathlib.Omega.{arith}
 use mathlib.Core.Path.{◌≡◌, refl, sym, ap, ◌∙◌}
@@ -8,8 +9,6 @@ use mathlib.Core.Bool.{Bool, true, false, false≢true}
 use mathlib.Core.List.{List}
 use lib.ListN.{length, set}
 use borrow.Author.Tests.{eqb-true, ne_eqb}
-use Rattle.store.specs.declared.Found.{Found}
-use Rattle.store.specs.declared.Found.TheVariants.{At, Nothing}
 use Rattle.store.specs.declared.Life.{Life}
 use Rattle.store.specs.declared.Life.TheVariants.{Free, Active, Committed}
 use Rattle.store.specs.declared.Place.{Place}
@@ -57,9 +56,9 @@ module _ (ps : List Place) (i : ℕ) (p : Place) (size : length ps ≡ 64) (insi
   unfolding find_active
   active_put n e = go (first (active_in (set ps i p) n) 64 0) refl
     where
-      go : (f : Found) → first (active_in (set ps i p) n) 64 0 ≡ f → is_at f ≡ true
-      go (At j) q = refl
-      go Nothing q =
+      go : (f : Option ℕ) → first (active_in (set ps i p) n) 64 0 ≡ f → is_at f ≡ true
+      go (Some j) q = refl
+      go None q =
           absurd (false≢true (sym (first_nothing (active_in (set ps i p) n) 64 0 q i (omega arith) (omega arith))
           ∙ ap (λ (x : Place). active_as x.life n) (place_at_same ps i p size inside) ∙ e))
 
@@ -74,18 +73,18 @@ module _ (ps : List Place) (i : ℕ) (p : Place) (size : length ps ≡ 64) (insi
 
 -- ---- the place found
 
-pub found_active : (ps : List Place) (n i : ℕ) → find_active ps n ≡ At i → (i < 64) × (active_as (place_at ps i).life n ≡ true)
+pub found_active : (ps : List Place) (n i : ℕ) → find_active ps n ≡ Some i → (i < 64) × (active_as (place_at ps i).life n ≡ true)
 unfolding find_active
 found_active ps n i e = let r = first_found (active_in ps n) 64 0 i e in (omega (arith, r.1), r.2)
 
 -- replaced by one that is not active, it changes no other number
-pub active_others : (ps : List Place) (x i : ℕ) (p : Place) → length ps ≡ 64 → find_active ps x ≡ At i → ((n : ℕ) → active_as p.life n ≡ false)
+pub active_others : (ps : List Place) (x i : ℕ) (p : Place) → length ps ≡ 64 → find_active ps x ≡ Some i → ((n : ℕ) → active_as p.life n ≡ false)
     → (n : ℕ) → x ≢ n → find_active (set ps i p) n ≡ find_active ps n
 active_others ps x i p size f idle n z =
     let g = found_active ps x i f in
     active_set ps i p size g.0 n (idle n ∙ sym (active_one (place_at ps i).life x n g.1 z))
 
-pub free_found : (ps : List Place) (ring k : ℕ) → find_free ps ring ≡ At k
+pub free_found : (ps : List Place) (ring k : ℕ) → find_free ps ring ≡ Some k
     → (ring_place ring k < 64) × ((n : ℕ) → active_as (place_at ps (ring_place ring k)).life n ≡ false)
 unfolding find_free ring_place
 free_found ps ring k e = (

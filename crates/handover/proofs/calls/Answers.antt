@@ -1,9 +1,9 @@
 -- What the store's answers say of a refusal: an answer's number is that of its refusal, or 0. By the cases of an answer.
+use Rattle.std.specs.Prelude.{Option, None, Some}
 use Prim.Native.Nat.{ℕ, ◌<◌}
 use native.Mathlib.Omega.{arith}
 use mathlib.Core.Path.{◌≡◌, refl, sym, ap, ◌∙◌}
 use mathlib.Core.Bool.{true, false≢true}
-use mathlib.Core.Option.{Option, none, some}
 use mathlib.Core.List.{List}
 use Rattle.store.specs.declared.Answer.{Answer}
 use Rattle.store.specs.declared.Answer.TheVariants.{Refused, Done, Begun, Written, Committed, Opened, Missing, Erased, Present, Listed}
@@ -16,8 +16,8 @@ use Rattle.handover.specs.Hand.{refusal_in, is_present}
 
 -- the number of the first "no", 0 where there is none
 abbrev pub number_of : Option Refusal → ℕ
-number_of none = 0
-number_of (some r) = refusal_number r
+number_of None = 0
+number_of (Some r) = refusal_number r
 
 number_is : (a : Answer) → answer_number a ≡ number_of (refusal_in a)
 unfolding answer_number
@@ -32,28 +32,28 @@ number_is Erased = refl
 number_is Present = refl
 number_is (Listed k) = refl
 
-pub number_none : (a : Answer) → refusal_in a ≡ none → answer_number a ≡ 0
+pub number_none : (a : Answer) → refusal_in a ≡ None → answer_number a ≡ 0
 number_none a e = number_is a ∙ ap number_of e
 
-pub number_some : (a : Answer) (r : Refusal) → refusal_in a ≡ some r → 0 < answer_number a
+pub number_some : (a : Answer) (r : Refusal) → refusal_in a ≡ Some r → 0 < answer_number a
 number_some a r e = omega (arith, number_is a, ap number_of e, positive r)
 
-pub zero_none : (a : Answer) → answer_number a ≡ 0 → refusal_in a ≡ none
+pub zero_none : (a : Answer) → answer_number a ≡ 0 → refusal_in a ≡ None
 zero_none a e = go (refusal_in a) (sym (number_is a) ∙ e)
   where
-    go : (x : Option Refusal) → number_of x ≡ 0 → x ≡ none
-    go none z = refl
-    go (some r) z = absurd (omega (arith, positive r))
+    go : (x : Option Refusal) → number_of x ≡ 0 → x ≡ None
+    go None z = refl
+    go (Some r) z = absurd (omega (arith, positive r))
 
 -- ---- the refusal itself
 
-pub none_some : {A : Type 0} {r : Refusal} → none ≡ some r → A
+pub none_some : {A : Type 0} {r : Refusal} → None ≡ Some r → A
 none_some e = let z : ◌≡◌ {A = ℕ} 0 1 = cc in absurd (omega arith)
 
-pub no_refusal : {A : Type 0} (a : Answer) (r : Refusal) → refusal_in a ≡ none → a ≡ Refused r → A
+pub no_refusal : {A : Type 0} (a : Answer) (r : Refusal) → refusal_in a ≡ None → a ≡ Refused r → A
 no_refusal a r e q = none_some (sym e ∙ ap refusal_in q)
 
-pub in_refusal : (a : Answer) (r : Refusal) → refusal_in a ≡ some r → a ≡ Refused r
+pub in_refusal : (a : Answer) (r : Refusal) → refusal_in a ≡ Some r → a ≡ Refused r
 in_refusal (Refused q) r e = let z : q ≡ r = cc in ap Refused z
 in_refusal Done r e = none_some e
 in_refusal (Begun n) r e = none_some e

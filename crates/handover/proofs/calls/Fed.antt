@@ -1,9 +1,9 @@
 -- The book fed with a call on what a call before left: a refused call and a read leave it as it is, any other is entered. The
 -- invariant goes on by the lemma for each event (keeps).
+use Rattle.std.specs.Prelude.{None, Some}
 use Prim.Native.Nat.{ℕ}
 use mathlib.Core.Path.{◌≡◌, refl}
 use mathlib.Core.Bool.{true}
-use mathlib.Core.Option.{none, some}
 use mathlib.Core.List.{List, []}
 use Rattle.layout.specs.Journal.{Record}
 use Rattle.store.specs.declared.Refusal.{Refusal}
@@ -27,11 +27,11 @@ abbrev pub fed : ℕ → Outcome → Book → Call → Book
 fed l o b k = feed b (call k) (seen_of l o.medium (next o k) [])
 
 module _ (l : ℕ) (o : Outcome) (b : Book) where
-  pub fed_some : (k : Call) (r : Refusal) → refusal_in (next o k).answer ≡ some r → fed l o b k ≡ b
+  pub fed_some : (k : Call) (r : Refusal) → refusal_in (next o k).answer ≡ Some r → fed l o b k ≡ b
   unfolding feed seen_of
   fed_some k r e = old_book_law _ b _ (number_some (next o k).answer r e)
 
-  pub fed_none : (k : Call) → refusal_in (next o k).answer ≡ none
+  pub fed_none : (k : Call) → refusal_in (next o k).answer ≡ None
       → fed l o b k ≡ entered b k (answer_value (next o k).answer) (log_changed l o.medium (next o k).medium)
   unfolding feed seen_of
   fed_none k e = rw (number_none (next o k).answer e)

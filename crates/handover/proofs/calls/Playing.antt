@@ -1,8 +1,8 @@
 -- A handover's calls, made one after the other, leave what it leaves: both follow the same answers, call by call.
+use Rattle.std.specs.Prelude.{Option, None, Some}
 use Prim.Native.Nat.{ℕ}
 use mathlib.Core.Path.{◌≡◌, refl}
 use mathlib.Core.Bool.{Bool, true, false}
-use mathlib.Core.Option.{Option, none, some}
 use mathlib.Core.List.{List}
 use Rattle.store.specs.declared.Refusal.{Refusal}
 use Rattle.store.specs.declared.State.{State}
@@ -23,13 +23,13 @@ module _ (l d : ℕ) where
 
   commit_plays : (a : Option Refusal) (o : Outcome) (n : ℕ) → Lead o (commit_calls a n) (after_commit a o n)
   unfolding world_after events_of step called after_commit
-  commit_plays (some r) o n = refl
-  commit_plays none o n = refl
+  commit_plays (Some r) o n = refl
+  commit_plays None o n = refl
 
   write_plays : (a : Option Refusal) (o : Outcome) (n : ℕ) (h : Transfer) → Lead o (write_calls a o n h) (after_write a o n h)
   unfolding world_after events_of step called after_write
-  write_plays (some r) o n h = refl
-  write_plays none o n h = commit_plays (refusal_in (commits o n h).answer) (commits o n h) n
+  write_plays (Some r) o n h = refl
+  write_plays None o n h = commit_plays (refusal_in (commits o n h).answer) (commits o n h) n
 
   check_plays : (a : Bool) (o : Outcome) (n : ℕ) (h : Transfer) → Lead o (check_calls a o n h) (after_check a o n h)
   unfolding world_after events_of step called after_check
@@ -38,13 +38,13 @@ module _ (l d : ℕ) where
 
   read_plays : (a : Option Refusal) (o : Outcome) (n : ℕ) (h : Transfer) → Lead o (read_calls a o n h) (after_read a o n h)
   unfolding world_after events_of step called after_read
-  read_plays (some r) o n h = refl
-  read_plays none o n h = check_plays (may_hand o.answer o.value h) o n h
+  read_plays (Some r) o n h = refl
+  read_plays None o n h = check_plays (may_hand o.answer o.value h) o n h
 
   begin_plays : (a : Option Refusal) (o : Outcome) (h : Transfer) → Lead o (begin_calls a o h) (after_begin a o h)
   unfolding world_after events_of step called after_begin
-  begin_plays (some r) o h = refl
-  begin_plays none o h =
+  begin_plays (Some r) o h = refl
+  begin_plays None o h =
       let n = answer_value o.answer in read_plays (refusal_in (reads o n h).answer) (reads o n h) n h
 
   pub plays : (s : State) (m c : List ℕ) (h : Transfer) → Plays l d s m c h

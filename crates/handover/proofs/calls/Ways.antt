@@ -1,11 +1,11 @@
 -- What the calls of a handover do to the active numbers and to the time stored, by the ways in which a call ends (Asks): each replaces
 -- the place of its own number alone, and taking a record in the log never lowers the time stored.
+use Rattle.std.specs.Prelude.{None}
 use Prim.Native.Nat.{ℕ, ◌≤◌}
 use native.Mathlib.Omega.{arith}
 use mathlib.Core.Path.{◌≡◌, refl, sym, ap, ◌∙◌}
 use mathlib.Core.Logic.{◌≢◌}
 use mathlib.Core.Bool.{Bool, true, false, false≢true}
-use mathlib.Core.Option.{none}
 use mathlib.Core.List.{List}
 use borrow.Author.Tests.{eq-eqb, ne_eqb}
 use Rattle.layout.specs.Journal.{Record, record_size}
@@ -47,7 +47,7 @@ pub record Begins (s : State) (o : Outcome) : Type 0 where
   pub active : is_at (find_active o.state.places (answer_value o.answer)) ≡ true
   pub beside : Beside (answer_value o.answer) s o.state
 
-pub begin_way : {m c : List ℕ} {s : State} {clock : ℕ} {o : Outcome} → Way m c s (begin clock) o → refusal_in o.answer ≡ none → Begins s o
+pub begin_way : {m c : List ℕ} {s : State} {clock : ℕ} {o : Outcome} → Way m c s (begin clock) o → refusal_in o.answer ≡ None → Begins s o
 unfolding begun answer_value
 begin_way (refused x r w) e = none_some (sym e)
 begin_way {s = s} (begins clock i p w) e =
@@ -117,14 +117,14 @@ abort_beside {s = s} {x} (looks y a v b h p n w) = beside_same x s s refl
 -- ---- commit and abort end the number's activity, for in a run it has one place
 
 module _ {l d : ℕ} {m c : List ℕ} {s : State} {b : Book} {disk : Disk} {closed : List (List Record)} {tail : List Record} (u : Up l d m c s b disk closed tail) where
-  pub commit_own : {x clock : ℕ} {o : Outcome} → Way m c s (commit x clock) o → refusal_in o.answer ≡ none → is_at (find_active o.state.places x) ≡ false
+  pub commit_own : {x clock : ℕ} {o : Outcome} → Way m c s (commit x clock) o → refusal_in o.answer ≡ None → is_at (find_active o.state.places x) ≡ false
   unfolding commit_step committed with_place
   commit_own (refused y r w) e = none_some (sym e)
   commit_own (commits x clock i p w q) e = active_gone s.places i _ u.living.size (active_place u x i w) x refl (elsewhere u x i w)
   commit_own (ends x clock i p w q) e = active_gone s.places i free_place u.living.size (active_place u x i w) x refl (elsewhere u x i w)
   commit_own (looks y a v b h p n w) e = absurd (false≢true h)
 
-  pub abort_own : {x : ℕ} {o : Outcome} → Way m c s (abort x) o → refusal_in o.answer ≡ none → is_at (find_active o.state.places x) ≡ false
+  pub abort_own : {x : ℕ} {o : Outcome} → Way m c s (abort x) o → refusal_in o.answer ≡ None → is_at (find_active o.state.places x) ≡ false
   unfolding with_place
   abort_own (refused y r w) e = none_some (sym e)
   abort_own (aborts x i p w) e = active_gone s.places i free_place u.living.size (active_place u x i w) x refl (elsewhere u x i w)

@@ -1,11 +1,11 @@
 -- The rows with a version under a new number, and then with its commit row at t. Without the commit row no other number sees the
 -- version and no time has it; with it, its key alone reads anew, from t on: for the rows before are of other numbers.
+use Rattle.std.specs.Prelude.{Option, None, Some}
 use Prim.Native.Nat.{ℕ, suc, ◌<◌}
 use native.Mathlib.Omega.{arith}
 use mathlib.Core.Path.{◌≡◌, refl, sym, ap, ◌∙◌}
 use mathlib.Core.Logic.{◌≢◌}
 use mathlib.Core.Bool.{Bool, true, false, cond, ◌&&◌, ◌||◌, and-true, and-false, or-true, or-false}
-use mathlib.Core.Option.{Option, none, some}
 use mathlib.Core.List.{List, [], ◌∷◌, ◌++◌}
 use lib.Dec.{eqb}
 use borrow.Author.Tests.{eq-eqb, ne_eqb, lt-ltb, le-leb}
@@ -34,9 +34,9 @@ module _ (rs more : List Row) (v : Version) (last : versions more ≡ versions r
       ≡ cond (eqb v.key key) (dated_of (time_of more v.number) (last_below rs key limit) limit v) (last_below rs key limit)
   unfolding last_below
   below_more key limit =
-      ap (best_below more key limit none) last
-      ∙ best_snoc more key limit none (versions rs) v
-      ∙ rw (best_same rs more key limit none (versions rs) times)
+      ap (best_below more key limit None) last
+      ∙ best_snoc more key limit None (versions rs) v
+      ∙ rw (best_same rs more key limit None (versions rs) times)
 
 cond_same : {A : Type 0} (a : Bool) (x y : A) → y ≡ x → cond a y x ≡ x
 cond_same true x y e = e
@@ -48,7 +48,7 @@ module _ (rs : List Row) (v : Version) (new : has_row rs v.number ≡ false) whe
   abbrev pub written_rows : List Row
   written_rows = rs ++ (version v ∷ [])
 
-  untimed : time_of written_rows v.number ≡ none
+  untimed : time_of written_rows v.number ≡ None
   untimed = time_version rs v v.number ∙ rowless_none rs v.number new
 
   written_current : (n key : ℕ) → current_of written_rows n key missing (versions written_rows)
@@ -92,7 +92,7 @@ module _ (rs : List Row) (v : Version) (new : has_row rs v.number ≡ false) whe
     times : (w : Version) → Among w (versions rs) → time_of handed_rows w.number ≡ time_of rs w.number
     times w a = time_other written_rows v.number t w.number (foreign rs v.number new w a) ∙ time_version rs v w.number
 
-    timed : time_of handed_rows v.number ≡ some t
+    timed : time_of handed_rows v.number ≡ Some t
     unfolding time_of
     timed = time_none written_rows (committed v.number t ∷ []) v.number untimed ∙ rw (eq-eqb v.number v.number refl)
 
@@ -129,6 +129,6 @@ module _ (rs : List Row) (v : Version) (new : has_row rs v.number ≡ false) whe
     unfolding strip_as_of
     handed_past = ap strip_at (handed_below v.key (suc t)) ∙ rw (eq-eqb v.key v.key refl) (ap strip_at (go (last_below rs v.key (suc t)) refl))
       where
-        go : (best : Option Dated) → last_below rs v.key (suc t) ≡ best → later_of best (suc t) dated ≡ some dated
-        go none e = rw (lt-ltb t (suc t) (omega arith))
-        go (some x) e = rw (lt-ltb t (suc t) (omega arith), le-leb x.time t (omega (arith, (last_from rs v.key (suc t) x e).below)))
+        go : (best : Option Dated) → last_below rs v.key (suc t) ≡ best → later_of best (suc t) dated ≡ Some dated
+        go None e = rw (lt-ltb t (suc t) (omega arith))
+        go (Some x) e = rw (lt-ltb t (suc t) (omega arith), le-leb x.time t (omega (arith, (last_from rs v.key (suc t) x e).below)))

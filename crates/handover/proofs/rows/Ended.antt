@@ -1,10 +1,10 @@
 -- How a handover in a run ends, as the stages of its calls find it: definitions only. `b` and `s` are the book and the state
 -- before it.
+use Rattle.std.specs.Prelude.{None}
 use Prim.Native.Nat.{ℕ, ◌+◌, ◌≤◌, ◌<◌, max}
 use mathlib.Core.Path.{◌≡◌}
 use mathlib.Core.Logic.{◌≢◌}
 use mathlib.Core.Bool.{true, false}
-use mathlib.Core.Option.{none}
 use mathlib.Core.List.{List, [], ◌∷◌, ◌++◌}
 use lib.ListN.{length}
 use Rattle.layout.specs.Slot.{key_form}
@@ -30,7 +30,7 @@ pub record New (b : Book) (s : State) (x : ℕ) : Type 0 where
 -- the check is passed: the strip v was read, so there is such a record, and nobody holds its flight
 pub record Checked (b : Book) (s : State) (h : Transfer) (x : ℕ) (v : List ℕ) : Type 0 where
   pub form : key_form h.flight ≡ true
-  pub free : (n : ℕ) → held_row (newest_under h.flight none (versions b.rows)) s.places n ≡ false
+  pub free : (n : ℕ) → held_row (newest_under h.flight None (versions b.rows)) s.places n ≡ false
   pub strip : read_by b x h.flight ≡ present v
   pub size : length v ≡ 16
   pub owner : owner_of v ≡ h.from

@@ -1,17 +1,15 @@
 -- Whether a key is held, by the book's rows and the active numbers: its newest version's number decides (Again), and the newest
 -- logged version is the newest version row, since the rows are those versions in their order.
+use Rattle.std.specs.Prelude.{Option, None, Some}
 use Prim.Native.Nat.{ℕ, zero, suc, ◌≤◌}
 use native.Mathlib.Omega.{arith}
 use mathlib.Core.Path.{◌≡◌, refl, sym, ap, ◌∙◌}
 use mathlib.Core.Logic.{inl, inr, ◌≢◌}
 use mathlib.Core.Bool.{Bool, true, false, cond, not, ◌&&◌}
-use mathlib.Core.Option.{Option, none, some}
 use mathlib.Core.List.{List, [], ◌∷◌, ◌++◌}
 use lib.ListN.{length, take}
 use lib.Dec.{eqb}
 use Rattle.layout.specs.Journal.{Record}
-use Rattle.store.specs.declared.Found.{Found}
-use Rattle.store.specs.declared.Found.TheVariants.{At, Nothing}
 use Rattle.store.specs.declared.Place.{Place}
 use Rattle.store.specs.declared.State.{State}
 use Rattle.store.specs.Places.{is_at, find_active}
@@ -30,27 +28,27 @@ use Rattle.agreement.proofs.relief.Again.{holder, vs as logged, held_is as held_
 -- its number, of versions by rising slot
 unfoldable pub newest_under : ℕ → Option ℕ → List Version → Option ℕ
 newest_under key before [] = before
-newest_under key before (v ∷ vs) = newest_under key (cond (eqb v.key key) (some v.number) before) vs
+newest_under key before (v ∷ vs) = newest_under key (cond (eqb v.key key) (Some v.number) before) vs
 
 pub newest_snoc : (key : ℕ) (before : Option ℕ) (vs : List Version) (v : Version)
-    → newest_under key before (vs ++ (v ∷ [])) ≡ cond (eqb v.key key) (some v.number) (newest_under key before vs)
+    → newest_under key before (vs ++ (v ∷ [])) ≡ cond (eqb v.key key) (Some v.number) (newest_under key before vs)
 unfolding newest_under
 newest_snoc key before [] v = refl
-newest_snoc key before (w ∷ vs) v = newest_snoc key (cond (eqb w.key key) (some w.number) before) vs v
+newest_snoc key before (w ∷ vs) v = newest_snoc key (cond (eqb w.key key) (Some w.number) before) vs v
 
 -- it is another than a number without versions
 pub data Another (n : ℕ) : Option ℕ → Type 0 where
-  nobody : Another n none
-  another : (k : ℕ) → k ≢ n → Another n (some k)
+  nobody : Another n None
+  another : (k : ℕ) → k ≢ n → Another n (Some k)
 
 pub newest_another : (n key : ℕ) (before : Option ℕ) (vs : List Version) → ((v : Version) → Among v vs → v.number ≢ n) → Another n before
     → Another n (newest_under key before vs)
 unfolding newest_under
 newest_another n key before [] f a = a
 newest_another n key before (v ∷ vs) f a =
-    newest_another n key (cond (eqb v.key key) (some v.number) before) vs (λ w h. f w (inr h)) (go (eqb v.key key))
+    newest_another n key (cond (eqb v.key key) (Some v.number) before) vs (λ w h. f w (inr h)) (go (eqb v.key key))
   where
-    go : (same : Bool) → Another n (cond same (some v.number) before)
+    go : (same : Bool) → Another n (cond same (Some v.number) before)
     go true = another v.number (f v (inl refl))
     go false = a
 
@@ -58,42 +56,42 @@ newest_another n key before (v ∷ vs) f a =
 
 -- against n: the newest is under another number, which is active
 abbrev pub held_row : Option ℕ → List Place → ℕ → Bool
-held_row none ps n = false
-held_row (some k) ps n = not (eqb k n) && is_at (find_active ps k)
+held_row None ps n = false
+held_row (Some k) ps n = not (eqb k n) && is_at (find_active ps k)
 
 -- the number of a logged version that was found
-abbrev number_at : Found → List LoggedVersion → Option ℕ
-number_at Nothing vs = none
-number_at (At slot) vs = some (at vs slot).num
+abbrev number_at : Option ℕ → List LoggedVersion → Option ℕ
+number_at None vs = None
+number_at (Some slot) vs = Some (at vs slot).num
 
-newest_logged : (vs : List LoggedVersion) (key j : ℕ) → j ≤ length vs → number_at (newest_of vs key j) vs ≡ newest_under key none (rows_for (take j vs))
+newest_logged : (vs : List LoggedVersion) (key j : ℕ) → j ≤ length vs → number_at (newest_of vs key j) vs ≡ newest_under key None (rows_for (take j vs))
 unfolding newest_of rows_for newest_under
 newest_logged vs key zero h = refl
 newest_logged vs key (suc j) h =
-    rw (rows_for_step vs j h, newest_snoc key none (rows_for (take j vs)) (row_for (at vs j)))
+    rw (rows_for_step vs j h, newest_snoc key None (rows_for (take j vs)) (row_for (at vs j)))
     (go (eqb (at vs j).key key) (newest_logged vs key j (omega arith)))
   where
-    go : (same : Bool) → number_at (newest_of vs key j) vs ≡ newest_under key none (rows_for (take j vs))
-        → number_at (cond same (At j) (newest_of vs key j)) vs ≡ cond same (some (at vs j).num) (newest_under key none (rows_for (take j vs)))
+    go : (same : Bool) → number_at (newest_of vs key j) vs ≡ newest_under key None (rows_for (take j vs))
+        → number_at (cond same (Some j) (newest_of vs key j)) vs ≡ cond same (Some (at vs j).num) (newest_under key None (rows_for (take j vs)))
     go true ih = refl
     go false ih = ih
 
 module _ {l d : ℕ} {m c : List ℕ} {s : State} {b : Book} {disk : Disk} {closed : List (List Record)} {tail : List Record} (u : Up l d m c s b disk closed tail) where
-  pub held_is : (key n : ℕ) → held c s.places s.slots key n ≡ held_row (newest_under key none (versions b.rows)) s.places n
+  pub held_is : (key n : ℕ) → held c s.places s.slots key n ≡ held_row (newest_under key None (versions b.rows)) s.places n
   held_is key n =
       held_logged u key n
       ∙ go (newest_of (logged u) key (length (logged u)))
       ∙ ap (λ (k : Option ℕ). held_row k s.places n) (newest_logged (logged u) key (length (logged u)) (omega arith)
-      ∙ ap (newest_under key none) (sym (all_rows u)))
+      ∙ ap (newest_under key None) (sym (all_rows u)))
     where
-      go : (f : Found) → holder f (logged u) s.places n ≡ held_row (number_at f (logged u)) s.places n
-      go Nothing = refl
-      go (At slot) = refl
+      go : (f : Option ℕ) → holder f (logged u) s.places n ≡ held_row (number_at f (logged u)) s.places n
+      go None = refl
+      go (Some slot) = refl
 
   -- active numbers are below the next
   pub idle_next : is_at (find_active s.places s.next.0) ≡ false
   idle_next = go (find_active s.places s.next.0) refl
     where
-      go : (f : Found) → find_active s.places s.next.0 ≡ f → is_at f ≡ false
-      go Nothing e = refl
-      go (At i) e = absurd (omega (arith, active_next u s.next.0 i e))
+      go : (f : Option ℕ) → find_active s.places s.next.0 ≡ f → is_at f ≡ false
+      go None e = refl
+      go (Some i) e = absurd (omega (arith, active_next u s.next.0 i e))

@@ -1,10 +1,10 @@
 -- What rows and the folds over them give where one row is added: a version row adds its version and no time, a commit row no
 -- version, and what a number reads follows from which versions it sees. By induction over the rows or the versions.
+use Rattle.std.specs.Prelude.{Option}
 use Prim.Native.Nat.{ℕ}
 use mathlib.Core.Path.{◌≡◌, refl, sym, ap, ◌∙◌}
 use mathlib.Core.Logic.{inl, inr, ◌≢◌}
 use mathlib.Core.Bool.{Bool, false, true, cond, ◌&&◌, ◌||◌, false≢true}
-use mathlib.Core.Option.{Option}
 use mathlib.Core.List.{List, [], ◌∷◌, ◌++◌, append-nil}
 use lib.Dec.{eqb}
 use borrow.Author.Tests.{ne_eqb}

@@ -1,11 +1,11 @@
 -- A handover from a running store: its first two stages, begin and the read with its check. What the read gives is what the book has
 -- for a new number, and a flight that it may read is held against nobody.
+use Rattle.std.specs.Prelude.{Option, None, Some}
 use Prim.Native.Nat.{ℕ, ◌^◌, ◌<◌}
 use native.Mathlib.Omega.{arith}
 use mathlib.Core.Path.{◌≡◌, refl, sym, ap, ◌∙◌}
 use mathlib.Core.Logic.{◌≢◌}
 use mathlib.Core.Bool.{Bool, true, false, not}
-use mathlib.Core.Option.{Option, none, some}
 use mathlib.Core.List.{List, ◌∷◌}
 use lib.Dec.{eqb}
 use borrow.Author.Tests.{eqb-true, eqb-false, eq-eqb, lt-ltb, not-true}
@@ -85,7 +85,7 @@ module _ (l d : ℕ) (b : Book) (s : State) (h : Transfer) (sizes : Sizes h) whe
           new = under.new;
         }
 
-    module _ (e : refusal_in (reads o x h).answer ≡ none) (ok : May (reads o x h).answer (reads o x h).value h) where
+    module _ (e : refusal_in (reads o x h).answer ≡ None) (ok : May (reads o x h).answer (reads o x h).value h) where
       strip_read : read_by book x h.flight ≡ present (reads o x h).value
       unfolding called seen_of read_by
       strip_read =
@@ -116,7 +116,7 @@ module _ (l d : ℕ) (b : Book) (s : State) (h : Transfer) (sizes : Sizes h) whe
     unfolding after_read after_check called hand_number
     read_stage = stage_call l d b s h (current_read x h.flight) read_typed (go (refusal_in (reads o x h).answer) refl)
       where
-        by : refusal_in (reads o x h).answer ≡ none → (a : Bool) → may_hand (reads o x h).answer (reads o x h).value h ≡ a
+        by : refusal_in (reads o x h).answer ≡ None → (a : Bool) → may_hand (reads o x h).answer (reads o x h).value h ≡ a
             → Stage l d b s h (check_calls a (reads o x h) x h) (reads o x h) (fed l o book (current_read x h.flight)) (after_check a (reads o x h) x h)
         by e false q = abort_stage l d b s h NotOwner under_read (unwritten NotOwner (omega arith) same_rows)
         by e true q =
@@ -125,8 +125,8 @@ module _ (l d : ℕ) (b : Book) (s : State) (h : Transfer) (sizes : Sizes h) whe
 
         go : (a : Option Refusal) → refusal_in (reads o x h).answer ≡ a
             → Stage l d b s h (read_calls a (reads o x h) x h) (reads o x h) (fed l o book (current_read x h.flight)) (after_read a (reads o x h) x h)
-        go (some r) e = abort_stage l d b s h (Denied r) under_read (unwritten (Denied r) (positive r) same_rows)
-        go none e = by e (may_hand (reads o x h).answer (reads o x h).value h) refl
+        go (Some r) e = abort_stage l d b s h (Denied r) under_read (unwritten (Denied r) (positive r) same_rows)
+        go None e = by e (may_hand (reads o x h).answer (reads o x h).value h) refl
 
 -- ---- begin; what stands before the handover is taken as if a call had left it
 
@@ -136,7 +136,7 @@ module _ {l d : ℕ} {m c : List ℕ} {s : State} {b : Book} {disk : Disk} {clos
   unfolding call_typed
   begin_typed = sizes.began
 
-  begun : refusal_in (begins s m c h).answer ≡ none
+  begun : refusal_in (begins s m c h).answer ≡ None
       → Under l d b s h (answer_value (begins s m c h).answer) (begins s m c h) (fed l (leaves Done s m c) b (begin h.began))
       × ((fed l (leaves Done s m c) b (begin h.began)).rows ≡ b.rows)
   unfolding called seen_of entered clock_of
@@ -164,7 +164,7 @@ module _ {l d : ℕ} {m c : List ℕ} {s : State} {b : Book} {disk : Disk} {clos
     where
       go : (a : Option Refusal) → refusal_in (begins s m c h).answer ≡ a
           → Stage l d b s h (begin_calls a (begins s m c h) h) (begins s m c h) (fed l (leaves Done s m c) b (begin h.began)) (after_begin a (begins s m c h) h)
-      go (some r) e =
+      go (Some r) e =
           let same = (refusal_leaves m c s (begin h.began) r (in_refusal (begins s m c h).answer r e)).state in
           stage_none l d b s h (record {
             inv = (goes l d (leaves Done s m c) b (begin h.began) (running u) begin_typed).1;
@@ -172,4 +172,4 @@ module _ {l d : ℕ} {m c : List ℕ} {s : State} {b : Book} {disk : Disk} {clos
             stored = omega (arith, ap (λ (t : State). t.saved.0) same);
             rows = unwritten (Denied r) (positive r) (ap (λ (y : Book). y.rows) (fed_some l (leaves Done s m c) b (begin h.began) r e));
           })
-      go none e = let (under, rows) = begun e in read_stage l d b s h sizes under rows
+      go None e = let (under, rows) = begun e in read_stage l d b s h sizes under rows

@@ -1,11 +1,11 @@
 -- What reads of a running store show, by its book: state and buffers fit, so a current read is refused just by its record number and
 -- by what the active numbers and the newest rows say, a read as of a time just by its record number and the time stored; else the
 -- strip is that of the rows.
+use Rattle.std.specs.Prelude.{Option, None, Some}
 use Prim.Native.Nat.{ℕ, zero, suc, ◌≤◌, ◌<◌}
 use native.Mathlib.Omega.{arith}
 use mathlib.Core.Path.{◌≡◌, refl, sym, ap, ◌∙◌, subst}
 use mathlib.Core.Bool.{Bool, true, false, cond, not}
-use mathlib.Core.Option.{Option, none, some}
 use mathlib.Core.List.{List, [], ◌∷◌}
 use lib.Dec.{leb}
 use borrow.Author.Tests.{leb-true, le-leb}
@@ -59,8 +59,8 @@ refused_strip : (a : Answer) (v : List ℕ) → 0 < answer_number a → strip_of
 refused_strip a v h = go (refusal_in a) refl
   where
     go : (x : Option Refusal) → refusal_in a ≡ x → strip_of a v ≡ missing
-    go none e = absurd (omega (arith, number_none a e))
-    go (some r) e = ap (λ (y : Answer). strip_of y v) (in_refusal a r e)
+    go None e = absurd (omega (arith, number_none a e))
+    go (Some r) e = ap (λ (y : Answer). strip_of y v) (in_refusal a r e)
 
 -- a call's number is that of its first "no"
 asked_number : (m c : List ℕ) (s : State) (k : Call) → answer_number (called m c s k).answer ≡ number_of (ask (asks m c s k))
@@ -68,8 +68,8 @@ unfolding answer_number
 asked_number m c s k = go (ask (asks m c s k)) refl
   where
     go : (a : Option Refusal) → ask (asks m c s k) ≡ a → answer_number (called m c s k).answer ≡ number_of a
-    go none e = done_way (way m c s k) (passed (asks m c s k) e)
-    go (some r) e = ap answer_number (asked_refused m c s k r e)
+    go None e = done_way (way m c s k) (passed (asks m c s k) e)
+    go (Some r) e = ap answer_number (asked_refused m c s k r e)
 
 -- ---- a current read
 
@@ -94,7 +94,7 @@ read_asks false active taken = refl
 module _ {l d : ℕ} {m c : List ℕ} {s : State} {b : Book} {disk : Disk} {closed : List (List Record)} {tail : List Record} (u : Up l d m c s b disk closed tail) where
   -- is the key held against n?
   abbrev pub taken : ℕ → ℕ → Bool
-  taken n key = held_row (newest_under key none (versions b.rows)) s.places n
+  taken n key = held_row (newest_under key None (versions b.rows)) s.places n
 
   pub current_shows : (n key : ℕ)
       → Shows (read_number (key_form key) (is_at (find_active s.places n)) (taken n key)) (read_by b n key) (look l d (up m c s) (current_read n key))

@@ -1,10 +1,10 @@
 -- Reads by a number that has just begun: it is active and no version is its own, so its read is refused just if there is no such
 -- record or the key's newest version is of an active number, and gives what the rows have for a number without any.
+use Rattle.std.specs.Prelude.{Option, None}
 use Prim.Native.Nat.{ℕ, ◌^◌}
 use mathlib.Core.Path.{◌≡◌, refl, sym, ap, ◌∙◌}
 use mathlib.Core.Logic.{◌≢◌}
 use mathlib.Core.Bool.{true, false, not, and-false}
-use mathlib.Core.Option.{Option, none}
 use mathlib.Core.List.{List}
 use lib.Dec.{eqb}
 use borrow.Author.Tests.{ne_eqb, lt-ltb}
@@ -53,14 +53,14 @@ held_nobody {n = n} ps (another x z) e k =
     rw idle (and-false (not (eqb x k)))
 
 -- a number without rows is such a number
-pub newest_of_others : (b : Book) (n key : ℕ) → has_row b.rows n ≡ false → Another n (newest_under key none (versions b.rows))
-newest_of_others b n key e = newest_another n key none (versions b.rows) (foreign b.rows n e) nobody
+pub newest_of_others : (b : Book) (n key : ℕ) → has_row b.rows n ≡ false → Another n (newest_under key None (versions b.rows))
+newest_of_others b n key e = newest_another n key None (versions b.rows) (foreign b.rows n e) nobody
 
 -- ---- a number begun at a clock
 
 module _ {l d : ℕ} {m c : List ℕ} {s : State} {b : Book} {disk : Disk} {closed : List (List Record)} {tail : List Record} (u : Up l d m c s b disk closed tail)
     (clock : ℕ) (can : CanBegin l d (up m c s) clock) where
-  given : refusal_in (begin_of s m c clock).answer ≡ none
+  given : refusal_in (begin_of s m c clock).answer ≡ None
   unfolding look step seen_of called
   given = zero_none (begin_of s m c clock).answer can.1
 
@@ -86,7 +86,7 @@ module _ {l d : ℕ} {m c : List ℕ} {s : State} {b : Book} {disk : Disk} {clos
   unfolding call_typed
   inv = (goes l d (leaves Done s m c) b (begin clock) (running u) (lt-ltb clock (2 ^ 64) can.0)).1
 
-  same_held : (key : ℕ) → held_row (newest_under key none (versions b.rows)) (begin_of s m c clock).state.places number ≡ taken u number key
+  same_held : (key : ℕ) → held_row (newest_under key None (versions b.rows)) (begin_of s m c clock).state.places number ≡ taken u number key
   same_held key = held_others (begin_of s m c clock).state.places s.places (newest_of_others b number key rowless) begun.beside.others
 
   begun_shows : (key : ℕ) → Shows (read_number (key_form key) true (taken u number key)) (read_by b number key) (look l d (after (begin_of s m c clock)) (current_read number key))

@@ -1,11 +1,11 @@
 -- What a handover promises of the store's own reads, from how it ends: the same numbers are active and the same keys held, so
 -- current reads are refused as before, and all else is what the rows answer (Kept).
+use Rattle.std.specs.Prelude.{Option, None, Some}
 use Prim.Native.Nat.{ℕ}
 use native.Mathlib.Omega.{arith}
 use mathlib.Core.Path.{◌≡◌, refl, sym, ap, ◌∙◌}
 use mathlib.Core.Logic.{◌⊎◌, inl, inr, ◌≢◌}
 use mathlib.Core.Bool.{Bool, true, false, cond, not, ◌&&◌, and-false, false≢true}
-use mathlib.Core.Option.{Option, none, some}
 use mathlib.Core.List.{List, [], ◌∷◌, ◌++◌}
 use lib.Dec.{eqb}
 use borrow.Author.Tests.{eq-eqb, ne_eqb}
@@ -40,29 +40,29 @@ led o = up o.medium o.cache o.state
 
 module _ (b : Book) (s : State) (h : Transfer) (ps : List Place) (active : (n : ℕ) → is_at (find_active ps n) ≡ is_at (find_active s.places n)) where
   as_active : (y : Option ℕ) (n : ℕ) → held_row y ps n ≡ held_row y s.places n
-  as_active none n = refl
-  as_active (some k) n = ap (λ (a : Bool). not (eqb k n) && a) (active k)
+  as_active None n = refl
+  as_active (Some k) n = ap (λ (a : Bool). not (eqb k n) && a) (active k)
 
   -- with the version written: its number is not active, and nobody held its key before
   written_held : (x : ℕ) (v : List ℕ) → New b s x → Checked b s h x v → (key n : ℕ)
-      → held_row (newest_under key none (versions b.rows ++ (new_version h x v ∷ []))) ps n ≡ held_row (newest_under key none (versions b.rows)) s.places n
-  written_held x v new checked key n = rw (newest_snoc key none (versions b.rows) (new_version h x v)) (go (same? key h.flight))
+      → held_row (newest_under key None (versions b.rows ++ (new_version h x v ∷ []))) ps n ≡ held_row (newest_under key None (versions b.rows)) s.places n
+  written_held x v new checked key n = rw (newest_snoc key None (versions b.rows) (new_version h x v)) (go (same? key h.flight))
     where
       go : (key ≡ h.flight) ⊎ (key ≢ h.flight)
-          → held_row (cond (eqb h.flight key) (some x) (newest_under key none (versions b.rows))) ps n ≡ held_row (newest_under key none (versions b.rows)) s.places n
+          → held_row (cond (eqb h.flight key) (Some x) (newest_under key None (versions b.rows))) ps n ≡ held_row (newest_under key None (versions b.rows)) s.places n
       go (inl e) = rw (e, eq-eqb h.flight h.flight refl, checked.free n, active x, new.idle) (and-false (not (eqb x n)))
-      go (inr e) = rw (ne_eqb h.flight key (λ q. e (sym q))) (as_active (newest_under key none (versions b.rows)) n)
+      go (inr e) = rw (ne_eqb h.flight key (λ q. e (sym q))) (as_active (newest_under key None (versions b.rows)) n)
 
   same_held : {rs : List Row} {a : HandAnswer} → RowsEnd b s h rs a → (key n : ℕ)
-      → held_row (newest_under key none (versions rs)) ps n ≡ held_row (newest_under key none (versions b.rows)) s.places n
-  same_held (unwritten a q e) key n = rw e (as_active (newest_under key none (versions b.rows)) n)
+      → held_row (newest_under key None (versions rs)) ps n ≡ held_row (newest_under key None (versions b.rows)) s.places n
+  same_held (unwritten a q e) key n = rw e (as_active (newest_under key None (versions b.rows)) n)
   same_held (aborted a x v q new checked e) key n = rw (e, versions_version b.rows (new_version h x v)) (written_held x v new checked key n)
   same_held (handed x v t new checked time e) key n =
       rw (e, versions_commit (b.rows ++ (new_row h x v ∷ [])) x t, versions_version b.rows (new_version h x v)) (written_held x v new checked key n)
 
 -- where it is handed over, nobody held the flight
 handed_free : {b : Book} {s : State} {h : Transfer} {rs : List Row} {a : HandAnswer} → RowsEnd b s h rs a → hand_number a ≡ 0
-    → (n : ℕ) → held_row (newest_under h.flight none (versions b.rows)) s.places n ≡ false
+    → (n : ℕ) → held_row (newest_under h.flight None (versions b.rows)) s.places n ≡ false
 unfolding hand_number
 handed_free (unwritten a q e) z n = absurd (omega arith)
 handed_free (aborted a x v q new checked e) z n = absurd (omega arith)

@@ -1,10 +1,10 @@
 -- The stages of a handover in a run, from its last call back. Between begin and its end its number x is active and nothing else has
 -- changed but the rows (`Under`); each call keeps this or ends it, by the lemma for each event and by what the call does (Ways).
+use Rattle.std.specs.Prelude.{Option, None, Some}
 use Prim.Native.Nat.{ℕ, ◌+◌, max}
 use mathlib.Core.Path.{◌≡◌, refl, sym, ap, ◌∙◌}
 use mathlib.Core.Logic.{◌⊎◌, inl, inr, ◌≢◌}
 use mathlib.Core.Bool.{true, false}
-use mathlib.Core.Option.{Option, none, some}
 use mathlib.Core.List.{List, [], ◌∷◌, ◌++◌}
 use lib.ListN.{length, length-set}
 use lib.Dec.{ltb}
@@ -94,7 +94,7 @@ module _ (l d : ℕ) (b : Book) (s : State) (h : Transfer) where
   stage_call k t rest = record { run = rw t rest.run; ended = rest.ended }
 
   -- a refused call changes nothing
-  under_refused : {x : ℕ} {o : Outcome} {book : Book} (k : Call) (r : Refusal) → call_typed k ≡ true → refusal_in (next o k).answer ≡ some r
+  under_refused : {x : ℕ} {o : Outcome} {book : Book} (k : Call) (r : Refusal) → call_typed k ≡ true → refusal_in (next o k).answer ≡ Some r
       → Under l d b s h x o book → Under l d b s h x (next o k) (fed l o book k)
   under_refused {o = o} {book = book} k r t e under =
       let same = (refusal_leaves o.medium o.cache o.state k r (in_refusal (next o k).answer r e)).state in
@@ -131,7 +131,7 @@ module _ (l d : ℕ) (b : Book) (s : State) (h : Transfer) where
       w : Way o.medium o.cache o.state (abort x) (aborts o x)
       w = way o.medium o.cache o.state (abort x)
 
-      done : refusal_in (aborts o x).answer ≡ none
+      done : refusal_in (aborts o x).answer ≡ None
       done = ap refusal_in (with_up under.inv (λ disk closed tail u. abort_done o x (record { fit = fits_up u; active = under.active })))
 
       beside : Beside x s (aborts o x).state
@@ -162,10 +162,10 @@ module _ (l d : ℕ) (b : Book) (s : State) (h : Transfer) where
 
       go : (a : Option Refusal) → refusal_in (commits o x h).answer ≡ a
           → Stage l d b s h (commit_calls a x) (next o (commit x h.ended)) (fed l o book (commit x h.ended)) (after_commit a (commits o x h) x)
-      go (some r) e =
+      go (Some r) e =
           abort_stage (Denied r) (under_refused (commit x h.ended) r t e under)
           (aborted (Denied r) x v (positive r) under.new checked (ap (λ (y : Book). y.rows) (fed_some l o book (commit x h.ended) r e) ∙ rows))
-      go none e =
+      go None e =
           let f = goes l d o book (commit x h.ended) under.inv t in
           let time : answer_value (commits o x h).answer ≡ commit_time book x h.ended = f.0 (number_none (commits o x h).answer e) ∙ rw has in
           let more : (fed l o book (commit x h.ended)).rows ≡ book.rows ++ (committed x (commit_time book x h.ended) ∷ []) =
@@ -200,10 +200,10 @@ module _ (l d : ℕ) (b : Book) (s : State) (h : Transfer) where
 
       go : (a : Option Refusal) → refusal_in (writes o x h).answer ≡ a
           → Stage l d b s h (write_calls a (writes o x h) x h) (next o (write_call x o h)) (fed l o book (write_call x o h)) (after_write a (writes o x h) x h)
-      go (some r) e =
+      go (Some r) e =
           abort_stage (Denied r) (under_refused (write_call x o h) r t e under)
           (unwritten (Denied r) (positive r) (ap (λ (y : Book). y.rows) (fed_some l o book (write_call x o h) r e) ∙ rows))
-      go none e =
+      go None e =
           let entry = fed_none l o book (write_call x o h) e in
           commit_stage o.value sizes
           (record {

@@ -8,8 +8,8 @@ use Rattle.pages.specs.Stamped.{place_for}
 use Rattle.pages.proofs.place_for.Goals as goal
 
 -- the place found is one of the 64
-below : (c : goal.In-At) → c.in-At.i < 64
-below c = committed_below _ _ _ (sym c.find_committed-f.ensures ∙ c.in-At.is)
+below : (c : goal.In-Some) → c.in-Some.i < 64
+below c = committed_below _ _ _ (sym c.find_committed-f.ensures ∙ c.in-Some.is)
 
 pub overflow_add-i : goal.overflow_add-i
 overflow_add-i c = let h = below c in omega arith
@@ -18,8 +18,8 @@ pub offset_bounds-words-i : goal.offset_bounds-words-i
 offset_bounds-words-i c = let h = below c in omega arith
 
 -- the place found is one of the 64
-below_at_bounds_words_i : (c : goal.After-shared_slice_known-in-At-1-unread) → c.in-At.i < 64
-below_at_bounds_words_i c = committed_below _ _ _ (sym c.find_committed-f.ensures ∙ c.in-At.is)
+below_at_bounds_words_i : (c : goal.After-shared_slice_known-in-Some-1-unread) → c.in-Some.i < 64
+below_at_bounds_words_i c = committed_below _ _ _ (sym c.find_committed-f.ensures ∙ c.in-Some.is)
 
 pub bounds-words-i : goal.bounds-words-i
 bounds-words-i c = let h = below_at_bounds_words_i c in omega (arith, c.requires)
@@ -27,7 +27,7 @@ bounds-words-i c = let h = below_at_bounds_words_i c in omega (arith, c.requires
 pub returns-then-words-i : goal.returns-then-words-i
 unfolding place_for
 returns-then-words-i c =
-    simp (c.in-Waiting.is, ← c.find_committed-f.ensures, c.in-At.is, le-leb _ _ c.if-words-i.true)
+    simp (c.in-Waiting.is, ← c.find_committed-f.ensures, c.in-Some.is, le-leb _ _ c.if-words-i.true)
 
 pub returns-in-Empty : goal.returns-in-Empty
 unfolding place_for
@@ -36,11 +36,11 @@ returns-in-Empty c = simp c.in-Empty.is
 pub returns-else-words-i : goal.returns-else-words-i
 unfolding place_for
 returns-else-words-i c =
-    simp (c.in-Waiting.is, ← c.find_committed-f.ensures, c.in-At.is, lt-leb _ _ c.if-words-i.false)
+    simp (c.in-Waiting.is, ← c.find_committed-f.ensures, c.in-Some.is, lt-leb _ _ c.if-words-i.false)
 
-pub returns-in-Nothing : goal.returns-in-Nothing
+pub returns-in-None : goal.returns-in-None
 unfolding place_for
-returns-in-Nothing c = simp (c.in-Waiting.is, ← c.find_committed-f.ensures, c.in-Nothing.is)
+returns-in-None c = simp (c.in-Waiting.is, ← c.find_committed-f.ensures, c.in-None.is)
 
 pub returns-in-Stamped : goal.returns-in-Stamped
 unfolding place_for

@@ -4,12 +4,12 @@ use Rattle.cached.proofs.RoomLaws.{head_at}
 use Rattle.chain.proofs.best.find.Goals as goal
 
 pub find_from-requires : goal.find_from-requires
-find_from-requires c = head_at _ _ _ c.in-At.is c.requires
+find_from-requires c = head_at _ _ _ c.in-Some.is c.requires
 
-pub returns-in-At : goal.returns-in-At
+pub returns-in-Some : goal.returns-in-Some
 unfolding best_of
-returns-in-At c = simp (c.in-At.is, c.find_from.ensures)
+returns-in-Some c = simp (c.in-Some.is, c.find_from.ensures)
 
-pub returns-in-Nothing : goal.returns-in-Nothing
+pub returns-in-None : goal.returns-in-None
 unfolding best_of
-returns-in-Nothing c = simp c.in-Nothing.is
+returns-in-None c = simp c.in-None.is

@@ -7,13 +7,13 @@ pub returns-then-v-u : goal.returns-then-v-u
 unfolding or_later
 returns-then-v-u c = simp (c.in-Version.is, c.in-Version-second.is, le-leb _ _ c.if-v-u.true)
 
-pub returns-in-Neither : goal.returns-in-Neither
+pub returns-in-None : goal.returns-in-None
 unfolding or_later
-returns-in-Neither c = simp c.in-Neither.is
+returns-in-None c = simp c.in-None.is
 
-pub returns-in-Neither-second : goal.returns-in-Neither-second
+pub returns-in-None-second : goal.returns-in-None-second
 unfolding or_later
-returns-in-Neither-second c = simp (c.in-Version.is, c.in-Neither-second.is)
+returns-in-None-second c = simp (c.in-Version.is, c.in-None-second.is)
 
 pub returns-else-v-u : goal.returns-else-v-u
 unfolding or_later

@@ -5,8 +5,8 @@ use borrow.Author.Tests.{le-leb}
 use Rattle.conditions.proofs.BlockPasses.{ltb_low}
 use Rattle.conditions.proofs.blocks.rises.Goals as goal
 
-pub returns-in-Untimed : goal.returns-in-Untimed
-returns-in-Untimed c = rw c.in-Untimed.is (sym (le-leb 0 c.args.time.0 (omega arith)))
+pub returns-in-None : goal.returns-in-None
+returns-in-None c = rw c.in-None.is (sym (le-leb 0 c.args.time.0 (omega arith)))
 
-pub returns-in-Timed : goal.returns-in-Timed
-returns-in-Timed c = rw c.in-Timed.is (ltb_low c.in-Timed.t.0 c.args.time.0)
+pub returns-in-Some : goal.returns-in-Some
+returns-in-Some c = rw c.in-Some.is (ltb_low c.in-Some.t.0 c.args.time.0)

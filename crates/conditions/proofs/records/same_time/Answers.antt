@@ -6,12 +6,12 @@ use Rattle.conditions.proofs.records.same_time.Goals as goal
 pub read-requires : goal.read-requires
 read-requires c =
     record {
-      i_bound = found_below _ _ _ (sym c.find-f.ensures ∙ c.in-At.is);
+      i_bound = found_below _ _ _ (sym c.find-f.ensures ∙ c.in-Some.is);
       in_bounds = c.requires.in_bounds;
     }
 
-pub returns-in-At : goal.returns-in-At
-returns-in-At c = simp (← c.find-f.ensures, c.in-At.is, c.read.ensures)
+pub returns-in-Some : goal.returns-in-Some
+returns-in-Some c = simp (← c.find-f.ensures, c.in-Some.is, c.read.ensures)
 
-pub returns-in-Nothing : goal.returns-in-Nothing
-returns-in-Nothing c = simp (← c.find-f.ensures, c.in-Nothing.is)
+pub returns-in-None : goal.returns-in-None
+returns-in-None c = simp (← c.find-f.ensures, c.in-None.is)

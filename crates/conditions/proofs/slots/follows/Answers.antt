@@ -2,5 +2,5 @@
 use mathlib.Core.Path.{refl}
 use Rattle.conditions.proofs.slots.follows.Goals as goal
 
-pub returns-in-Timed : goal.returns-in-Timed
-returns-in-Timed c = simp c.in-Timed.is (refl, refl)
+pub returns-in-Some : goal.returns-in-Some
+returns-in-Some c = simp c.in-Some.is (refl, refl)

@@ -16,13 +16,13 @@ find-f-requires c =
 pub read-p-requires : goal.read-p-requires
 read-p-requires c =
     record {
-      i_bound = found_below _ _ _ (sym c.find-f.ensures ∙ c.in-At.is);
+      i_bound = found_below _ _ _ (sym c.find-f.ensures ∙ c.in-Some.is);
       in_bounds = ready_table _ _ c.requires.ready;
     }
 
-pub returns-in-At : goal.returns-in-At
-returns-in-At c =
-    time_found _ _ _ c.find-f.result c.find-f.ensures _ c.read-p.result c.in-At.is c.read-p.ensures
+pub returns-in-Some : goal.returns-in-Some
+returns-in-Some c =
+    time_found _ _ _ c.find-f.result c.find-f.ensures _ c.read-p.result c.in-Some.is c.read-p.ensures
 
 -- what was found among the commits, as the log has it
 logged : (c : goal.In-Found) → c.commit_under-c.result ≡ match_of (commit_under (read_log c.args.medium.now c.args.blocks) c.args.n)
@@ -30,7 +30,7 @@ logged c = c.commit_under-c.ensures ∙ ap match_of (known_commit _ _ _ _ c.requ
 
 pub returns-in-Found : goal.returns-in-Found
 returns-in-Found c =
-    time_logged _ _ _ c.find-f.result c.find-f.ensures _ _ c.commit_under-c.result c.in-Nothing.is (logged c) c.in-Found.is
+    time_logged _ _ _ c.find-f.result c.find-f.ensures _ _ c.commit_under-c.result c.in-None.is (logged c) c.in-Found.is
 
 -- what was found among the commits, as the log has it
 logged_at_returns_in_Absent : (c : goal.In-Absent) → c.commit_under-c.result ≡ match_of (commit_under (read_log c.args.medium.now c.args.blocks) c.args.n)
@@ -38,4 +38,4 @@ logged_at_returns_in_Absent c = c.commit_under-c.ensures ∙ ap match_of (known_
 
 pub returns-in-Absent : goal.returns-in-Absent
 returns-in-Absent c =
-    time_none _ _ _ c.find-f.result c.find-f.ensures c.commit_under-c.result c.in-Nothing.is (logged_at_returns_in_Absent c) c.in-Absent.is
+    time_none _ _ _ c.find-f.result c.find-f.ensures c.commit_under-c.result c.in-None.is (logged_at_returns_in_Absent c) c.in-Absent.is

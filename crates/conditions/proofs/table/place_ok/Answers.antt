@@ -18,12 +18,12 @@ pub returns-then-t-eq0 : goal.returns-then-t-eq0
 returns-then-t-eq0 c =
     sym (place_zero c.args.medium.now _ _ _ _ c.read-p.ensures c.if-n-eq0.false c.if-next-n.false c.if-last-t.false c.if-t-eq0.true)
 
-pub returns-in-At : goal.returns-in-At
-returns-in-At c =
+pub returns-in-Some : goal.returns-in-Some
+returns-in-Some c =
     let e = place_new c.args.medium.now _ _ _ _ c.read-p.ensures c.if-n-eq0.false c.if-next-n.false c.if-last-t.false c.if-t-eq0.false in
-    sym (e ∙ simp (← c.find_below-f.ensures, c.in-At.is))
+    sym (e ∙ simp (← c.find_below-f.ensures, c.in-Some.is))
 
-pub returns-in-Nothing : goal.returns-in-Nothing
-returns-in-Nothing c =
+pub returns-in-None : goal.returns-in-None
+returns-in-None c =
     let e = place_new c.args.medium.now _ _ _ _ c.read-p.ensures c.if-n-eq0.false c.if-next-n.false c.if-last-t.false c.if-t-eq0.false in
-    sym (e ∙ simp (← c.find_below-f.ensures, c.in-Nothing.is))
+    sym (e ∙ simp (← c.find_below-f.ensures, c.in-None.is))

@@ -1,6 +1,6 @@
 -- The commit's answer says whether the handover is over or given up.
+use Rattle.std.specs.Prelude.{Option}
 use mathlib.Core.Path.{◌∙◌}
-use mathlib.Core.Option.{Option}
 use Rattle.store.specs.declared.Refusal.{Refusal}
 use Rattle.store.specs.Answer.{Outcome}
 use Rattle.handover.specs.Hand.{after_write, after_commit}

@@ -1,6 +1,6 @@
 -- The begin's answer says whether the handover goes on, under the number in it.
+use Rattle.std.specs.Prelude.{Option}
 use mathlib.Core.Path.{◌∙◌}
-use mathlib.Core.Option.{Option}
 use Rattle.store.specs.declared.Refusal.{Refusal}
 use Rattle.store.specs.Answer.{Outcome}
 use Rattle.handover.specs.Hand.{hand_of, after_begin}

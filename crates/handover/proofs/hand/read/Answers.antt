@@ -1,6 +1,6 @@
 -- The read's answer says whether the handover goes on or is given up.
+use Rattle.std.specs.Prelude.{Option}
 use mathlib.Core.Path.{◌∙◌}
-use mathlib.Core.Option.{Option}
 use Rattle.store.specs.declared.Refusal.{Refusal}
 use Rattle.store.specs.Answer.{Outcome, answer_value}
 use Rattle.handover.specs.Hand.{after_begin, after_read}

@@ -1,6 +1,6 @@
 -- The write's answer says whether the handover goes on or is given up.
+use Rattle.std.specs.Prelude.{Option}
 use mathlib.Core.Path.{◌∙◌}
-use mathlib.Core.Option.{Option}
 use Rattle.store.specs.declared.Refusal.{Refusal}
 use Rattle.store.specs.Answer.{Outcome}
 use Rattle.handover.specs.Hand.{after_check, after_write}

@@ -2,8 +2,8 @@
 use Rattle.opening.proofs.PlacesLaws.{free_tabled, free_untabled}
 use Rattle.opening.proofs.places.place_for.Goals as goal
 
-pub returns-in-At : goal.returns-in-At
-returns-in-At c = free_tabled _ _ _ _ c.find-f.ensures c.in-At.is
+pub returns-in-Some : goal.returns-in-Some
+returns-in-Some c = free_tabled _ _ _ _ c.find-f.ensures c.in-Some.is
 
-pub returns-in-Nothing : goal.returns-in-Nothing
-returns-in-Nothing c = free_untabled _ _ _ _ c.find-f.ensures c.in-Nothing.is c.find_free.ensures
+pub returns-in-None : goal.returns-in-None
+returns-in-None c = free_untabled _ _ _ _ c.find-f.ensures c.in-None.is c.find_free.ensures

@@ -96,20 +96,20 @@ best c =
 pub returns-in-Version : goal.returns-in-Version
 returns-in-Version c = read_cell_law _ _ _ _ _ c.read_slot.ensures ∙ sym (best c ∙ simp c.in-Version.is)
 
-q1_at_returns_in_Neither : (c : goal.After-missing) → let a = c.args in fits (state_of a.words.now a.tail.now) (length a.medium.now) (length a.cache.now) ≡ true
-q1_at_returns_in_Neither c = sym c.is_fit.ensures ∙ c.if-not-is_fit.false
+q1_at_returns_in_None : (c : goal.After-missing) → let a = c.args in fits (state_of a.words.now a.tail.now) (length a.medium.now) (length a.cache.now) ≡ true
+q1_at_returns_in_None c = sym c.is_fit.ensures ∙ c.if-not-is_fit.false
 
-q2_at_returns_in_Neither : (c : goal.After-missing) → key_form c.args.key ≡ true
+q2_at_returns_in_None : (c : goal.After-missing) → key_form c.args.key ≡ true
 unfolding key_form
-q2_at_returns_in_Neither c = let h : c.args.key < 1024 = omega arith in lt-ltb _ _ h
+q2_at_returns_in_None c = let h : c.args.key < 1024 = omega arith in lt-ltb _ _ h
 
-best_at_returns_in_Neither : (c : goal.After-missing) → let a = c.args in
+best_at_returns_in_None : (c : goal.After-missing) → let a = c.args in
     as_of_of (state_of a.words.now a.tail.now) a.medium.now a.cache.now a.key a.time
     ≡ as_of_at c.find-best.result (state_of a.words.now a.tail.now) a.medium.now a.cache.now
 unfolding state_of state_by
-best_at_returns_in_Neither c =
+best_at_returns_in_None c =
     let a = c.args in
-    as_of_done (state_of a.words.now a.tail.now) a.medium.now a.cache.now a.key a.time _ _ (q1_at_returns_in_Neither c) (q2_at_returns_in_Neither c) c.if-words-time.false c.find-head.ensures c.find-best.ensures
+    as_of_done (state_of a.words.now a.tail.now) a.medium.now a.cache.now a.key a.time _ _ (q1_at_returns_in_None c) (q2_at_returns_in_None c) c.if-words-time.false c.find-head.ensures c.find-best.ensures
 
-pub returns-in-Neither : goal.returns-in-Neither
-returns-in-Neither c = simp (c.missing.ensures, best_at_returns_in_Neither c, c.in-Neither.is)
+pub returns-in-None : goal.returns-in-None
+returns-in-None c = simp (c.missing.ensures, best_at_returns_in_None c, c.in-None.is)

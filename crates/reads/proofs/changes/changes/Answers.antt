@@ -57,30 +57,30 @@ room_at_list_listed_requires c = fit_room _ _ _ (q1_at_list_listed_requires c)
 pub list-listed-requires : goal.list-listed-requires
 list-listed-requires c = newest_head _ _ _ _ _ c.find-head.ensures (room_at_list_listed_requires c)
 
-q1_at_returns_in_At : (c : goal.In-At) → let a = c.args in fits (state_of a.words.now a.tail.now) (length a.medium.now) (length a.cache.now) ≡ true
-q1_at_returns_in_At c = sym c.is_fit.ensures ∙ c.if-not-is_fit.false
+q1_at_returns_in_Some : (c : goal.In-Some) → let a = c.args in fits (state_of a.words.now a.tail.now) (length a.medium.now) (length a.cache.now) ≡ true
+q1_at_returns_in_Some c = sym c.is_fit.ensures ∙ c.if-not-is_fit.false
 
-q2_at_returns_in_At : (c : goal.In-At) → key_form c.args.key ≡ true
+q2_at_returns_in_Some : (c : goal.In-Some) → key_form c.args.key ≡ true
 unfolding key_form
-q2_at_returns_in_At c = let h : c.args.key < 1024 = omega arith in lt-ltb _ _ h
+q2_at_returns_in_Some c = let h : c.args.key < 1024 = omega arith in lt-ltb _ _ h
 
-pub returns-in-At : goal.returns-in-At
+pub returns-in-Some : goal.returns-in-Some
 unfolding state_of state_by
-returns-in-At c =
+returns-in-Some c =
     let a = c.args in
-    changes_listed (state_of a.words.now a.tail.now) a.medium.now a.cache.now a.buffer.now _ a.key a.t1 a.t2 _ _ (q1_at_returns_in_At c) (q2_at_returns_in_At c) c.if-words-t2.false c.find-head.ensures
-    c.list-listed.ensures.result_value c.list-listed.ensures.buffer_after _ c.in-At.is
+    changes_listed (state_of a.words.now a.tail.now) a.medium.now a.cache.now a.buffer.now _ a.key a.t1 a.t2 _ _ (q1_at_returns_in_Some c) (q2_at_returns_in_Some c) c.if-words-t2.false c.find-head.ensures
+    c.list-listed.ensures.result_value c.list-listed.ensures.buffer_after _ c.in-Some.is
 
-q1_at_returns_in_Nothing : (c : goal.In-Nothing) → let a = c.args in fits (state_of a.words.now a.tail.now) (length a.medium.now) (length a.cache.now) ≡ true
-q1_at_returns_in_Nothing c = sym c.is_fit.ensures ∙ c.if-not-is_fit.false
+q1_at_returns_in_None : (c : goal.In-None) → let a = c.args in fits (state_of a.words.now a.tail.now) (length a.medium.now) (length a.cache.now) ≡ true
+q1_at_returns_in_None c = sym c.is_fit.ensures ∙ c.if-not-is_fit.false
 
-q2_at_returns_in_Nothing : (c : goal.In-Nothing) → key_form c.args.key ≡ true
+q2_at_returns_in_None : (c : goal.In-None) → key_form c.args.key ≡ true
 unfolding key_form
-q2_at_returns_in_Nothing c = let h : c.args.key < 1024 = omega arith in lt-ltb _ _ h
+q2_at_returns_in_None c = let h : c.args.key < 1024 = omega arith in lt-ltb _ _ h
 
-pub returns-in-Nothing : goal.returns-in-Nothing
+pub returns-in-None : goal.returns-in-None
 unfolding state_of state_by
-returns-in-Nothing c =
+returns-in-None c =
     let a = c.args in
-    changes_short (state_of a.words.now a.tail.now) a.medium.now a.cache.now a.buffer.now _ a.key a.t1 a.t2 _ _ (q1_at_returns_in_Nothing c) (q2_at_returns_in_Nothing c) c.if-words-t2.false c.find-head.ensures
-    c.list-listed.ensures.result_value c.list-listed.ensures.buffer_after c.in-Nothing.is
+    changes_short (state_of a.words.now a.tail.now) a.medium.now a.cache.now a.buffer.now _ a.key a.t1 a.t2 _ _ (q1_at_returns_in_None c) (q2_at_returns_in_None c) c.if-words-t2.false c.find-head.ensures
+    c.list-listed.ensures.result_value c.list-listed.ensures.buffer_after c.in-None.is

@@ -1,4 +1,5 @@
 -- The questions are put in their order, and the version is found from the newest one on. Assumes nothing.
+use Rattle.std.specs.Prelude.{ℕ, Option, Some}
 use mathlib.Core.Path.{◌≡◌, sym, ap, ◌∙◌}
 use mathlib.Core.Bool.{true}
 use Prim.Native.Nat.{◌<◌}
@@ -6,8 +7,6 @@ use native.Mathlib.Omega.{arith}
 use lib.ListN.{length, get_or}
 use borrow.Author.Tests.{lt-ltb, le-ltb}
 use Rattle.layout.specs.Slot.{key_form}
-use Rattle.store.specs.declared.Found.{Found}
-use Rattle.store.specs.declared.Found.TheVariants.{At}
 use Rattle.store.specs.Chain.{held_at, held}
 use Rattle.store.specs.CurrentRead.{current_at, current_if, current_of}
 use Rattle.store.specs.Places.{find_active}
@@ -73,14 +72,14 @@ q2_at_returns_then_is_held : (c : goal.After-reading-then-is_held) → key_form 
 unfolding key_form
 q2_at_returns_then_is_held c = let h : c.args.key < 1024 = omega arith in lt-ltb _ _ h
 
-q3 : (c : goal.After-reading-then-is_held) → let a = c.args in find_active (places_of a.words.now) a.number ≡ At c.in-At.field-0
-q3 c = sym c.find_active-f.ensures ∙ c.in-At.is
+q3 : (c : goal.After-reading-then-is_held) → let a = c.args in find_active (places_of a.words.now) a.number ≡ Some c.in-Some.field-0
+q3 c = sym c.find_active-f.ensures ∙ c.in-Some.is
 
 held_is : (c : goal.After-reading-then-is_held) → let a = c.args in
     c.is_held.result ≡ held a.cache.now (places_of a.words.now) (get_or a.words.now 2 0) a.key a.number
 unfolding held
 held_is c =
-    c.is_held.ensures ∙ ap (λ (f : Found). held_at f c.args.cache.now (places_of c.args.words.now) c.args.number) c.find-newest.ensures
+    c.is_held.ensures ∙ ap (λ (f : Option ℕ). held_at f c.args.cache.now (places_of c.args.words.now) c.args.number) c.find-newest.ensures
 
 pub returns-then-is_held : goal.returns-then-is_held
 unfolding current_of current_if state_of state_by
@@ -101,36 +100,36 @@ head_at_find_found_requires c = newest_head _ _ _ _ _ c.find-newest.ensures (roo
 pub find-found-requires : goal.find-found-requires
 find-found-requires c = head_at_find_found_requires c
 
-q1_at_read_slot_requires : (c : goal.In-At-found) → let a = c.args in fits (state_of a.words.now a.tail.now) (length a.medium.now) (length a.cache.now) ≡ true
+q1_at_read_slot_requires : (c : goal.In-Some-found) → let a = c.args in fits (state_of a.words.now a.tail.now) (length a.medium.now) (length a.cache.now) ≡ true
 q1_at_read_slot_requires c = sym c.is_fit.ensures ∙ c.if-not-is_fit.false
 
-room_at_read_slot_requires : (c : goal.In-At-found) → let a = c.args in Room (length a.cache.now) (get_or a.words.now 2 0)
+room_at_read_slot_requires : (c : goal.In-Some-found) → let a = c.args in Room (length a.cache.now) (get_or a.words.now 2 0)
 unfolding state_of state_by
 room_at_read_slot_requires c = fit_room _ _ _ (q1_at_read_slot_requires c)
 
 -- the newest version, and whether it holds the record
-head_at_read_slot_requires : (c : goal.In-At-found) → Head c.find-newest.result (length c.args.cache.now)
+head_at_read_slot_requires : (c : goal.In-Some-found) → Head c.find-newest.result (length c.args.cache.now)
 head_at_read_slot_requires c = newest_head _ _ _ _ _ c.find-newest.ensures (room_at_read_slot_requires c)
 
 pub read_slot-requires : goal.read_slot-requires
 read_slot-requires c =
-    head_at _ _ _ c.in-At-found.is (visible_head _ _ _ _ _ _ c.find-found.ensures (head_at_read_slot_requires c))
+    head_at _ _ _ c.in-Some-found.is (visible_head _ _ _ _ _ _ c.find-found.ensures (head_at_read_slot_requires c))
 
-q1_at_returns_in_At_found : (c : goal.After-read_slot) → let a = c.args in fits (state_of a.words.now a.tail.now) (length a.medium.now) (length a.cache.now) ≡ true
-q1_at_returns_in_At_found c = sym c.is_fit.ensures ∙ c.if-not-is_fit.false
+q1_at_returns_in_Some_found : (c : goal.After-read_slot) → let a = c.args in fits (state_of a.words.now a.tail.now) (length a.medium.now) (length a.cache.now) ≡ true
+q1_at_returns_in_Some_found c = sym c.is_fit.ensures ∙ c.if-not-is_fit.false
 
-q2_at_returns_in_At_found : (c : goal.After-read_slot) → key_form c.args.key ≡ true
+q2_at_returns_in_Some_found : (c : goal.After-read_slot) → key_form c.args.key ≡ true
 unfolding key_form
-q2_at_returns_in_At_found c = let h : c.args.key < 1024 = omega arith in lt-ltb _ _ h
+q2_at_returns_in_Some_found c = let h : c.args.key < 1024 = omega arith in lt-ltb _ _ h
 
-q3_at_returns_in_At_found : (c : goal.After-read_slot) → let a = c.args in find_active (places_of a.words.now) a.number ≡ At c.in-At.field-0
-q3_at_returns_in_At_found c = sym c.find_active-f.ensures ∙ c.in-At.is
+q3_at_returns_in_Some_found : (c : goal.After-read_slot) → let a = c.args in find_active (places_of a.words.now) a.number ≡ Some c.in-Some.field-0
+q3_at_returns_in_Some_found c = sym c.find_active-f.ensures ∙ c.in-Some.is
 
-held_is_at_returns_in_At_found : (c : goal.After-read_slot) → let a = c.args in
+held_is_at_returns_in_Some_found : (c : goal.After-read_slot) → let a = c.args in
     c.is_held.result ≡ held a.cache.now (places_of a.words.now) (get_or a.words.now 2 0) a.key a.number
 unfolding held
-held_is_at_returns_in_At_found c =
-    c.is_held.ensures ∙ ap (λ (f : Found). held_at f c.args.cache.now (places_of c.args.words.now) c.args.number) c.find-newest.ensures
+held_is_at_returns_in_Some_found c =
+    c.is_held.ensures ∙ ap (λ (f : Option ℕ). held_at f c.args.cache.now (places_of c.args.words.now) c.args.number) c.find-newest.ensures
 
 seen : (c : goal.After-read_slot) → let a = c.args in
     current_of (state_of a.words.now a.tail.now) a.medium.now a.cache.now a.number a.key
@@ -138,36 +137,36 @@ seen : (c : goal.After-read_slot) → let a = c.args in
 unfolding state_of state_by
 seen c =
     let a = c.args in
-    current_done (state_of a.words.now a.tail.now) a.medium.now a.cache.now a.number a.key _ _ _ (q1_at_returns_in_At_found c) (q2_at_returns_in_At_found c) (q3_at_returns_in_At_found c) (sym (held_is_at_returns_in_At_found c) ∙ c.if-is_held.false)
+    current_done (state_of a.words.now a.tail.now) a.medium.now a.cache.now a.number a.key _ _ _ (q1_at_returns_in_Some_found c) (q2_at_returns_in_Some_found c) (q3_at_returns_in_Some_found c) (sym (held_is_at_returns_in_Some_found c) ∙ c.if-is_held.false)
     c.find-newest.ensures c.find-found.ensures
 
-pub returns-in-At-found : goal.returns-in-At-found
-returns-in-At-found c = read_cell_law _ _ _ _ _ c.read_slot.ensures ∙ sym (seen c ∙ simp c.in-At-found.is)
+pub returns-in-Some-found : goal.returns-in-Some-found
+returns-in-Some-found c = read_cell_law _ _ _ _ _ c.read_slot.ensures ∙ sym (seen c ∙ simp c.in-Some-found.is)
 
-q1_at_returns_in_Nothing : (c : goal.After-missing) → let a = c.args in fits (state_of a.words.now a.tail.now) (length a.medium.now) (length a.cache.now) ≡ true
-q1_at_returns_in_Nothing c = sym c.is_fit.ensures ∙ c.if-not-is_fit.false
+q1_at_returns_in_None : (c : goal.After-missing) → let a = c.args in fits (state_of a.words.now a.tail.now) (length a.medium.now) (length a.cache.now) ≡ true
+q1_at_returns_in_None c = sym c.is_fit.ensures ∙ c.if-not-is_fit.false
 
-q2_at_returns_in_Nothing : (c : goal.After-missing) → key_form c.args.key ≡ true
+q2_at_returns_in_None : (c : goal.After-missing) → key_form c.args.key ≡ true
 unfolding key_form
-q2_at_returns_in_Nothing c = let h : c.args.key < 1024 = omega arith in lt-ltb _ _ h
+q2_at_returns_in_None c = let h : c.args.key < 1024 = omega arith in lt-ltb _ _ h
 
-q3_at_returns_in_Nothing : (c : goal.After-missing) → let a = c.args in find_active (places_of a.words.now) a.number ≡ At c.in-At.field-0
-q3_at_returns_in_Nothing c = sym c.find_active-f.ensures ∙ c.in-At.is
+q3_at_returns_in_None : (c : goal.After-missing) → let a = c.args in find_active (places_of a.words.now) a.number ≡ Some c.in-Some.field-0
+q3_at_returns_in_None c = sym c.find_active-f.ensures ∙ c.in-Some.is
 
-held_is_at_returns_in_Nothing : (c : goal.After-missing) → let a = c.args in
+held_is_at_returns_in_None : (c : goal.After-missing) → let a = c.args in
     c.is_held.result ≡ held a.cache.now (places_of a.words.now) (get_or a.words.now 2 0) a.key a.number
 unfolding held
-held_is_at_returns_in_Nothing c =
-    c.is_held.ensures ∙ ap (λ (f : Found). held_at f c.args.cache.now (places_of c.args.words.now) c.args.number) c.find-newest.ensures
+held_is_at_returns_in_None c =
+    c.is_held.ensures ∙ ap (λ (f : Option ℕ). held_at f c.args.cache.now (places_of c.args.words.now) c.args.number) c.find-newest.ensures
 
-seen_at_returns_in_Nothing : (c : goal.After-missing) → let a = c.args in
+seen_at_returns_in_None : (c : goal.After-missing) → let a = c.args in
     current_of (state_of a.words.now a.tail.now) a.medium.now a.cache.now a.number a.key
     ≡ current_at c.find-found.result (state_of a.words.now a.tail.now) a.medium.now a.cache.now
 unfolding state_of state_by
-seen_at_returns_in_Nothing c =
+seen_at_returns_in_None c =
     let a = c.args in
-    current_done (state_of a.words.now a.tail.now) a.medium.now a.cache.now a.number a.key _ _ _ (q1_at_returns_in_Nothing c) (q2_at_returns_in_Nothing c) (q3_at_returns_in_Nothing c) (sym (held_is_at_returns_in_Nothing c) ∙ c.if-is_held.false)
+    current_done (state_of a.words.now a.tail.now) a.medium.now a.cache.now a.number a.key _ _ _ (q1_at_returns_in_None c) (q2_at_returns_in_None c) (q3_at_returns_in_None c) (sym (held_is_at_returns_in_None c) ∙ c.if-is_held.false)
     c.find-newest.ensures c.find-found.ensures
 
-pub returns-in-Nothing : goal.returns-in-Nothing
-returns-in-Nothing c = simp (c.missing.ensures, seen_at_returns_in_Nothing c, c.in-Nothing.is)
+pub returns-in-None : goal.returns-in-None
+returns-in-None c = simp (c.missing.ensures, seen_at_returns_in_None c, c.in-None.is)

@@ -54,7 +54,7 @@ pub page_left-left-requires : goal.page_left-left-requires
 page_left-left-requires c = (sizes _ _ _ _ (q1_at_page_left_left_requires c)).sized
 
 -- the answers to the questions, and what is left to ask once the pages are looked at
-q1_at_is_left_requires : (c : goal.In-Nothing) → let a = c.args in fits (state_of a.words.now a.tail.now) (length a.medium.now) (length a.cache.now) ≡ true
+q1_at_is_left_requires : (c : goal.In-None) → let a = c.args in fits (state_of a.words.now a.tail.now) (length a.medium.now) (length a.cache.now) ≡ true
 q1_at_is_left_requires c = sym c.is_fit.ensures ∙ c.if-not-is_fit.false
 
 pub is_left-requires : goal.is_left-requires
@@ -76,24 +76,24 @@ q3 c =
     log_same _ _ _ _ (q1_at_returns_then_is_left c) (q2_at_returns_then_is_left c ∙ c.if-not-same_block.false) _ c.page_left-left.ensures
 
 pub returns-then-is_left : goal.returns-then-is_left
-returns-then-is_left c = sym (q3 c ∙ simp (c.in-Nothing.is, ← c.is_left.ensures, c.if-is_left.true))
+returns-then-is_left c = sym (q3 c ∙ simp (c.in-None.is, ← c.is_left.ensures, c.if-is_left.true))
 
 -- the answers to the questions, and what is left to ask once the pages are looked at
-q1_at_returns_in_At : (c : goal.In-At) → let a = c.args in fits (state_of a.words.now a.tail.now) (length a.medium.now) (length a.cache.now) ≡ true
-q1_at_returns_in_At c = sym c.is_fit.ensures ∙ c.if-not-is_fit.false
+q1_at_returns_in_Some : (c : goal.In-Some) → let a = c.args in fits (state_of a.words.now a.tail.now) (length a.medium.now) (length a.cache.now) ≡ true
+q1_at_returns_in_Some c = sym c.is_fit.ensures ∙ c.if-not-is_fit.false
 
-q2_at_returns_in_At : (c : goal.In-At) → let a = c.args in eq_list (blk a.medium.now (log_block_at (get_or a.words.now 0 0) (sequence_of a.tail.now))) a.tail.now ≡ c.same_block.result
-q2_at_returns_in_At c =
+q2_at_returns_in_Some : (c : goal.In-Some) → let a = c.args in eq_list (blk a.medium.now (log_block_at (get_or a.words.now 0 0) (sequence_of a.tail.now))) a.tail.now ≡ c.same_block.result
+q2_at_returns_in_Some c =
     let a = c.args in
     sym (c.same_block.ensures ∙ ap (λ (k : ℕ). eq_list (blk a.medium.now k) a.tail.now) (c.log_block-k.ensures ∙ ap (log_block_at (get_or a.words.now 0 0)) c.sequence.ensures))
 
-q3_at_returns_in_At : (c : goal.In-At) → let a = c.args in let s = state_of a.words.now a.tail.now in
+q3_at_returns_in_Some : (c : goal.In-Some) → let a = c.args in let s = state_of a.words.now a.tail.now in
     relief_of s a.medium.now a.cache.now ≡ after_log c.page_left-left.result (checkpoint_left s a.medium.now)
-q3_at_returns_in_At c =
-    log_same _ _ _ _ (q1_at_returns_in_At c) (q2_at_returns_in_At c ∙ c.if-not-same_block.false) _ c.page_left-left.ensures
+q3_at_returns_in_Some c =
+    log_same _ _ _ _ (q1_at_returns_in_Some c) (q2_at_returns_in_Some c ∙ c.if-not-same_block.false) _ c.page_left-left.ensures
 
-pub returns-in-At : goal.returns-in-At
-returns-in-At c = sym (q3_at_returns_in_At c ∙ simp c.in-At.is)
+pub returns-in-Some : goal.returns-in-Some
+returns-in-Some c = sym (q3_at_returns_in_Some c ∙ simp c.in-Some.is)
 
 -- the answers to the questions, and what is left to ask once the pages are looked at
 q1_at_returns_else_is_left : (c : goal.Else-is_left) → let a = c.args in fits (state_of a.words.now a.tail.now) (length a.medium.now) (length a.cache.now) ≡ true
@@ -111,4 +111,4 @@ q3_at_returns_else_is_left c =
 
 pub returns-else-is_left : goal.returns-else-is_left
 returns-else-is_left c =
-    sym (q3_at_returns_else_is_left c ∙ simp (c.in-Nothing.is, ← c.is_left.ensures, c.if-is_left.false))
+    sym (q3_at_returns_else_is_left c ∙ simp (c.in-None.is, ← c.is_left.ensures, c.if-is_left.false))

@@ -17,20 +17,20 @@ pub free-requires : goal.free-requires
 free-requires c =
     record {
       words_len = search rules;
-      i_bound = active_below _ _ _ (sym c.find_active-f.ensures ∙ c.in-At.is);
+      i_bound = active_below _ _ _ (sym c.find_active-f.ensures ∙ c.in-Some.is);
     }
 
-q1 : (c : goal.In-Nothing) → let a = c.args in fits (state_of a.words.now a.tail.now) (length a.medium.now) (length a.cache.now) ≡ true
+q1 : (c : goal.In-None) → let a = c.args in fits (state_of a.words.now a.tail.now) (length a.medium.now) (length a.cache.now) ≡ true
 q1 c = sym c.is_fit.ensures ∙ c.if-not-is_fit.false
 
-pub returns-in-Nothing : goal.returns-in-Nothing
+pub returns-in-None : goal.returns-in-None
 unfolding abort_of abort_if state_of state_by
-returns-in-Nothing c = simp (q1 c, ← c.find_active-f.ensures, c.in-Nothing.is)
+returns-in-None c = simp (q1 c, ← c.find_active-f.ensures, c.in-None.is)
 
-q1_at_returns_in_At : (c : goal.After-free) → let a = c.args in fits (state_of a.words.now a.tail.now) (length a.medium.now) (length a.cache.now) ≡ true
-q1_at_returns_in_At c = sym c.is_fit.ensures ∙ c.if-not-is_fit.false
+q1_at_returns_in_Some : (c : goal.After-free) → let a = c.args in fits (state_of a.words.now a.tail.now) (length a.medium.now) (length a.cache.now) ≡ true
+q1_at_returns_in_Some c = sym c.is_fit.ensures ∙ c.if-not-is_fit.false
 
-pub returns-in-At : goal.returns-in-At
+pub returns-in-Some : goal.returns-in-Some
 unfolding abort_of abort_if state_of state_by
-returns-in-At c =
-    simp (q1_at_returns_in_At c, ← c.find_active-f.ensures, c.in-At.is, c.free.ensures c.args.tail.now)
+returns-in-Some c =
+    simp (q1_at_returns_in_Some c, ← c.find_active-f.ensures, c.in-Some.is, c.free.ensures c.args.tail.now)

@@ -30,8 +30,8 @@ unfolding begin_of begin_if state_of state_by
 returns-then-number-ge18446744073709551615 c =
     simp (q1 c, le-ltb (get_or c.args.words.now 3 0) (2 ^ 64 - 1) c.if-number-ge18446744073709551615.true)
 
-below : (c : goal.After-take_place-arg-1) → c.in-At.k < 64
-below c = free_below _ _ _ (sym c.find_free-f.ensures ∙ c.in-At.is)
+below : (c : goal.After-take_place-arg-1) → c.in-Some.k < 64
+below c = free_below _ _ _ (sym c.find_free-f.ensures ∙ c.in-Some.is)
 
 pub overflow_add-ring : goal.overflow_add-ring
 overflow_add-ring c = let h = below c in omega arith
@@ -44,18 +44,18 @@ take_place-requires c =
       i_bound = (omega arith, c.if-number-ge18446744073709551615.false);
     }
 
-q1_at_returns_in_Nothing : (c : goal.In-Nothing) → let a = c.args in fits (state_of a.words.now a.tail.now) (length a.medium.now) (length a.cache.now) ≡ true
-q1_at_returns_in_Nothing c = sym c.is_fit.ensures ∙ c.if-not-is_fit.false
+q1_at_returns_in_None : (c : goal.In-None) → let a = c.args in fits (state_of a.words.now a.tail.now) (length a.medium.now) (length a.cache.now) ≡ true
+q1_at_returns_in_None c = sym c.is_fit.ensures ∙ c.if-not-is_fit.false
 
-pub returns-in-Nothing : goal.returns-in-Nothing
+pub returns-in-None : goal.returns-in-None
 unfolding begin_of begin_if state_of state_by
-returns-in-Nothing c =
-    simp (q1_at_returns_in_Nothing c, lt-ltb (get_or c.args.words.now 3 0) (2 ^ 64 - 1) c.if-number-ge18446744073709551615.false, ← c.find_free-f.ensures, c.in-Nothing.is)
+returns-in-None c =
+    simp (q1_at_returns_in_None c, lt-ltb (get_or c.args.words.now 3 0) (2 ^ 64 - 1) c.if-number-ge18446744073709551615.false, ← c.find_free-f.ensures, c.in-None.is)
 
-q1_at_returns_in_At : (c : goal.After-take_place) → let a = c.args in fits (state_of a.words.now a.tail.now) (length a.medium.now) (length a.cache.now) ≡ true
-q1_at_returns_in_At c = sym c.is_fit.ensures ∙ c.if-not-is_fit.false
+q1_at_returns_in_Some : (c : goal.After-take_place) → let a = c.args in fits (state_of a.words.now a.tail.now) (length a.medium.now) (length a.cache.now) ≡ true
+q1_at_returns_in_Some c = sym c.is_fit.ensures ∙ c.if-not-is_fit.false
 
-pub returns-in-At : goal.returns-in-At
+pub returns-in-Some : goal.returns-in-Some
 unfolding begin_of begin_if state_of state_by
-returns-in-At c =
-    simp (q1_at_returns_in_At c, lt-ltb (get_or c.args.words.now 3 0) (2 ^ 64 - 1) c.if-number-ge18446744073709551615.false, ← c.find_free-f.ensures, c.in-At.is, c.take_place.ensures c.args.tail.now, ring-place)
+returns-in-Some c =
+    simp (q1_at_returns_in_Some c, lt-ltb (get_or c.args.words.now 3 0) (2 ^ 64 - 1) c.if-number-ge18446744073709551615.false, ← c.find_free-f.ensures, c.in-Some.is, c.take_place.ensures c.args.tail.now, ring-place)

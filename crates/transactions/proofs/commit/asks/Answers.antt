@@ -1,12 +1,12 @@
 -- Each answer is the one that the definition gives once the questions before it are answered; without versions the last
 -- two are passed. Assumes nothing.
+use Rattle.std.specs.Prelude.{Some}
 use mathlib.Core.Path.{◌≡◌, sym, ◌∙◌}
 use mathlib.Core.Bool.{true}
 use Prim.Native.Nat.{◌-◌, ◌^◌}
 use native.Mathlib.Omega.{arith}
 use lib.ListN.{length, get_or}
 use borrow.Author.Tests.{eq-eqb, ne_eqb, lt-ltb, le-ltb}
-use Rattle.store.specs.declared.Found.TheVariants.{At}
 use Rattle.store.specs.Places.{find_active}
 use Rattle.store.specs.State.{fits}
 use Rattle.memory.specs.Memory.{places_of, state_by, state_of}
@@ -25,8 +25,8 @@ pub returns-in_default : goal.returns-in_default
 unfolding state_of state_by
 returns-in_default c = simp (q1 c, ← c.find_active-f.ensures, c.in_default.is)
 
-q2 : (c : goal.After-waiting_at-arg-1) → let a = c.args in find_active (places_of a.words.now) a.number ≡ At c.in-At.i
-q2 c = sym c.find_active-f.ensures ∙ c.in-At.is
+q2 : (c : goal.After-waiting_at-arg-1) → let a = c.args in find_active (places_of a.words.now) a.number ≡ Some c.in-Some.i
+q2 c = sym c.find_active-f.ensures ∙ c.in-Some.is
 
 pub waiting_at-requires : goal.waiting_at-requires
 waiting_at-requires c =
@@ -38,8 +38,8 @@ waiting_at-requires c =
 q1_at_returns_then_waiting_at_eq0 : (c : goal.Then-waiting_at-eq0) → let a = c.args in fits (state_of a.words.now a.tail.now) (length a.medium.now) (length a.cache.now) ≡ true
 q1_at_returns_then_waiting_at_eq0 c = sym c.is_fit.ensures ∙ c.if-not-is_fit.false
 
-q2_at_returns_then_waiting_at_eq0 : (c : goal.Then-waiting_at-eq0) → let a = c.args in find_active (places_of a.words.now) a.number ≡ At c.in-At.i
-q2_at_returns_then_waiting_at_eq0 c = sym c.find_active-f.ensures ∙ c.in-At.is
+q2_at_returns_then_waiting_at_eq0 : (c : goal.Then-waiting_at-eq0) → let a = c.args in find_active (places_of a.words.now) a.number ≡ Some c.in-Some.i
+q2_at_returns_then_waiting_at_eq0 c = sym c.find_active-f.ensures ∙ c.in-Some.is
 
 pub returns-then-waiting_at-eq0 : goal.returns-then-waiting_at-eq0
 unfolding state_of state_by
@@ -49,8 +49,8 @@ returns-then-waiting_at-eq0 c =
 q1_at_returns_then_words_ge18446744073709551615 : (c : goal.Then-words-ge18446744073709551615) → let a = c.args in fits (state_of a.words.now a.tail.now) (length a.medium.now) (length a.cache.now) ≡ true
 q1_at_returns_then_words_ge18446744073709551615 c = sym c.is_fit.ensures ∙ c.if-not-is_fit.false
 
-q2_at_returns_then_words_ge18446744073709551615 : (c : goal.Then-words-ge18446744073709551615) → let a = c.args in find_active (places_of a.words.now) a.number ≡ At c.in-At.i
-q2_at_returns_then_words_ge18446744073709551615 c = sym c.find_active-f.ensures ∙ c.in-At.is
+q2_at_returns_then_words_ge18446744073709551615 : (c : goal.Then-words-ge18446744073709551615) → let a = c.args in find_active (places_of a.words.now) a.number ≡ Some c.in-Some.i
+q2_at_returns_then_words_ge18446744073709551615 c = sym c.find_active-f.ensures ∙ c.in-Some.is
 
 pub returns-then-words-ge18446744073709551615 : goal.returns-then-words-ge18446744073709551615
 unfolding state_of state_by
@@ -70,8 +70,8 @@ may_log-requires c =
 q1_at_returns_then_not_may_log : (c : goal.Then-not-may_log) → let a = c.args in fits (state_of a.words.now a.tail.now) (length a.medium.now) (length a.cache.now) ≡ true
 q1_at_returns_then_not_may_log c = sym c.is_fit.ensures ∙ c.if-not-is_fit.false
 
-q2_at_returns_then_not_may_log : (c : goal.Then-not-may_log) → let a = c.args in find_active (places_of a.words.now) a.number ≡ At c.in-At.i
-q2_at_returns_then_not_may_log c = sym c.find_active-f.ensures ∙ c.in-At.is
+q2_at_returns_then_not_may_log : (c : goal.Then-not-may_log) → let a = c.args in find_active (places_of a.words.now) a.number ≡ Some c.in-Some.i
+q2_at_returns_then_not_may_log c = sym c.find_active-f.ensures ∙ c.in-Some.is
 
 pub returns-then-not-may_log : goal.returns-then-not-may_log
 unfolding state_of state_by
@@ -81,8 +81,8 @@ returns-then-not-may_log c =
 q1_at_returns : (c : goal.Else-not-may_log) → let a = c.args in fits (state_of a.words.now a.tail.now) (length a.medium.now) (length a.cache.now) ≡ true
 q1_at_returns c = sym c.is_fit.ensures ∙ c.if-not-is_fit.false
 
-q2_at_returns : (c : goal.Else-not-may_log) → let a = c.args in find_active (places_of a.words.now) a.number ≡ At c.in-At.i
-q2_at_returns c = sym c.find_active-f.ensures ∙ c.in-At.is
+q2_at_returns : (c : goal.Else-not-may_log) → let a = c.args in find_active (places_of a.words.now) a.number ≡ Some c.in-Some.i
+q2_at_returns c = sym c.find_active-f.ensures ∙ c.in-Some.is
 
 pub returns : goal.returns
 unfolding state_of state_by

@@ -1,9 +1,8 @@
 -- The verdict names the refusal, or says that all questions are passed and where the transaction is; its count then tells
 -- whether it ends at once or by the step. Assumes nothing.
+use Rattle.std.specs.Prelude.{None, Some}
 use mathlib.Core.Path.{◌≡◌, sym, ◌∙◌}
-use mathlib.Core.Option.{none}
 use Prim.Native.Nat.{◌<◌}
-use Rattle.store.specs.declared.Found.TheVariants.{At}
 use Rattle.store.specs.Answer.{ask}
 use Rattle.store.specs.Places.{find_active}
 use Rattle.store.specs.Commit.{commit_asks}
@@ -15,8 +14,8 @@ use borrow.Author.Rules.{rules}
 use Rattle.transactions.proofs.commit.commit.Goals as goal
 
 go : (c : goal.After-waiting_at-arg-in-Go-1) → let a = c.args in
-    (ask (commit_asks (state_of a.words.now a.tail.now) a.medium.now a.cache.now a.number) ≡ none)
-    × (find_active (places_of a.words.now) a.number ≡ At c.in-Go.i)
+    (ask (commit_asks (state_of a.words.now a.tail.now) a.medium.now a.cache.now a.number) ≡ None)
+    × (find_active (places_of a.words.now) a.number ≡ Some c.in-Go.i)
 go c = verdict_go _ _ _ _ c.asks-v.ensures c.in-Go.is
 
 below : (c : goal.After-waiting_at-arg-in-Go-1) → c.in-Go.i < 64
@@ -30,8 +29,8 @@ waiting_at-requires c =
     }
 
 go_at_free_requires : (c : goal.After-free-arg-1) → let a = c.args in
-    (ask (commit_asks (state_of a.words.now a.tail.now) a.medium.now a.cache.now a.number) ≡ none)
-    × (find_active (places_of a.words.now) a.number ≡ At c.in-Go.i)
+    (ask (commit_asks (state_of a.words.now a.tail.now) a.medium.now a.cache.now a.number) ≡ None)
+    × (find_active (places_of a.words.now) a.number ≡ Some c.in-Go.i)
 go_at_free_requires c = verdict_go _ _ _ _ c.asks-v.ensures c.in-Go.is
 
 below_at_free_requires : (c : goal.After-free-arg-1) → c.in-Go.i < 64
@@ -45,8 +44,8 @@ free-requires c =
     }
 
 go_at_returns_then_waiting_at_eq0 : (c : goal.After-free) → let a = c.args in
-    (ask (commit_asks (state_of a.words.now a.tail.now) a.medium.now a.cache.now a.number) ≡ none)
-    × (find_active (places_of a.words.now) a.number ≡ At c.in-Go.i)
+    (ask (commit_asks (state_of a.words.now a.tail.now) a.medium.now a.cache.now a.number) ≡ None)
+    × (find_active (places_of a.words.now) a.number ≡ Some c.in-Go.i)
 go_at_returns_then_waiting_at_eq0 c = verdict_go _ _ _ _ c.asks-v.ensures c.in-Go.is
 
 pub returns-then-waiting_at-eq0 : goal.returns-then-waiting_at-eq0
@@ -57,8 +56,8 @@ returns-then-waiting_at-eq0 c =
     commit_empty (state_of a.words.now a.tail.now) a.medium.now a.cache.now a.number _ g.0 g.1 _ _ (sym c.waiting_at.ensures ∙ c.if-waiting_at-eq0.true) (c.free.ensures a.tail.now)
 
 go_at_time_for_time_requires : (c : goal.After-time_for-arg-in-Go-1) → let a = c.args in
-    (ask (commit_asks (state_of a.words.now a.tail.now) a.medium.now a.cache.now a.number) ≡ none)
-    × (find_active (places_of a.words.now) a.number ≡ At c.in-Go.i)
+    (ask (commit_asks (state_of a.words.now a.tail.now) a.medium.now a.cache.now a.number) ≡ None)
+    × (find_active (places_of a.words.now) a.number ≡ Some c.in-Go.i)
 go_at_time_for_time_requires c = verdict_go _ _ _ _ c.asks-v.ensures c.in-Go.is
 
 below_at_time_for_time_requires : (c : goal.After-time_for-arg-in-Go-1) → c.in-Go.i < 64
@@ -75,8 +74,8 @@ time_for-time-requires c =
     }
 
 go_at_step_requires : (c : goal.After-step-arg-in-Go-2-1) → let a = c.args in
-    (ask (commit_asks (state_of a.words.now a.tail.now) a.medium.now a.cache.now a.number) ≡ none)
-    × (find_active (places_of a.words.now) a.number ≡ At c.in-Go.i)
+    (ask (commit_asks (state_of a.words.now a.tail.now) a.medium.now a.cache.now a.number) ≡ None)
+    × (find_active (places_of a.words.now) a.number ≡ Some c.in-Go.i)
 go_at_step_requires c = verdict_go _ _ _ _ c.asks-v.ensures c.in-Go.is
 
 pub step-requires : goal.step-requires
@@ -95,8 +94,8 @@ returns-in-No c =
     commit_refused _ _ (state_of a.words.now a.tail.now) a.medium.now a.cache.now a.number a.clock c.asks-v.ensures c.in-No.is
 
 go_at_returns_else_waiting_at_eq0 : (c : goal.After-slice_known-in-Go-1) → let a = c.args in
-    (ask (commit_asks (state_of a.words.now a.tail.now) a.medium.now a.cache.now a.number) ≡ none)
-    × (find_active (places_of a.words.now) a.number ≡ At c.in-Go.i)
+    (ask (commit_asks (state_of a.words.now a.tail.now) a.medium.now a.cache.now a.number) ≡ None)
+    × (find_active (places_of a.words.now) a.number ≡ Some c.in-Go.i)
 go_at_returns_else_waiting_at_eq0 c = verdict_go _ _ _ _ c.asks-v.ensures c.in-Go.is
 
 pub returns-else-waiting_at-eq0 : goal.returns-else-waiting_at-eq0

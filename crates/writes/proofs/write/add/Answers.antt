@@ -1,9 +1,8 @@
 -- The verdict names the refusal, or says that all questions are passed, where the transaction is, and the earlier slot;
 -- the step is then the definition's. Assumes nothing.
+use Rattle.std.specs.Prelude.{None, Some}
 use mathlib.Core.Path.{◌≡◌, refl}
-use mathlib.Core.Option.{none}
 use lib.ListN.{get_or}
-use Rattle.store.specs.declared.Found.TheVariants.{At}
 use Rattle.store.specs.Answer.{ask}
 use Rattle.store.specs.Chain.{newest}
 use Rattle.store.specs.Places.{find_active}
@@ -13,8 +12,8 @@ use Rattle.writes.proofs.WriteLaws.{write_go, write_refused, write_passed}
 use Rattle.writes.proofs.write.add.Goals as goal
 
 go : (c : goal.After-step-arg-in-Go-3-1) → let a = c.args in
-    (ask (write_asks (state_of a.words.now a.tail.now) a.medium.now a.cache.now a.number a.key) ≡ none)
-    × (find_active (places_of a.words.now) a.number ≡ At c.in-Go.i)
+    (ask (write_asks (state_of a.words.now a.tail.now) a.medium.now a.cache.now a.number a.key) ≡ None)
+    × (find_active (places_of a.words.now) a.number ≡ Some c.in-Go.i)
     × (c.in-Go.earlier ≡ or_none (newest a.cache.now a.key (get_or a.words.now 2 0)))
 go c = write_go _ _ _ _ _ _ c.asks-v.ensures c.in-Go.is
 
@@ -35,8 +34,8 @@ returns-in-No c =
     write_refused _ _ (state_of a.words.now a.tail.now) a.medium.now a.cache.now _ a.number a.key a.kind a.value c.asks-v.ensures c.in-No.is
 
 go_at_returns_in_Go : (c : goal.After-slice_known-in-Go-2-1) → let a = c.args in
-    (ask (write_asks (state_of a.words.now a.tail.now) a.medium.now a.cache.now a.number a.key) ≡ none)
-    × (find_active (places_of a.words.now) a.number ≡ At c.in-Go.i)
+    (ask (write_asks (state_of a.words.now a.tail.now) a.medium.now a.cache.now a.number a.key) ≡ None)
+    × (find_active (places_of a.words.now) a.number ≡ Some c.in-Go.i)
     × (c.in-Go.earlier ≡ or_none (newest a.cache.now a.key (get_or a.words.now 2 0)))
 go_at_returns_in_Go c = write_go _ _ _ _ _ _ c.asks-v.ensures c.in-Go.is
 

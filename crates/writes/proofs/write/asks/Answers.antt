@@ -1,4 +1,5 @@
 -- Each answer is the one that the definition gives once the questions before it are answered. Assumes nothing.
+use Rattle.std.specs.Prelude.{ℕ, Option, Some}
 use mathlib.Core.Path.{◌≡◌, sym, ap, ◌∙◌}
 use mathlib.Core.Bool.{true}
 use Prim.Native.Nat.{◌<◌}
@@ -6,8 +7,6 @@ use native.Mathlib.Omega.{arith}
 use lib.ListN.{length, get_or}
 use borrow.Author.Tests.{lt-ltb, le-ltb}
 use Rattle.layout.specs.Slot.{key_form}
-use Rattle.store.specs.declared.Found.{Found}
-use Rattle.store.specs.declared.Found.TheVariants.{At}
 use Rattle.store.specs.Chain.{held_at, held}
 use Rattle.store.specs.Places.{find_active}
 use Rattle.store.specs.State.{fits}
@@ -60,15 +59,15 @@ q2_at_returns_then_is_held : (c : goal.Then-is_held) → key_form c.args.key ≡
 unfolding key_form
 q2_at_returns_then_is_held c = let h : c.args.key < 1024 = omega arith in lt-ltb _ _ h
 
-q3 : (c : goal.Then-is_held) → let a = c.args in find_active (places_of a.words.now) a.number ≡ At c.in-At.i
-q3 c = sym c.find_active-f.ensures ∙ c.in-At.is
+q3 : (c : goal.Then-is_held) → let a = c.args in find_active (places_of a.words.now) a.number ≡ Some c.in-Some.i
+q3 c = sym c.find_active-f.ensures ∙ c.in-Some.is
 
 -- what the code asks about holding is what the definition asks
 held_is : (c : goal.Then-is_held) → let a = c.args in
     c.is_held.result ≡ held a.cache.now (places_of a.words.now) (get_or a.words.now 2 0) a.key a.number
 unfolding held
 held_is c =
-    c.is_held.ensures ∙ ap (λ (f : Found). held_at f c.args.cache.now (places_of c.args.words.now) c.args.number) c.find-newest.ensures
+    c.is_held.ensures ∙ ap (λ (f : Option ℕ). held_at f c.args.cache.now (places_of c.args.words.now) c.args.number) c.find-newest.ensures
 
 pub returns-then-is_held : goal.returns-then-is_held
 unfolding state_of state_by
@@ -89,15 +88,15 @@ q2_at_returns_then_words : (c : goal.Then-words) → key_form c.args.key ≡ tru
 unfolding key_form
 q2_at_returns_then_words c = let h : c.args.key < 1024 = omega arith in lt-ltb _ _ h
 
-q3_at_returns_then_words : (c : goal.Then-words) → let a = c.args in find_active (places_of a.words.now) a.number ≡ At c.in-At.i
-q3_at_returns_then_words c = sym c.find_active-f.ensures ∙ c.in-At.is
+q3_at_returns_then_words : (c : goal.Then-words) → let a = c.args in find_active (places_of a.words.now) a.number ≡ Some c.in-Some.i
+q3_at_returns_then_words c = sym c.find_active-f.ensures ∙ c.in-Some.is
 
 -- what the code asks about holding is what the definition asks
 held_is_at_returns_then_words : (c : goal.Then-words) → let a = c.args in
     c.is_held.result ≡ held a.cache.now (places_of a.words.now) (get_or a.words.now 2 0) a.key a.number
 unfolding held
 held_is_at_returns_then_words c =
-    c.is_held.ensures ∙ ap (λ (f : Found). held_at f c.args.cache.now (places_of c.args.words.now) c.args.number) c.find-newest.ensures
+    c.is_held.ensures ∙ ap (λ (f : Option ℕ). held_at f c.args.cache.now (places_of c.args.words.now) c.args.number) c.find-newest.ensures
 
 pub returns-then-words : goal.returns-then-words
 unfolding state_of state_by
@@ -121,15 +120,15 @@ q2_at_returns_then_not_may_log : (c : goal.Then-not-may_log) → key_form c.args
 unfolding key_form
 q2_at_returns_then_not_may_log c = let h : c.args.key < 1024 = omega arith in lt-ltb _ _ h
 
-q3_at_returns_then_not_may_log : (c : goal.Then-not-may_log) → let a = c.args in find_active (places_of a.words.now) a.number ≡ At c.in-At.i
-q3_at_returns_then_not_may_log c = sym c.find_active-f.ensures ∙ c.in-At.is
+q3_at_returns_then_not_may_log : (c : goal.Then-not-may_log) → let a = c.args in find_active (places_of a.words.now) a.number ≡ Some c.in-Some.i
+q3_at_returns_then_not_may_log c = sym c.find_active-f.ensures ∙ c.in-Some.is
 
 -- what the code asks about holding is what the definition asks
 held_is_at_returns_then_not_may_log : (c : goal.Then-not-may_log) → let a = c.args in
     c.is_held.result ≡ held a.cache.now (places_of a.words.now) (get_or a.words.now 2 0) a.key a.number
 unfolding held
 held_is_at_returns_then_not_may_log c =
-    c.is_held.ensures ∙ ap (λ (f : Found). held_at f c.args.cache.now (places_of c.args.words.now) c.args.number) c.find-newest.ensures
+    c.is_held.ensures ∙ ap (λ (f : Option ℕ). held_at f c.args.cache.now (places_of c.args.words.now) c.args.number) c.find-newest.ensures
 
 pub returns-then-not-may_log : goal.returns-then-not-may_log
 unfolding state_of state_by
@@ -143,15 +142,15 @@ q2_at_returns : (c : goal.After-slot_or_none) → key_form c.args.key ≡ true
 unfolding key_form
 q2_at_returns c = let h : c.args.key < 1024 = omega arith in lt-ltb _ _ h
 
-q3_at_returns : (c : goal.After-slot_or_none) → let a = c.args in find_active (places_of a.words.now) a.number ≡ At c.in-At.i
-q3_at_returns c = sym c.find_active-f.ensures ∙ c.in-At.is
+q3_at_returns : (c : goal.After-slot_or_none) → let a = c.args in find_active (places_of a.words.now) a.number ≡ Some c.in-Some.i
+q3_at_returns c = sym c.find_active-f.ensures ∙ c.in-Some.is
 
 -- what the code asks about holding is what the definition asks
 held_is_at_returns : (c : goal.After-slot_or_none) → let a = c.args in
     c.is_held.result ≡ held a.cache.now (places_of a.words.now) (get_or a.words.now 2 0) a.key a.number
 unfolding held
 held_is_at_returns c =
-    c.is_held.ensures ∙ ap (λ (f : Found). held_at f c.args.cache.now (places_of c.args.words.now) c.args.number) c.find-newest.ensures
+    c.is_held.ensures ∙ ap (λ (f : Option ℕ). held_at f c.args.cache.now (places_of c.args.words.now) c.args.number) c.find-newest.ensures
 
 pub returns : goal.returns
 unfolding state_of state_by
