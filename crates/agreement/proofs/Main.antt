@@ -1,5 +1,6 @@
 -- Demand 3: every run from the formatted medium agrees with its book. One lemma for each event, `keeps`, by the ways in
 -- which a call ends; then a short induction over the events.
+use Rattle.std.specs.Prelude.{Ok}
 use Prim.Native.Nat.{ℕ, zero, suc, ◌*◌, ◌^◌, ◌<◌}
 use native.Mathlib.Omega.{arith}
 use mathlib.Core.Bool.{Bool, true, false, false≢true}
@@ -151,7 +152,7 @@ module _ {l d : ℕ} {m c : List ℕ} {s : State} {b : Book} {disk : Disk} {clos
 
 module _ {l d : ℕ} {m : List ℕ} {b : Book} {disk : Disk} (x : Down l d m b disk) where
   open_right : (y : List ℕ) → eqb (length y) (cache_length d) ≡ true
-      → open_of m y l d ≡ leaves (Opened (record { 0 = last_time m l })) (opened_state m l d) m (redone m l d).cache
+      → open_of m y l d ≡ leaves (Ok (Opened (record { 0 = last_time m l }))) (opened_state m l d) m (redone m l d).cache
   unfolding open_of open_if
   open_right y e =
       rw (
@@ -174,7 +175,7 @@ module _ {l d : ℕ} {m : List ℕ} {b : Book} {disk : Disk} (x : Down l d m b d
         × Inv l d (opens l d w o).world (feed old (opening y) (opens l d w o).seen)
 
     by_right : (y : List ℕ) → eqb (length y) (cache_length d) ≡ true
-        → OpenKeeps y (leaves (Opened (record { 0 = last_time m l })) (opened_state m l d) m (redone m l d).cache)
+        → OpenKeeps y (leaves (Ok (Opened (record { 0 = last_time m l }))) (opened_state m l d) m (redone m l d).cache)
     unfolding opens seen_of feed answer_number answer_value opened_state cache_length
     by_right y e =
         rw fell (

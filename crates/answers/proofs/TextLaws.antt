@@ -1,5 +1,6 @@
 -- What is printed stands behind what was printed before: a line is its parts one behind the other, and a list its
 -- lines.
+use Rattle.std.specs.Prelude.{Err, Ok, Result}
 use mathlib.Core.Path.{◌≡◌, refl, sym, ap, ◌∙◌}
 use mathlib.Core.Bool.{Bool, true, false, cond, ◌&&◌}
 use mathlib.Core.List.{List, [], ◌++◌, append-nil, append_assoc}
@@ -10,8 +11,7 @@ use lib.ListN.{length, take, drop, get_or, drop_of_length-le}
 use lib.Seq.{drop-cons, drop-drop}
 use lib.Dec.{eqb}
 use Rattle.store.specs.declared.Answer.{Answer}
-use Rattle.store.specs.declared.Answer.TheVariants.{Refused, Done, Begun, Written, Committed, Opened, Missing, Erased}
-use Rattle.store.specs.declared.Answer.TheVariants.{Present, Listed}
+use Rattle.store.specs.declared.Answer.TheVariants.{Done, Begun, Written, Committed, Opened, Missing, Erased, Present, Listed}
 use Rattle.store.specs.Answer.{answer_number}
 use Rattle.store.specs.declared.Refusal.{Refusal}
 use Rattle.fields.proofs.EqualLaws.{noted}
@@ -66,35 +66,35 @@ are_end n bs i h = rw (drop_of_length-le bs h)
 -- the lines, and then the rest of the buffer
 pub list_put : (x z y b : List ℕ) (k : ℕ) (flag : Bool) → z ≡ x ++ changes_text k b
     → flag ≡ all_are 170 (take (length b - 32 * k) (drop (32 * k) b)) → y ≡ z ++ kept_text flag
-    → y ≡ x ++ list_text (Listed k) b
+    → y ≡ x ++ list_text (Ok (Listed k)) b
 unfolding list_text
 list_put x z y b k flag e f g =
     g ∙ ap (λ (w : List ℕ). w ++ kept_text flag) e ∙ append_assoc x (changes_text k b) (kept_text flag)
     ∙ ap (λ (w : Bool). x ++ (changes_text k b ++ kept_text w)) (f ∙ ap (all_are 170) (lent_rest b (32 * k)))
 
-pub list_none : (a : Answer) (b : List ℕ) → ((k : ℕ) → a ≡ Listed k → ⊥) → list_text a b ≡ []
+pub list_none : (a : Result Answer Refusal) (b : List ℕ) → ((k : ℕ) → a ≡ Ok (Listed k) → ⊥) → list_text a b ≡ []
 unfolding list_text
-list_none (Refused r) b o = refl
-list_none Done b o = refl
-list_none (Begun n) b o = refl
-list_none (Written k) b o = refl
-list_none (Committed t) b o = refl
-list_none (Opened t) b o = refl
-list_none Missing b o = refl
-list_none Erased b o = refl
-list_none Present b o = refl
-list_none (Listed k) b o = absurd (o k refl)
+list_none (Err r) b o = refl
+list_none (Ok Done) b o = refl
+list_none (Ok (Begun n)) b o = refl
+list_none (Ok (Written k)) b o = refl
+list_none (Ok (Committed t)) b o = refl
+list_none (Ok (Opened t)) b o = refl
+list_none (Ok Missing) b o = refl
+list_none (Ok Erased) b o = refl
+list_none (Ok Present) b o = refl
+list_none (Ok (Listed k)) b o = absurd (o k refl)
 
 -- an answer that is no refusal
-pub no_refusal : (a : Answer) → ((r : Refusal) → a ≡ Refused r → ⊥) → 0 ≡ answer_number a
+pub no_refusal : (a : Result Answer Refusal) → ((r : Refusal) → a ≡ Err r → ⊥) → 0 ≡ answer_number a
 unfolding answer_number
-no_refusal (Refused r) o = absurd (o r refl)
-no_refusal Done o = refl
-no_refusal (Begun n) o = refl
-no_refusal (Written k) o = refl
-no_refusal (Committed t) o = refl
-no_refusal (Opened t) o = refl
-no_refusal Missing o = refl
-no_refusal Erased o = refl
-no_refusal Present o = refl
-no_refusal (Listed k) o = refl
+no_refusal (Err r) o = absurd (o r refl)
+no_refusal (Ok Done) o = refl
+no_refusal (Ok (Begun n)) o = refl
+no_refusal (Ok (Written k)) o = refl
+no_refusal (Ok (Committed t)) o = refl
+no_refusal (Ok (Opened t)) o = refl
+no_refusal (Ok Missing) o = refl
+no_refusal (Ok Erased) o = refl
+no_refusal (Ok Present) o = refl
+no_refusal (Ok (Listed k)) o = refl

@@ -1,15 +1,16 @@
 -- What the lines of `replay` print.
-use Rattle.std.specs.Prelude.{ℕ, zero, suc, ◌*◌, ◌/◌, Bool, true, false, cond, ◌&&◌, List, [], ◌∷◌, ◌++◌, length, take}
+use Rattle.layout.specs.declared.CommitTime.{CommitTime}
+use Rattle.store.specs.declared.Refusal.{Refusal}
+use Rattle.std.specs.Prelude.{ℕ, zero, suc, ◌*◌, ◌/◌, Bool, true, false, cond, ◌&&◌, List, [], ◌∷◌, ◌++◌, length, take, Err, Ok, Result}
 use Rattle.std.specs.Prelude.{drop, get_or, eqb, ltb}
 use Rattle.fields.specs.Field.{dec}
 use Rattle.fields.specs.Part.{part}
 use Rattle.fields.specs.Block.{blk}
 use Rattle.store.specs.declared.Answer.{Answer}
-use Rattle.store.specs.declared.Answer.TheVariants.{Refused, Done, Begun, Written, Committed, Opened, Missing, Erased}
-use Rattle.store.specs.declared.Answer.TheVariants.{Present, Listed}
+use Rattle.store.specs.declared.Answer.TheVariants.{Done, Begun, Written, Committed, Opened, Missing, Erased, Present, Listed}
 use Rattle.store.specs.Answer.{answer_number}
-use Rattle.handover.specs.declared.HandAnswer.{HandAnswer}
-use Rattle.handover.specs.declared.HandAnswer.TheVariants.{Denied, NotOwner, Handed}
+use Rattle.handover.specs.declared.HandRefusal.{HandRefusal}
+use Rattle.handover.specs.declared.HandRefusal.TheVariants.{Denied, NotOwner, Handed}
 use Rattle.handover.specs.Hand.{hand_number}
 use Rattle.script.specs.Print.{decimal, hex_of}
 
@@ -27,31 +28,31 @@ erased_text = 101 ∷ 114 ∷ 97 ∷ 115 ∷ 101 ∷ 100 ∷ []
 
 -- replay: "`F 0 0`", "`O 0 lasttime`", "`B 0 number`", "`W 0 slot`", "`R 0 value`", "`C 0 time` (0 without versions)",
 -- "`L 0 count`": the last word of a call's line; v is the value beside a read's answer
-unfoldable pub result_text : Answer → List ℕ → List ℕ
-result_text (Refused r) v = dash
-result_text Done v = decimal 0
-result_text (Begun n) v = decimal n.0
-result_text (Written slot) v = decimal slot
-result_text (Committed t) v = decimal t.0
-result_text (Opened t) v = decimal t.0
-result_text Missing v = none_text
-result_text Erased v = erased_text
-result_text Present v = hex_of v
-result_text (Listed k) v = decimal k
+unfoldable pub result_text : Result Answer Refusal → List ℕ → List ℕ
+result_text (Err r) v = dash
+result_text (Ok Done) v = decimal 0
+result_text (Ok (Begun n)) v = decimal n.0
+result_text (Ok (Written slot)) v = decimal slot
+result_text (Ok (Committed t)) v = decimal t.0
+result_text (Ok (Opened t)) v = decimal t.0
+result_text (Ok Missing) v = none_text
+result_text (Ok Erased) v = erased_text
+result_text (Ok Present) v = hex_of v
+result_text (Ok (Listed k)) v = decimal k
 
 -- replay: "A refusal prints the letter, the refusal's number and `-`", else the number is 0: a call's line
-unfoldable pub answer_text : ℕ → Answer → List ℕ → List ℕ
+unfoldable pub answer_text : ℕ → Result Answer Refusal → List ℕ → List ℕ
 answer_text letter answer v =
     letter ∷ (32 ∷ (decimal (answer_number answer) ++ (32 ∷ (result_text answer v ++ (10 ∷ [])))))
 
 -- replay: "`H 0 time` or `H n -`": the last word of a handover's line
-unfoldable pub handed_result : HandAnswer → List ℕ
+unfoldable pub handed_result : Result CommitTime HandRefusal → List ℕ
 handed_result (Denied r) = dash
 handed_result NotOwner = dash
 handed_result (Handed t) = decimal t.0
 
 -- replay: "`H 0 time` or `H n -`", "17 is the handover's own refusal": a handover's line
-unfoldable pub handed_text : HandAnswer → List ℕ
+unfoldable pub handed_text : Result CommitTime HandRefusal → List ℕ
 handed_text answer = 72 ∷ (32 ∷ (decimal (hand_number answer) ++ (32 ∷ (handed_result answer ++ (10 ∷ [])))))
 
 -- replay: "`time kind value` each on its own line (kind 0 or 1)": a line of a list, from its 32 bytes
@@ -75,17 +76,17 @@ kept_text true = 61 ∷ 32 ∷ 107 ∷ 101 ∷ 112 ∷ 116 ∷ 10 ∷ []
 kept_text false = 61 ∷ 32 ∷ 115 ∷ 112 ∷ 111 ∷ 105 ∷ 108 ∷ 116 ∷ 10 ∷ []
 
 -- replay: "`L 0 count`, then the list's lines .., then `=`": what stands behind the line of a list's answer
-unfoldable pub list_text : Answer → List ℕ → List ℕ
-list_text (Refused r) b = []
-list_text Done b = []
-list_text (Begun n) b = []
-list_text (Written slot) b = []
-list_text (Committed t) b = []
-list_text (Opened t) b = []
-list_text Missing b = []
-list_text Erased b = []
-list_text Present b = []
-list_text (Listed k) b = changes_text k b ++ kept_text (all_are 170 (drop (32 * k) b))
+unfoldable pub list_text : Result Answer Refusal → List ℕ → List ℕ
+list_text (Err r) b = []
+list_text (Ok Done) b = []
+list_text (Ok (Begun n)) b = []
+list_text (Ok (Written slot)) b = []
+list_text (Ok (Committed t)) b = []
+list_text (Ok (Opened t)) b = []
+list_text (Ok Missing) b = []
+list_text (Ok Erased) b = []
+list_text (Ok Present) b = []
+list_text (Ok (Listed k)) b = changes_text k b ++ kept_text (all_are 170 (drop (32 * k) b))
 
 -- replay: "the 512 bytes of that block .. as 1024 hex digits; out of range: `M -`": block k of the bytes
 unfoldable pub block_text : List ℕ → ℕ → List ℕ

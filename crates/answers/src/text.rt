@@ -1,5 +1,5 @@
 // What the lines print, put behind the first n bytes of the output.
-ghost use Rattle.std.specs.Prelude.{◌≡◌, ◌++◌, ℕ, ◌+◌, ◌*◌, ◌≤◌, length, take};
+ghost use Rattle.std.specs.Prelude.{◌≡◌, ◌++◌, ℕ, ◌+◌, ◌*◌, ◌≤◌, length, take, Ok};
 ghost use Rattle.store.specs.declared.Answer.TheVariants.{Listed};
 ghost use Rattle.store.specs.Answer.{answer_number};
 ghost use Rattle.handover.specs.Hand.{hand_number};
@@ -159,7 +159,7 @@ fn put_kept(out: &mut [u8], n: usize, kept: bool) -> usize
 pub fn put_list(out: &mut [u8], n: usize, answer: Answer, buffer: &[u8]) -> usize
     requires buffer_len_bound { length buffer.now ≤ 40000 }
     requires n_in_bounds { n + 93759 ≤ length out.old }
-    requires by_index { (k : ℕ) → answer ≡ Listed k → 32 * k ≤ length buffer.now }
+    requires by_index { (k : ℕ) → answer ≡ Ok (Listed k) → 32 * k ≤ length buffer.now }
     ensures upper_bound { result ≤ n + 93759 }
     ensures out_after { take result out.new ≡ take n out.old ++ list_text answer buffer.now }
 {

@@ -1,4 +1,6 @@
 -- A turn of the loop over the bytes of a read: the run behind a line is that of the line's call, made and printed.
+use Rattle.store.specs.declared.Refusal.{Refusal}
+use Rattle.std.specs.Prelude.{Result}
 use mathlib.Core.Path.{◌≡◌, refl, sym, ap, ◌∙◌}
 use mathlib.Core.Bool.{true, false}
 use mathlib.Core.List.{List, ◌++◌}
@@ -88,7 +90,7 @@ module _ (bytes : List ℕ) (l : Line) (i : ℕ) (r : Taken) (h : i < length byt
       ∙ simp (← t, ← p, ← y, ← q))
 
   -- of a line that is no query
-  pub step_change : (a : Answer) (u : State) (v w x : List ℕ) → (k ≡ 0 → ⊥) → (k ≡ 81 → ⊥)
+  pub step_change : (a : Result Answer Refusal) (u : State) (v w x : List ℕ) → (k ≡ 0 → ⊥) → (k ≡ 81 → ⊥)
       → leaves a u v w ≡ change_of call s m c
       → x ≡ o ++ line_text k (answer_number a) (result_of a 0)
       → play_of does (stand n (world u v w) true x) (drop r.next bytes)
@@ -96,7 +98,7 @@ module _ (bytes : List ℕ) (l : Line) (i : ℕ) (r : Taken) (h : i < length byt
   step_change a u v w x z d t y = step_call (leaves a u v w) x z (t ∙ is_change call s m c (λ b. d (p ∙ b))) y
 
   -- of a query
-  pub step_query : (a : Answer) (v x : List ℕ) → k ≡ 81
+  pub step_query : (a : Result Answer Refusal) (v x : List ℕ) → k ≡ 81
       → reads a v s m c ≡ query_of call s m c
       → x ≡ o ++ line_text k (answer_number a) (result_of a (get_or v 0 0))
       → play_of does (stand n (world s m c) true x) (drop r.next bytes)

@@ -1,5 +1,6 @@
 -- What a call shows is printed part by part, each behind the one before.
-use Rattle.std.specs.Prelude.{Option, None, Some}
+use Rattle.store.specs.declared.Refusal.{Refusal}
+use Rattle.std.specs.Prelude.{Option, None, Some, Result}
 use mathlib.Core.Path.{◌≡◌, refl, ap, ◌∙◌}
 use mathlib.Core.List.{List, [], ◌∷◌, ◌++◌, append_assoc}
 use Prim.Native.Nat.{ℕ}
@@ -19,11 +20,11 @@ unfolding shown_result
 shown_result_law r None = refl
 shown_result_law r (Some n) = refl
 
-pub shown_number : (a : Answer) (byte : ℕ) (s : Shown) → s ≡ shown_of a byte → s.refusal ≡ answer_number a
+pub shown_number : (a : Result Answer Refusal) (byte : ℕ) (s : Shown) → s ≡ shown_of a byte → s.refusal ≡ answer_number a
 unfolding shown_of
 shown_number a byte s e = ap (λ (t : Shown). t.refusal) e ∙ shown_refusal (answer_number a) (result_of a byte)
 
-pub put_line : (x0 x1 x2 x3 x4 x5 x6 : List ℕ) (letter byte : ℕ) (a : Answer) (s : Shown) → s ≡ shown_of a byte
+pub put_line : (x0 x1 x2 x3 x4 x5 x6 : List ℕ) (letter byte : ℕ) (a : Result Answer Refusal) (s : Shown) → s ≡ shown_of a byte
     → x1 ≡ x0 ++ (letter ∷ []) → x2 ≡ x1 ++ (32 ∷ []) → x3 ≡ x2 ++ decimal s.refusal → x4 ≡ x3 ++ (32 ∷ [])
     → x5 ≡ x4 ++ result_text (shown_result s) → x6 ≡ x5 ++ (10 ∷ [])
     → x6 ≡ x0 ++ line_text letter (answer_number a) (result_of a byte)

@@ -1,9 +1,9 @@
 -- What a line does to state, medium and cache, and what it prints.
-use Rattle.std.specs.Prelude.{ℕ, List, [], ◌∷◌, ◌++◌, length, replicate, get_or, Option, None, Some}
+use Rattle.store.specs.declared.Refusal.{Refusal}
+use Rattle.std.specs.Prelude.{ℕ, List, [], ◌∷◌, ◌++◌, length, replicate, get_or, Option, None, Some, Err, Ok, Result}
 use Rattle.fields.specs.Block.{zeros}
 use Rattle.store.specs.declared.Answer.{Answer}
-use Rattle.store.specs.declared.Answer.TheVariants.{Refused, Done, Begun, Written, Committed, Opened, Missing, Erased}
-use Rattle.store.specs.declared.Answer.TheVariants.{Present, Listed}
+use Rattle.store.specs.declared.Answer.TheVariants.{Done, Begun, Written, Committed, Opened, Missing, Erased, Present, Listed}
 use Rattle.store.specs.declared.State.{State}
 use Rattle.store.specs.Answer.{Outcome, answer_number, leaves}
 use Rattle.store.specs.Begin.{begin_of}
@@ -23,20 +23,20 @@ outcome_of (Write number key byte) s m c = write_of s m c number key (replicate 
 outcome_of (Commit number clock) s m c = commit_of s m c number clock
 outcome_of (Query key time) s m c = as_of_of s m c key time
 outcome_of Cut s m c = open_of m (zeros (length c)) 4 2
-outcome_of Other s m c = leaves Done s m c
+outcome_of Other s m c = leaves (Ok Done) s m c
 
 -- 01: "a result (number, slot, time, byte, last time; `-` for none, no time, erased or refused)"
-unfoldable pub result_of : Answer → ℕ → Option ℕ
-result_of (Refused r) byte = None
-result_of Done byte = None
-result_of (Begun n) byte = Some n.0
-result_of (Written slot) byte = Some slot
-result_of (Committed t) byte = Some t.0
-result_of (Opened t) byte = Some t.0
-result_of Missing byte = None
-result_of Erased byte = None
-result_of Present byte = Some byte
-result_of (Listed k) byte = Some k
+unfoldable pub result_of : Result Answer Refusal → ℕ → Option ℕ
+result_of (Err r) byte = None
+result_of (Ok Done) byte = None
+result_of (Ok (Begun n)) byte = Some n.0
+result_of (Ok (Written slot)) byte = Some slot
+result_of (Ok (Committed t)) byte = Some t.0
+result_of (Ok (Opened t)) byte = Some t.0
+result_of (Ok Missing) byte = None
+result_of (Ok Erased) byte = None
+result_of (Ok Present) byte = Some byte
+result_of (Ok (Listed k)) byte = Some k
 
 -- 01: "`-` for none"
 unfoldable pub result_text : Option ℕ → List ℕ

@@ -1,5 +1,5 @@
 // The room: makes the call of a line, and prints the line's letter, 0 or the refusal, and the result.
-ghost use Rattle.std.specs.Prelude.{◌≡◌, ◌++◌, ◌+◌, ◌≤◌, length, take, true, false};
+ghost use Rattle.std.specs.Prelude.{◌≡◌, ◌++◌, ◌+◌, ◌≤◌, length, take, true, false, Ok};
 ghost use Rattle.fields.specs.Block.{zeros};
 ghost use Rattle.store.specs.Answer.{answer_number, leaves};
 ghost use Rattle.store.specs.Open.{open_of};
@@ -137,7 +137,7 @@ pub fn change(
 }
 
 fn nothing() -> Reading
-    ensures { result ≡ record { answer = Done; value = zeros 16 } }
+    ensures { result ≡ record { answer = Ok Done; value = zeros 16 } }
 {
     Reading {
         answer: Answer::Done,

@@ -1,7 +1,7 @@
 // The three stores of a checkpoint: which block is to be the oldest, the pair table's two blocks, the master.
 #![tactic(auto)]
 
-ghost use Rattle.std.specs.Prelude.{◌≡◌, List, ℕ, ◌+◌, ◌-◌, ◌*◌, ◌<◌, ◌≤◌, length, take, get_or, leb};
+ghost use Rattle.std.specs.Prelude.{◌≡◌, List, ℕ, ◌+◌, ◌-◌, ◌*◌, ◌<◌, ◌≤◌, length, take, get_or, leb, Ok};
 ghost use Rattle.fields.specs.Part.{splice};
 ghost use Rattle.fields.specs.Block.{put};
 ghost use Rattle.fields.specs.Cells.{flat};
@@ -181,7 +181,7 @@ pub fn is_left(words: &[u64; 448], tail: &[u8; 512], medium: &[u8]) -> bool
 // The next of the three stores. It writes one block, in place.
 pub fn step(words: &mut [u64; 448], tail: &[u8; 512], medium: &mut [u8])
     requires { (get_or words.old 1 0 ≤ 64) × (1536 ≤ length medium.old) }
-    ensures { (cache : List ℕ) → leaves Done (state_of words.new tail.now) medium.new cache ≡ checkpoint_step (state_of words.old tail.now).phase (state_of words.old tail.now) medium.old cache }
+    ensures { (cache : List ℕ) → leaves (Ok Done) (state_of words.new tail.now) medium.new cache ≡ checkpoint_step (state_of words.old tail.now).phase (state_of words.old tail.now) medium.old cache }
 {
     let phase = words[PHASE];
     match phase {

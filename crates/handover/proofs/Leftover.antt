@@ -1,6 +1,7 @@
 -- What a refused handover leaves, stage by stage: a refused call leaves all as it was, an abort frees the place of its number and
 -- nothing else, and so what stays is what begin, and where it was accepted the write, have put in.
-use Rattle.std.specs.Prelude.{Option, None, Some}
+use Rattle.layout.specs.declared.CommitTime.{CommitTime}
+use Rattle.std.specs.Prelude.{Option, None, Some, Ok, Result}
 use Prim.Native.Nat.{ℕ, ◌<◌}
 use native.Mathlib.Omega.{arith}
 use mathlib.Core.Path.{◌≡◌, refl, sym, ap, ◌∙◌}
@@ -21,8 +22,8 @@ use Rattle.runs.proofs.Asks.{Way, refused, looks, way}
 use Rattle.runs.proofs.Asks.{begins as begins_way, writes as writes_way}
 use Rattle.runs.proofs.Refusals.{quiet_leaves, reading_leaves, refusal_leaves}
 use Rattle.handover.specs.declared.Transfer.{Transfer}
-use Rattle.handover.specs.declared.HandAnswer.{HandAnswer}
-use Rattle.handover.specs.declared.HandAnswer.TheVariants.{Denied, NotOwner}
+use Rattle.handover.specs.declared.HandRefusal.{HandRefusal}
+use Rattle.handover.specs.declared.HandRefusal.TheVariants.{Denied, NotOwner}
 use Rattle.handover.specs.Hand.{HandOutcome, hand_number, refusal_in, with_owner, may_hand, begins, reads, writes, commits, aborts, gives_up, after_commit, after_write, after_check, after_read, after_begin, hand_of}
 use Rattle.handover.specs.EveryInput.{Leftover, nothing, number, version}
 use Rattle.handover.proofs.calls.Answers.{none_some, in_refusal}
@@ -55,7 +56,7 @@ write_left (looks k a v b h p n w) e = absurd (false≢true h)
 record Freed (o : Outcome) (n : ℕ) : Type 0 where
   place : ℕ
   found : find_active o.state.places n ≡ Some place
-  left : aborts o n ≡ leaves Done (with_place o.state place free_place) o.medium o.cache
+  left : aborts o n ≡ leaves (Ok Done) (with_place o.state place free_place) o.medium o.cache
 
 abort_left : (o : Outcome) (n : ℕ) → Abortable o n → Freed o n
 unfolding abort_of abort_if
@@ -73,19 +74,19 @@ module _ (s : State) (m c : List ℕ) (h : Transfer) where
 
   -- y is what an abort left of x
   number_freed : (i j : ℕ) (x y : Outcome) → x.state ≡ begun s i h.began → x.medium ≡ m → x.cache ≡ c
-      → y ≡ leaves Done (with_place x.state j free_place) x.medium x.cache
+      → y ≡ leaves (Ok Done) (with_place x.state j free_place) x.medium x.cache
       → Leftover s m c h y.state y.medium y.cache
   number_freed i j x y e f g z = rw (z, e, f, g) (number i j)
 
   version_freed : (i j k : ℕ) (strip : List ℕ) (w x y : Outcome)
       → w ≡ write_step (begun s i h.began) m c j (new_head (begun s i h.began) c s.next.0 h.flight 0) (with_owner strip h.to)
       → x.state ≡ w.state → x.medium ≡ w.medium → x.cache ≡ w.cache → k ≡ j
-      → y ≡ leaves Done (with_place x.state k free_place) x.medium x.cache
+      → y ≡ leaves (Ok Done) (with_place x.state k free_place) x.medium x.cache
       → Leftover s m c h y.state y.medium y.cache
   version_freed i j k strip w x y b e f g t z = rw (z, e, f, g, t) (version i j strip w b)
 
   -- an abort of what begin left
-  number_left : (a : HandAnswer) (o : Outcome) (n i : ℕ) → o.state ≡ begun s i h.began → o.medium ≡ m → o.cache ≡ c → Abortable o n → Left (gives_up a o n)
+  number_left : (a : Result CommitTime HandRefusal) (o : Outcome) (n i : ℕ) → o.state ≡ begun s i h.began → o.medium ≡ m → o.cache ≡ c → Abortable o n → Left (gives_up a o n)
   number_left a o n i e f g q p = let x = abort_left o n q in number_freed i x.place o (aborts o n) e f g x.left
 
   module _ (o : Outcome) (n i : ℕ) (e : o.state ≡ begun s i h.began) (f : o.medium ≡ m) (g : o.cache ≡ c) (k : n ≡ s.next.0) (q : Abortable o n) where

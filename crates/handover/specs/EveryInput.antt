@@ -1,6 +1,6 @@
 -- What holds of a handover for every state, medium and cache: its abort is done, its calls are the handover, they make at most one
 -- store, and what a refused one leaves.
-use Rattle.std.specs.Prelude.{ℕ, ◌<◌, ◌≡◌, List, [], ◌∷◌, ◌++◌, replicate, None, Some}
+use Rattle.std.specs.Prelude.{ℕ, ◌<◌, ◌≡◌, List, [], ◌∷◌, ◌++◌, replicate, None, Some, Ok}
 use Rattle.store.specs.declared.Answer.TheVariants.{Done}
 use Rattle.store.specs.declared.Refusal.{Refusal}
 use Rattle.store.specs.declared.State.{State}
@@ -23,13 +23,13 @@ use Rattle.handover.specs.Calls.{hand_events}
 -- commit is not refused itself
 pub record AbortsDone (s : State) (m c : List ℕ) (h : Transfer) : Type 0 where
   pub read : refusal_in (begins s m c h).answer ≡ None
-      → let n = answer_value (begins s m c h).answer in (aborts (reads (begins s m c h) n h) n).answer ≡ Done
+      → let n = answer_value (begins s m c h).answer in (aborts (reads (begins s m c h) n h) n).answer ≡ Ok Done
   pub written : refusal_in (begins s m c h).answer ≡ None
-      → let n = answer_value (begins s m c h).answer in (aborts (writes (reads (begins s m c h) n h) n h) n).answer ≡ Done
+      → let n = answer_value (begins s m c h).answer in (aborts (writes (reads (begins s m c h) n h) n h) n).answer ≡ Ok Done
   pub committed : refusal_in (begins s m c h).answer ≡ None
       → let n = answer_value (begins s m c h).answer in
       let o = commits (writes (reads (begins s m c h) n h) n h) n h in
-      (r : Refusal) → refusal_in o.answer ≡ Some r → (aborts o n).answer ≡ Done
+      (r : Refusal) → refusal_in o.answer ≡ Some r → (aborts o n).answer ≡ Ok Done
 
 -- 02, #101: "It begins, reads, checks, writes .. and commits": its calls, made one after the other on an open store, leave what
 -- the handover leaves

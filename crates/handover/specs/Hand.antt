@@ -1,7 +1,8 @@
 -- A handover: the whole outcome for every input, from the outcomes of the store's calls.
-use Rattle.std.specs.Prelude.{ℕ, Bool, true, false, not, ◌&&◌, List, get_or, set, eqb, Option, None, Some}
+use Rattle.layout.specs.declared.CommitTime.{CommitTime}
+use Rattle.std.specs.Prelude.{ℕ, Bool, true, false, not, ◌&&◌, List, get_or, set, eqb, Option, None, Some, Err, Ok, Result}
 use Rattle.store.specs.declared.Answer.{Answer}
-use Rattle.store.specs.declared.Answer.TheVariants.{Refused, Done, Begun, Written, Committed, Opened, Missing, Erased, Present, Listed}
+use Rattle.store.specs.declared.Answer.TheVariants.{Done, Begun, Written, Committed, Opened, Missing, Erased, Present, Listed}
 use Rattle.store.specs.declared.Refusal.{Refusal}
 use Rattle.store.specs.declared.State.{State}
 use Rattle.store.specs.Answer.{Outcome, refusal_number, answer_value}
@@ -11,53 +12,53 @@ use Rattle.store.specs.Write.{write_of}
 use Rattle.store.specs.Commit.{commit_of}
 use Rattle.store.specs.Abort.{abort_of}
 use Rattle.handover.specs.declared.Transfer.{Transfer}
-use Rattle.handover.specs.declared.HandAnswer.{HandAnswer}
-use Rattle.handover.specs.declared.HandAnswer.TheVariants.{Denied, NotOwner, Handed}
+use Rattle.handover.specs.declared.HandRefusal.{HandRefusal}
+use Rattle.handover.specs.declared.HandRefusal.TheVariants.{Denied, NotOwner, Handed}
 
 -- 02, #101: "any refusal .. is answered", "17": 0, or the refusal's number
-unfoldable pub hand_number : HandAnswer → ℕ
+unfoldable pub hand_number : Result CommitTime HandRefusal → ℕ
 hand_number (Denied r) = refusal_number r
 hand_number NotOwner = 17
 hand_number (Handed t) = 0
 
 -- 02, #101: "answering the commit time": the time, 0 where there is none
-unfoldable pub hand_value : HandAnswer → ℕ
+unfoldable pub hand_value : Result CommitTime HandRefusal → ℕ
 hand_value (Denied r) = 0
 hand_value NotOwner = 0
 hand_value (Handed t) = t.0
 
 -- 01: "the statement about a call fixes result, state, medium and cache": all that a handover leaves
 pub record HandOutcome : Type 0 where
-  pub answer : HandAnswer
+  pub answer : Result CommitTime HandRefusal
   pub state : State
   pub medium : List ℕ
   pub cache : List ℕ
 
 -- 02, #101: "any refusal": the one in an answer of the store, if there is one
-abbrev pub refusal_in : Answer → Option Refusal
-refusal_in (Refused r) = Some r
-refusal_in Done = None
-refusal_in (Begun n) = None
-refusal_in (Written k) = None
-refusal_in (Committed t) = None
-refusal_in (Opened t) = None
-refusal_in Missing = None
-refusal_in Erased = None
-refusal_in Present = None
-refusal_in (Listed k) = None
+abbrev pub refusal_in : Result Answer Refusal → Option Refusal
+refusal_in (Err r) = Some r
+refusal_in (Ok Done) = None
+refusal_in (Ok (Begun n)) = None
+refusal_in (Ok (Written k)) = None
+refusal_in (Ok (Committed t)) = None
+refusal_in (Ok (Opened t)) = None
+refusal_in (Ok Missing) = None
+refusal_in (Ok Erased) = None
+refusal_in (Ok Present) = None
+refusal_in (Ok (Listed k)) = None
 
 -- 02, #101: "is the strip present": by the read's answer
-abbrev pub is_present : Answer → Bool
-is_present (Refused r) = false
-is_present Done = false
-is_present (Begun n) = false
-is_present (Written k) = false
-is_present (Committed t) = false
-is_present (Opened t) = false
-is_present Missing = false
-is_present Erased = false
-is_present Present = true
-is_present (Listed k) = false
+abbrev pub is_present : Result Answer Refusal → Bool
+is_present (Err r) = false
+is_present (Ok Done) = false
+is_present (Ok (Begun n)) = false
+is_present (Ok (Written k)) = false
+is_present (Ok (Committed t)) = false
+is_present (Ok (Opened t)) = false
+is_present (Ok Missing) = false
+is_present (Ok Erased) = false
+is_present (Ok Present) = true
+is_present (Ok (Listed k)) = false
 
 -- 02, #101: "Byte 0 of a strip is the owner, 0 for nobody"
 abbrev pub owner_of : List ℕ → ℕ
@@ -68,7 +69,7 @@ abbrev pub with_owner : List ℕ → ℕ → List ℕ
 with_owner strip b = set strip 0 b
 
 -- 02, #101: "17, is the strip present, a its owner, and neither a nor b 0?"
-unfoldable pub may_hand : Answer → List ℕ → Transfer → Bool
+unfoldable pub may_hand : Result Answer Refusal → List ℕ → Transfer → Bool
 may_hand a strip h =
     is_present a && (eqb (owner_of strip) h.from && (not (eqb h.from 0) && not (eqb h.to 0)))
 
@@ -97,15 +98,15 @@ aborts o n = abort_of o.state o.medium o.cache n
 -- ---- what follows each call, by whether it is refused
 
 -- 01: "fixes result, state, medium and cache": an answer with these three
-abbrev pub hand_ends : HandAnswer → State → List ℕ → List ℕ → HandOutcome
+abbrev pub hand_ends : Result CommitTime HandRefusal → State → List ℕ → List ℕ → HandOutcome
 hand_ends a s m c = record { answer = a; state = s; medium = m; cache = c }
 
 -- 01: "fixes result, state, medium and cache": an answer with what a call left
-abbrev pub hand_leaves : HandAnswer → Outcome → HandOutcome
+abbrev pub hand_leaves : Result CommitTime HandRefusal → Outcome → HandOutcome
 hand_leaves a o = hand_ends a o.state o.medium o.cache
 
 -- 02, #101: "any refusal aborts and is answered": the refusal, whatever the abort says
-abbrev pub gives_up : HandAnswer → Outcome → ℕ → HandOutcome
+abbrev pub gives_up : Result CommitTime HandRefusal → Outcome → ℕ → HandOutcome
 gives_up a o n = hand_leaves a (aborts o n)
 
 -- 02, #101: "and commits, answering the commit time": after the commit o

@@ -1,6 +1,6 @@
 // Handing a flight over: begin, read, check, write, commit, each by the store's public call. Once a number is given, a refusal
 // aborts it and is answered.
-ghost use Rattle.std.specs.Prelude.{◌≡◌, true, None};
+ghost use Rattle.std.specs.Prelude.{◌≡◌, true, None, Ok};
 ghost use Rattle.store.specs.declared.Answer.TheVariants.{Done, Begun, Present};
 ghost use Rattle.store.specs.Answer.{answer_value, leaves};
 ghost use Rattle.store.specs.CurrentRead.{reads as CurrentRead·reads};
@@ -52,7 +52,7 @@ fn give_up(
     number: u64,
     why: HandAnswer,
 ) -> HandAnswer
-    ensures { hand_ends result (state_of words.new tail.now) medium.now cache.now ≡ gives_up why (leaves Done (state_of words.old tail.now) medium.now cache.now) number }
+    ensures { hand_ends result (state_of words.new tail.now) medium.now cache.now ≡ gives_up why (leaves (Ok Done) (state_of words.old tail.now) medium.now cache.now) number }
 {
     transactions::abort::abort(words, tail, medium, cache, number);
     why
@@ -67,7 +67,7 @@ fn commit(
     number: u64,
     asked: Transfer,
 ) -> HandAnswer
-    ensures { hand_ends result (state_of words.new tail.new) medium.new cache.now ≡ after_write None (leaves Done (state_of words.old tail.old) medium.old cache.now) number asked }
+    ensures { hand_ends result (state_of words.new tail.new) medium.new cache.now ≡ after_write None (leaves (Ok Done) (state_of words.old tail.old) medium.old cache.now) number asked }
 {
     let answer = transactions::commit::commit(words, tail, medium, cache, number, asked.ended);
     match answer {
@@ -93,7 +93,7 @@ fn write(
     asked: Transfer,
     strip: [u8; 16],
 ) -> HandAnswer
-    ensures { hand_ends result (state_of words.new tail.new) medium.new cache.new ≡ after_check true (CurrentRead·reads Present strip (state_of words.old tail.old) medium.old cache.old) number asked }
+    ensures { hand_ends result (state_of words.new tail.new) medium.new cache.new ≡ after_check true (CurrentRead·reads (Ok Present) strip (state_of words.old tail.old) medium.old cache.old) number asked }
 {
     let mut value = strip;
     value[0] = asked.to;
@@ -139,7 +139,7 @@ fn read(
     number: u64,
     asked: Transfer,
 ) -> HandAnswer
-    ensures { hand_ends result (state_of words.new tail.new) medium.new cache.new ≡ after_begin None (leaves (Begun (record { 0 = number })) (state_of words.old tail.old) medium.old cache.old) asked }
+    ensures { hand_ends result (state_of words.new tail.new) medium.new cache.new ≡ after_begin None (leaves (Ok (Begun (record { 0 = number }))) (state_of words.old tail.old) medium.old cache.old) asked }
 {
     let reading = reads::current_read::current_read(
         words,

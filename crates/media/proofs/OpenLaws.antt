@@ -1,4 +1,5 @@
 -- What open leaves, by the question that refuses it or by what the survey found. By the definition of the call; assumes nothing.
+use Rattle.std.specs.Prelude.{Err, Ok}
 use mathlib.Core.Path.{◌≡◌, sym, ap, ◌∙◌}
 use mathlib.Core.Bool.{Bool, true, false, ◌&&◌}
 use Prim.Native.Nat.{ℕ, ◌*◌}
@@ -8,7 +9,7 @@ use lib.Dec.{eqb}
 use borrow.Author.Tests.{eqb-true, eq-eqb, ne_eqb}
 use Rattle.fields.specs.Block.{zeros, medium_length, cache_length}
 use Rattle.fields.proofs.Choose.{and_0, and_1}
-use Rattle.store.specs.declared.Answer.TheVariants.{Refused, Opened}
+use Rattle.store.specs.declared.Answer.TheVariants.{Opened}
 use Rattle.store.specs.declared.Refusal.{Refusal}
 use Rattle.store.specs.declared.Refusal.TheVariants.{BadSizes, BadCache, Malformed}
 use Rattle.store.specs.declared.State.{State}
@@ -27,7 +28,7 @@ unfolding no_state state_of state_by first_of places_of listed place_in life_by 
 cleared w t e f = ap (λ (x : List ℕ). state_of x t) e ∙ ap (state_of blank) f
 
 -- a refusal with it
-pub refused_is : (m c : List ℕ) (s : State) (why : Refusal) → s ≡ no_state → leaves (Refused why) s m c ≡ refuses why no_state m c
+pub refused_is : (m c : List ℕ) (s : State) (why : Refusal) → s ≡ no_state → leaves (Err why) s m c ≡ refuses why no_state m c
 refused_is m c s why e = rw e
 
 -- t is what was found of the sizes
@@ -63,6 +64,6 @@ module _ (m c : List ℕ) (l d : ℕ) (t : Bool) (sizes : t ≡ in_range l d && 
       bad_medium w z e = sym (rw (sized, eq-eqb (length c) (cache_length d) fits, w, e))
 
       pub opens : well_formed m l d ≡ true → (s : State) (last : ℕ) (k : List ℕ) → s ≡ opened_state m l d → last ≡ last_time m l → k ≡ (redone m l d).cache
-          → leaves (Opened (record { 0 = last })) s m k ≡ open_of m c l d
+          → leaves (Ok (Opened (record { 0 = last }))) s m k ≡ open_of m c l d
       unfolding open_of open_if
       opens w s last k e f g = sym (rw (sized, eq-eqb (length c) (cache_length d) fits, w, e, f, g))

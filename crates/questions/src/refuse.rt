@@ -1,13 +1,12 @@
 // What a refused call answers.
-ghost use Rattle.std.specs.Prelude.{◌≡◌};
+ghost use Rattle.std.specs.Prelude.{◌≡◌, Err};
 ghost use Rattle.fields.specs.Block.{zeros};
-ghost use Rattle.store.specs.declared.Answer.TheVariants.{Refused};
 
 use store::{Answer, Reading, Refusal};
 
 // A read, with zeros for its value.
 pub fn reading(why: Refusal) -> Reading
-    ensures { result ≡ record { answer = Refused why; value = zeros 16 } }
+    ensures { result ≡ record { answer = Err why; value = zeros 16 } }
 {
     Reading {
         answer: Answer::Refused(why),

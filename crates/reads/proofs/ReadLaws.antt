@@ -1,7 +1,7 @@
 -- What the reads need: what a search finds lies in the cache's room, the bytes of a slot are what its version says, and
 -- each read is answered by what its search found once its questions are. Assumes nothing.
 use Rattle.layout.specs.declared.CommitTime.{CommitTime}
-use Rattle.std.specs.Prelude.{Option, Some, None}
+use Rattle.std.specs.Prelude.{Option, Some, None, Err, Ok}
 use mathlib.Core.Path.{◌≡◌, refl, sym, ap, subst, ◌∙◌}
 use mathlib.Core.Bool.{Bool, true, false, cond}
 use mathlib.Core.List.{List}
@@ -18,7 +18,7 @@ use Rattle.layout.specs.declared.slot.Slot.{Slot}
 use Rattle.layout.specs.declared.slot.Slot.TheVariants.{Empty, Waiting, Stamped}
 use Rattle.fields.proofs.Choose.{cond_elim}
 use Rattle.fields.proofs.PartLaws.{lent_part}
-use Rattle.store.specs.declared.Answer.TheVariants.{Refused, Erased, Present, Listed}
+use Rattle.store.specs.declared.Answer.TheVariants.{Erased, Present, Listed}
 use Rattle.store.specs.declared.Refusal.TheVariants.{ShortBuffer}
 use Rattle.store.specs.declared.Reading.{Reading}
 use Rattle.store.specs.declared.State.{State}
@@ -59,12 +59,12 @@ visible_head None c pair n l f e h = subst (λ (g : Option ℕ). Head g l) (sym 
 -- ---- what a version says; a is where its slot begins, v the bytes copied
 
 pub says_erased : (c : List ℕ) (n a : ℕ) → a ≡ slot_at n → get_or c (a + 2) 0 ≡ 1
-    → record { answer = Erased; value = zeros 16 } ≡ reading_of (cell_at c n)
+    → record { answer = Ok Erased; value = zeros 16 } ≡ reading_of (cell_at c n)
 unfolding reading_of
 says_erased c n a e h = simp (eq-eqb _ _ (sym (kind_read c n a e) ∙ h))
 
 pub says_present : (c v : List ℕ) (n a : ℕ) → a ≡ slot_at n → (get_or c (a + 2) 0 ≡ 1 → ⊥) → v ≡ take (a + 16 + 16 - (a + 16)) (drop (a + 16) c)
-    → record { answer = Present; value = v } ≡ reading_of (cell_at c n)
+    → record { answer = Ok Present; value = v } ≡ reading_of (cell_at c n)
 unfolding reading_of
 says_present c v n a e h k =
     let w : v ≡ (cell_at c n).value = k ∙ lent_part c (a + 16) 16 ∙ value_read c n a e in
@@ -105,23 +105,23 @@ module _ (s : State) (m c b d : List ℕ) (key t1 t2 : ℕ) (head r : Option ℕ
   module _ (er : r ≡ cond (leb (32 * length found) (length b)) (Some (length found)) None)
       (ed : d ≡ cond (leb (32 * length found) (length b)) (splice b 0 (flat line_bytes found)) b) where
     pub changes_listed : (n : ℕ) → r ≡ Some n
-        → record { answer = Listed n; value = zeros 16; state = s; medium = m; cache = c; buffer = d } ≡ changes_of s m c b key t1 t2
+        → record { answer = Ok (Listed n); value = zeros 16; state = s; medium = m; cache = c; buffer = d } ≡ changes_of s m c b key t1 t2
     unfolding changes_of changes_if
     changes_listed n en = go (leb (32 * length found) (length b)) refl er ed
       where
         go : (t : Bool) → leb (32 * length found) (length b) ≡ t → r ≡ cond t (Some (length found)) None → d ≡ cond t (splice b 0 (flat line_bytes found)) b
-            → record { answer = Listed n; value = zeros 16; state = s; medium = m; cache = c; buffer = d } ≡ changes_of s m c b key t1 t2
+            → record { answer = Ok (Listed n); value = zeros 16; state = s; medium = m; cache = c; buffer = d } ≡ changes_of s m c b key t1 t2
         go true q x y =
             let z : n ≡ length found = cc in
             simp (e, k, le-leb t2 s.saved.0 l, ← lines_are, q, z, y)
         go false q x y = let z : ◌≡◌ {A = ℕ} 0 1 = cc in absurd (omega arith)
 
     pub changes_short : r ≡ None
-        → record { answer = Refused ShortBuffer; value = zeros 16; state = s; medium = m; cache = c; buffer = d } ≡ changes_of s m c b key t1 t2
+        → record { answer = Err ShortBuffer; value = zeros 16; state = s; medium = m; cache = c; buffer = d } ≡ changes_of s m c b key t1 t2
     unfolding changes_of changes_if
     changes_short en = go (leb (32 * length found) (length b)) refl er ed
       where
         go : (t : Bool) → leb (32 * length found) (length b) ≡ t → r ≡ cond t (Some (length found)) None → d ≡ cond t (splice b 0 (flat line_bytes found)) b
-            → record { answer = Refused ShortBuffer; value = zeros 16; state = s; medium = m; cache = c; buffer = d } ≡ changes_of s m c b key t1 t2
+            → record { answer = Err ShortBuffer; value = zeros 16; state = s; medium = m; cache = c; buffer = d } ≡ changes_of s m c b key t1 t2
         go true q x y = let z : ◌≡◌ {A = ℕ} 0 1 = cc in absurd (omega arith)
         go false q x y = simp (e, k, le-leb t2 s.saved.0 l, ← lines_are, q, y)

@@ -1,5 +1,5 @@
 // Current read, and what a version says.
-ghost use Rattle.std.specs.Prelude.{◌≡◌, suc, ◌+◌, length};
+ghost use Rattle.std.specs.Prelude.{◌≡◌, suc, ◌+◌, length, Ok};
 ghost use Rattle.store.specs.Chain.{cell_at};
 ghost use Rattle.store.specs.CurrentRead.{reads, current_of};
 ghost use Rattle.memory.specs.Memory.{state_of};
@@ -34,7 +34,7 @@ pub(crate) fn read_slot(cache: &[u8], n: u64) -> Reading
 
 // There is no version.
 pub(crate) fn missing() -> Reading
-    ensures { result ≡ record { answer = Missing; value = zeros 16 } }
+    ensures { result ≡ record { answer = Ok Missing; value = zeros 16 } }
 {
     Reading {
         answer: Answer::Missing,

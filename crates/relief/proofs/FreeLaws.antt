@@ -1,5 +1,7 @@
 -- What was printed and what the definition still prints make up the whole: a turn of the loop is one step of the definition,
 -- whatever the state is.
+use Rattle.store.specs.declared.Refusal.{Refusal}
+use Rattle.std.specs.Prelude.{Result}
 use mathlib.Core.Path.{◌≡◌, ap, ◌∙◌}
 use mathlib.Core.Bool.{true, false}
 use mathlib.Core.List.{List, [], ◌++◌, append_assoc}
@@ -15,7 +17,7 @@ use Rattle.relief.specs.Free.{made_of, is_left, call_text, end_text, Freed, free
 -- of a room in which this call comes next
 module _ (s : State) (m c : List ℕ) (next : Relief) (e : next ≡ relief_of s m c) where
   -- the call is made
-  made : (k : ℕ) (a : Answer) (t : State) (n d : List ℕ) → is_left next ≡ true → leaves a t n d ≡ made_of next s m c
+  made : (k : ℕ) (a : Result Answer Refusal) (t : State) (n d : List ℕ) → is_left next ≡ true → leaves a t n d ≡ made_of next s m c
       → freed_from (suc k) s m c ≡ behind (call_text next (answer_number a)) (freed_from k t n d)
   unfolding freed_from
   made k a t n d l o = simp (← e, l, ← o)
@@ -27,7 +29,7 @@ module _ (s : State) (m c : List ℕ) (next : Relief) (e : next ≡ relief_of s 
   none (suc k) l = simp (← e, l)
 
   module _ (x y : List ℕ) (i : ℕ) (w : Freed) (h : behind x (freed_from (70 - i) s m c) ≡ w) where
-    pub free_turn : (a : Answer) (t : State) (n d : List ℕ) → i < 70 → is_left next ≡ true → leaves a t n d ≡ made_of next s m c
+    pub free_turn : (a : Result Answer Refusal) (t : State) (n d : List ℕ) → i < 70 → is_left next ≡ true → leaves a t n d ≡ made_of next s m c
         → y ≡ x ++ call_text next (answer_number a) → behind y (freed_from (70 - (i + 1)) t n d) ≡ w
     free_turn a t n d j l o p =
         let k : 70 - i ≡ suc (70 - (i + 1)) = omega arith in

@@ -1,5 +1,5 @@
 -- What `relief` does with a room: it asks which call comes next and makes it, until none is left or 70 are made.
-use Rattle.std.specs.Prelude.{ℕ, zero, suc, ◌≡◌, Bool, true, false, cond, List, [], ◌∷◌, ◌++◌}
+use Rattle.std.specs.Prelude.{ℕ, zero, suc, ◌≡◌, Bool, true, false, cond, List, [], ◌∷◌, ◌++◌, Ok}
 use Rattle.store.specs.declared.Answer.TheVariants.{Done}
 use Rattle.store.specs.declared.Relief.{Relief}
 use Rattle.store.specs.declared.Relief.TheVariants.{StoreLog, StorePage, Checkpoint, NothingLeft}
@@ -16,7 +16,7 @@ unfoldable pub made_of : Relief → State → List ℕ → List ℕ → Outcome
 made_of StoreLog s m c = store_log_of s m c
 made_of (StorePage p) s m c = store_page_of s m c p
 made_of Checkpoint s m c = checkpoint_of s m c
-made_of NothingLeft s m c = leaves Done s m c
+made_of NothingLeft s m c = leaves (Ok Done) s m c
 
 -- relief: "until nothing is left": is a call named?
 unfoldable pub is_left : Relief → Bool

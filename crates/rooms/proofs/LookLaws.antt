@@ -1,5 +1,6 @@
 -- A line that looks leaves the room as it is, for the outcome of its call is the room's own state, medium and cache;
 -- and a list that is answered lies within its buffer.
+use Rattle.std.specs.Prelude.{Err, Ok, Result}
 use mathlib.Core.Path.{◌≡◌, refl, sym, ap, ◌∙◌}
 use mathlib.Core.Bool.{true, false}
 use mathlib.Core.List.{List, ◌++◌, append-nil, append_assoc}
@@ -12,7 +13,7 @@ use borrow.Author.Tests.{leb-true}
 use Rattle.fields.specs.Block.{zeros}
 use Rattle.layout.specs.Slot.{key_form}
 use Rattle.store.specs.declared.Answer.{Answer}
-use Rattle.store.specs.declared.Answer.TheVariants.{Refused, Listed}
+use Rattle.store.specs.declared.Answer.TheVariants.{Listed}
 use Rattle.store.specs.declared.Refusal.{Refusal}
 use Rattle.store.specs.declared.State.{State}
 use Rattle.store.specs.Answer.{Outcome}
@@ -31,14 +32,14 @@ use Rattle.rooms.specs.Parts.{stage_of, medium_part, cache_part, room_of, Prints
 use Rattle.rooms.proofs.RoomLaws.{stage_3, room_ready}
 
 -- a read, by a letter that is not that of a list
-pub read_prints : (x y v m c : List ℕ) (s : State) (a : Answer) (o : Outcome) (l d letter : ℕ) → eqb letter 76 ≡ false
+pub read_prints : (x y v m c : List ℕ) (s : State) (a : Result Answer Refusal) (o : Outcome) (l d letter : ℕ) → eqb letter 76 ≡ false
     → y ≡ x ++ answer_text letter a v → reads a v s m c ≡ o
     → Prints x y (ready l d m c s) (called letter l d o)
 unfolding called
 read_prints x y v m c s a o l d letter z e f = (simp (← f, z, append-nil) e, simp (← f))
 
 -- a list
-pub list_prints : (x z y m c b : List ℕ) (s : State) (a : Answer) (o : Outcome) (l d : ℕ)
+pub list_prints : (x z y m c b : List ℕ) (s : State) (a : Result Answer Refusal) (o : Outcome) (l d : ℕ)
     → z ≡ x ++ answer_text 76 a (zeros 16) → y ≡ z ++ list_text a b
     → record { answer = a; value = zeros 16; state = s; medium = m; cache = c; buffer = b } ≡ o
     → Prints x y (ready l d m c s) (called 76 l d o)
@@ -50,8 +51,8 @@ list_prints x z y m c b s a o l d e g f = (
 )
 
 -- question 14: a list that is answered lies within its buffer
-pub list_fits : (s : State) (m c b : List ℕ) (key t1 t2 k : ℕ) (a : Answer) → a ≡ (changes_of s m c b key t1 t2).answer
-    → a ≡ Listed k → 32 * k ≤ length b
+pub list_fits : (s : State) (m c b : List ℕ) (key t1 t2 k : ℕ) (a : Result Answer Refusal) → a ≡ (changes_of s m c b key t1 t2).answer
+    → a ≡ Ok (Listed k) → 32 * k ≤ length b
 unfolding changes_of changes_if
 list_fits s m c b key t1 t2 k a e f =
     let g = sym f ∙ e in
@@ -60,7 +61,7 @@ list_fits s m c b key t1 t2 k a e f =
     (λ q. bool_case (leb t2 s.saved.0)
     (λ v. bool_case (leb (32 * length (change_lines s c key t1 t2)) (length b))
     (λ w.
-    let h : Listed k ≡ Listed (length (change_lines s c key t1 t2)) = simp (u, q, v, w) at g in
+    let h : ◌≡◌ {A = Result Answer Refusal} (Ok (Listed k)) (Ok (Listed (length (change_lines s c key t1 t2)))) = simp (u, q, v, w) at g in
     let j : k ≡ length (change_lines s c key t1 t2) = cc in
     let r : 32 * length (change_lines s c key t1 t2) ≤ length b = leb-true _ _ w in omega arith)
     (λ w. refused (simp (u, q, v, w) at g)))
@@ -68,7 +69,7 @@ list_fits s m c b key t1 t2 k a e f =
     (λ q. refused (simp (u, q) at g)))
     (λ u. refused (simp u at g))
   where
-    refused : {P : Type 0} {r : Refusal} → Listed k ≡ Refused r → P
+    refused : {P : Type 0} {r : Refusal} → ◌≡◌ {A = Result Answer Refusal} (Ok (Listed k)) (Err r) → P
     refused h = let z : ◌≡◌ {A = ℕ} 0 1 = cc in absurd (omega arith)
 
 -- a call of an opened store

@@ -1,5 +1,6 @@
 -- What the table says of a line decides where it goes: a line from stage 3 on is a call or a handover, and of the lines
 -- below, those that change the room are `F`, `O`, `o`, `X` and `Z`.
+use Rattle.std.specs.Prelude.{Ok}
 use mathlib.Core.Path.{◌≡◌, refl, sym, ap, ◌∙◌}
 use mathlib.Core.Bool.{false}
 use mathlib.Core.List.{List}
@@ -64,7 +65,7 @@ turn_calls Other v r e h = absurd (omega arith)
 pub no_call : (k : Call) (v : List ℕ) (s : State) (m c : List ℕ) → ((a : ℕ) → k ≡ Begin a → ⊥)
     → ((a b : ℕ) → k ≡ Write a b → ⊥) → ((a b : ℕ) → k ≡ Erase a b → ⊥) → ((a b : ℕ) → k ≡ Commit a b → ⊥)
     → ((a : ℕ) → k ≡ Abort a → ⊥) → (k ≡ StoreLog → ⊥) → ((a : ℕ) → k ≡ StorePage a → ⊥) → (k ≡ Checkpoint → ⊥)
-    → (plan_of k).looks ≡ false → leaves Done s m c ≡ outcome_of k v s m c
+    → (plan_of k).looks ≡ false → leaves (Ok Done) s m c ≡ outcome_of k v s m c
 unfolding plan_of outcome_of
 no_call (Format l d) v s m c x y z u w f g h e = refl
 no_call (Open byte) v s m c x y z u w f g h e = refl

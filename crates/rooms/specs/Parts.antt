@@ -1,6 +1,7 @@
 -- How the program keeps a room: the buffers that it lends are as long as any sizes ask, and medium and cache are their
 -- first bytes.
-use Rattle.std.specs.Prelude.{ℕ, min, ◌≡◌, cond, List, ◌++◌, take, eqb, ltb}
+use Rattle.store.specs.declared.Refusal.{Refusal}
+use Rattle.std.specs.Prelude.{ℕ, min, ◌≡◌, cond, List, ◌++◌, take, eqb, ltb, Result}
 use Rattle.fields.specs.Block.{zeros}
 use Rattle.store.specs.declared.Answer.{Answer}
 use Rattle.store.specs.declared.State.{State}
@@ -32,11 +33,11 @@ room_of t m c s =
     (ready t.blocks t.pages (take (min t.bytes 50688) m) (take (right_length t.pages) c) s))
 
 -- replay, `F L D`: "after a refusal, there is no medium": the stage behind a formatting
-unfoldable pub stage_after : Answer → ℕ
+unfoldable pub stage_after : Result Answer Refusal → ℕ
 stage_after a = cond (eqb (answer_number a) 0) 2 1
 
 -- replay: "prints exactly one line": a line left the room so, and its answer is printed behind its letter
-abbrev pub left_by : Standing → List ℕ → List ℕ → State → ℕ → Answer → Turn
+abbrev pub left_by : Standing → List ℕ → List ℕ → State → ℕ → Result Answer Refusal → Turn
 left_by t m c s letter a = record { room = room_of t m c s; text = answer_text letter a (zeros 16) }
 
 -- replay, the column "prints": a line put what it prints behind the bytes before, and left the room as it is

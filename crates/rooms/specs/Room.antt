@@ -1,5 +1,5 @@
 -- What a line of `replay` does to the room, and what it prints.
-use Rattle.std.specs.Prelude.{ℕ, Bool, true, false, cond, List, [], ◌++◌, set, replicate, eqb, leb}
+use Rattle.std.specs.Prelude.{ℕ, Bool, true, false, cond, List, [], ◌++◌, set, replicate, eqb, leb, Ok}
 use Rattle.fields.specs.Block.{zeros, medium_length, cache_length}
 use Rattle.store.specs.declared.Answer.TheVariants.{Done}
 use Rattle.store.specs.declared.State.{State}
@@ -147,26 +147,26 @@ poked (ready l d m c s) at byte = ready l d (set m at byte) c s
 -- buffer of that many bytes .., filled with 170 before", "store log", "store page", "checkpoint call"; v is a write's
 -- value
 unfoldable pub outcome_of : Call → List ℕ → State → List ℕ → List ℕ → Outcome
-outcome_of (Format l d) v s m c = leaves Done s m c
-outcome_of (Open byte) v s m c = leaves Done s m c
-outcome_of (OpenSized bytes) v s m c = leaves Done s m c
-outcome_of Cut v s m c = leaves Done s m c
+outcome_of (Format l d) v s m c = leaves (Ok Done) s m c
+outcome_of (Open byte) v s m c = leaves (Ok Done) s m c
+outcome_of (OpenSized bytes) v s m c = leaves (Ok Done) s m c
+outcome_of Cut v s m c = leaves (Ok Done) s m c
 outcome_of (Begin clock) v s m c = begin_of s m c clock
 outcome_of (Write number key) v s m c = write_of s m c number key v
 outcome_of (Erase number key) v s m c = erase_of s m c number key
 outcome_of (Read number key) v s m c = current_of s m c number key
 outcome_of (Commit number clock) v s m c = commit_of s m c number clock
 outcome_of (Abort number) v s m c = abort_of s m c number
-outcome_of (Hand flight from to began ended) v s m c = leaves Done s m c
+outcome_of (Hand flight from to began ended) v s m c = leaves (Ok Done) s m c
 outcome_of (AsOf key time) v s m c = as_of_of s m c key time
 outcome_of (Changes key t1 t2 bytes) v s m c = changes_of s m c (replicate bytes 170) key t1 t2
 outcome_of StoreLog v s m c = store_log_of s m c
 outcome_of (StorePage page) v s m c = store_page_of s m c page
 outcome_of Checkpoint v s m c = checkpoint_of s m c
-outcome_of (Block block) v s m c = leaves Done s m c
-outcome_of (Page page) v s m c = leaves Done s m c
-outcome_of (Poke offset byte) v s m c = leaves Done s m c
-outcome_of Other v s m c = leaves Done s m c
+outcome_of (Block block) v s m c = leaves (Ok Done) s m c
+outcome_of (Page page) v s m c = leaves (Ok Done) s m c
+outcome_of (Poke offset byte) v s m c = leaves (Ok Done) s m c
+outcome_of Other v s m c = leaves (Ok Done) s m c
 
 -- replay: "Every accepted-form line prints exactly one line, except `L`"
 unfoldable pub called : ℕ → ℕ → ℕ → Outcome → Turn
@@ -199,7 +199,7 @@ stays r text = record { room = r; text = text }
 
 -- replay: "`X 0 0`", "`Z 0 0`"
 abbrev pub moves : ℕ → Room → Turn
-moves letter r = record { room = r; text = answer_text letter Done (zeros 16) }
+moves letter r = record { room = r; text = answer_text letter (Ok Done) (zeros 16) }
 
 -- replay, the table: what a line leaves and prints where it is played
 unfoldable pub turn_by : Call → List ℕ → Room → Turn

@@ -2,7 +2,7 @@
 -- first "no", by induction on the list of questions; so a call ends refused by its first "no", or by its step once all
 -- are passed.
 use Rattle.layout.specs.declared.CommitTime.{CommitTime}
-use Rattle.std.specs.Prelude.{Option, None, Some}
+use Rattle.std.specs.Prelude.{Option, None, Some, Err, Ok, Result}
 use Prim.Native.Nat.{ℕ}
 use native.Mathlib.Omega.{arith}
 use mathlib.Core.Path.{◌≡◌, refl, ap}
@@ -17,8 +17,7 @@ use Rattle.layout.specs.Slot.{Cell}
 use Rattle.fields.proofs.Choose.{cond_elim}
 use Rattle.fields.proofs.PartLaws.{length_splice}
 use Rattle.store.specs.declared.Answer.{Answer}
-use Rattle.store.specs.declared.Answer.TheVariants.{Refused, Done, Begun, Written, Committed, Opened, Missing, Erased}
-use Rattle.store.specs.declared.Answer.TheVariants.{Present, Listed}
+use Rattle.store.specs.declared.Answer.TheVariants.{Done, Begun, Written, Committed, Opened, Missing, Erased, Present, Listed}
 use Rattle.store.specs.declared.Phase.{Phase}
 use Rattle.store.specs.declared.Refusal.{Refusal}
 use Rattle.store.specs.declared.State.{State}
@@ -76,19 +75,19 @@ found P None h g = let z : ◌≡◌ {A = ℕ} 0 1 = cc in absurd (omega arith)
 
 -- ---- an answer that is no refusal
 
-abbrev pub is_refused : Answer → Bool
-is_refused (Refused r) = true
-is_refused Done = false
-is_refused (Begun n) = false
-is_refused (Written k) = false
-is_refused (Committed t) = false
-is_refused (Opened t) = false
-is_refused Missing = false
-is_refused Erased = false
-is_refused Present = false
-is_refused (Listed k) = false
+abbrev pub is_refused : Result Answer Refusal → Bool
+is_refused (Err r) = true
+is_refused (Ok Done) = false
+is_refused (Ok (Begun n)) = false
+is_refused (Ok (Written k)) = false
+is_refused (Ok (Committed t)) = false
+is_refused (Ok (Opened t)) = false
+is_refused (Ok Missing) = false
+is_refused (Ok Erased) = false
+is_refused (Ok Present) = false
+is_refused (Ok (Listed k)) = false
 
-pub not_refused : {A : Type 0} {a : Answer} {r : Refusal} → is_refused a ≡ false → a ≡ Refused r → A
+pub not_refused : {A : Type 0} {a : Result Answer Refusal} {r : Refusal} → is_refused a ≡ false → a ≡ Err r → A
 not_refused {a = a} h e = let k = ap is_refused e in let z : ◌≡◌ {A = ℕ} 0 1 = cc in absurd (omega arith)
 
 -- ---- the ways in which a call ends
@@ -135,29 +134,29 @@ is_reading (store_page p) = false
 is_reading checkpoint = false
 
 -- an outcome that leaves state, medium and cache: a refusal's, a read's or a list's
-abbrev pub told : Answer → List ℕ → List ℕ → State → List ℕ → List ℕ → Outcome
+abbrev pub told : Result Answer Refusal → List ℕ → List ℕ → State → List ℕ → List ℕ → Outcome
 told a v b s m c = record { answer = a; value = v; state = s; medium = m; cache = c; buffer = b }
 
 -- what was asked and found, and what the call then leaves
 pub data Way (m c : List ℕ) (s : State) : Call → Outcome → Type 0 where
   refused : (k : Call) (r : Refusal) → ask (asks m c s k) ≡ Some r
-      → Way m c s k (told (Refused r) (zeros 16) (given k) s m c)
+      → Way m c s k (told (Err r) (zeros 16) (given k) s m c)
   begins : (clock i : ℕ) → Passed (begin_asks s m c) → find_free s.places s.ring ≡ Some i
-      → Way m c s (begin clock) (leaves (Begun s.next) (begun s (ring_place s.ring i) clock) m c)
+      → Way m c s (begin clock) (leaves (Ok (Begun s.next)) (begun s (ring_place s.ring i) clock) m c)
   writes : (n key i : ℕ) (v : List ℕ) → Passed (write_asks s m c n key) → find_active s.places n ≡ Some i
       → Way m c s (write n key v) (write_step s m c i (new_head s c n key 0) v)
   erases : (n key i : ℕ) → Passed (write_asks s m c n key) → find_active s.places n ≡ Some i
       → Way m c s (erase n key) (write_step s m c i (new_head s c n key 1) (zeros 16))
-  looks : (k : Call) (a : Answer) (v b : List ℕ) → is_reading k ≡ true → Passed (asks m c s k) → is_refused a ≡ false
+  looks : (k : Call) (a : Result Answer Refusal) (v b : List ℕ) → is_reading k ≡ true → Passed (asks m c s k) → is_refused a ≡ false
       → length b ≡ length (given k) → Way m c s k (told a v b s m c)
   commits : (n clock i : ℕ) → Passed (commit_asks s m c n) → find_active s.places n ≡ Some i
       → eqb (place_at s.places i).waiting 0 ≡ false
       → Way m c s (commit n clock) (commit_step s m c i n (commit_time s i clock))
   ends : (n clock i : ℕ) → Passed (commit_asks s m c n) → find_active s.places n ≡ Some i
       → eqb (place_at s.places i).waiting 0 ≡ true
-      → Way m c s (commit n clock) (leaves Done (with_place s i free_place) m c)
+      → Way m c s (commit n clock) (leaves (Ok Done) (with_place s i free_place) m c)
   aborts : (n i : ℕ) → Passed (abort_asks s m c n) → find_active s.places n ≡ Some i
-      → Way m c s (abort n) (leaves Done (with_place s i free_place) m c)
+      → Way m c s (abort n) (leaves (Ok Done) (with_place s i free_place) m c)
   logs : Passed (store_log_asks s m c) → Way m c s store_log (store_log_if None s m c)
   pages : (p : ℕ) → Passed (store_page_asks s m c p) → Way m c s (store_page p) (store_page_if None s m c p)
   checks : (ph : Phase) → Passed (checkpoint_asks s m c) → s.phase ≡ ph
@@ -196,8 +195,8 @@ module _ (m c : List ℕ) (s : State) where
       → Way m c s k (read_cell x s m c)
   unfolding read_cell
   cell_way k x h b p =
-      cond_elim (Way m c s k) (eqb x.kind 1) (λ t. looks k Erased (zeros 16) [] h p refl (rw b))
-      (λ t. looks k Present x.value [] h p refl (rw b))
+      cond_elim (Way m c s k) (eqb x.kind 1) (λ t. looks k (Ok Erased) (zeros 16) [] h p refl (rw b))
+      (λ t. looks k (Ok Present) x.value [] h p refl (rw b))
 
   current_way : (n key : ℕ) → Way m c s (current_read n key) (current_of s m c n key)
   unfolding current_of current_if
@@ -207,7 +206,7 @@ module _ (m c : List ℕ) (s : State) where
       at (visible_of (newest c key s.slots) c (time_under s.places) n) p)
     where
       at : (f : Option ℕ) → Passed (current_asks s m c n key) → Way m c s (current_read n key) (current_at f s m c)
-      at None p = looks (current_read n key) Missing (zeros 16) [] refl p refl refl
+      at None p = looks (current_read n key) (Ok Missing) (zeros 16) [] refl p refl refl
       at (Some i) p = cell_way (current_read n key) (cell_at c i) refl refl p
 
   as_of_way : (key t : ℕ) → Way m c s (as_of key t) (as_of_of s m c key t)
@@ -218,7 +217,7 @@ module _ (m c : List ℕ) (s : State) where
       at (best_of (newest c key s.slots) c (time_under s.places) t) p)
     where
       at : (f : Option (ℕ × CommitTime)) → Passed (as_of_asks s m c key t) → Way m c s (as_of key t) (as_of_at f s m c)
-      at None p = looks (as_of key t) Missing (zeros 16) [] refl p refl refl
+      at None p = looks (as_of key t) (Ok Missing) (zeros 16) [] refl p refl refl
       at (Some (n, u)) p = cell_way (as_of key t) (cell_at c n) refl refl p
 
   commit_way : (n clock : ℕ) → Way m c s (commit n clock) (commit_of s m c n clock)
@@ -246,7 +245,7 @@ module _ (m c : List ℕ) (s : State) where
       let ls = change_lines s c key t1 t2 in
       asked (λ (a : Option Refusal). Way m c s (changes key t1 t2 b) (changes_if a s m c b ls))
       (changes_asks s m c key t1 t2 (length b)) (refused (changes key t1 t2 b)) (λ p.
-      looks (changes key t1 t2 b) (Listed (length ls)) (zeros 16) (splice b 0 (flat line_bytes ls)) refl p refl
+      looks (changes key t1 t2 b) (Ok (Listed (length ls))) (zeros 16) (splice b 0 (flat line_bytes ls)) refl p refl
       (length_splice b 0 (flat line_bytes ls)))
 
   store_log_way : Way m c s store_log (store_log_of s m c)

@@ -1,8 +1,9 @@
 -- A call that is not refused 16 leaves a state that fits. A refusal leaves all as it was, which fits since question 16
 -- was answered yes; a step changes only slots, tail, places and first changes, within the bounds that its questions
 -- ask.
+use Rattle.store.specs.declared.Answer.{Answer}
 use Rattle.layout.specs.declared.CommitTime.{CommitTime}
-use Rattle.std.specs.Prelude.{Some, Option, None}
+use Rattle.std.specs.Prelude.{Some, Option, None, Err, Result}
 use mathlib.Core.Path.{◌≡◌, refl, sym, ap, subst, ◌∙◌}
 use mathlib.Core.Bool.{Bool, true, false, ◌&&◌, ◌||◌}
 use mathlib.Core.List.{List, ◌∷◌}
@@ -29,7 +30,6 @@ use Rattle.store.specs.declared.Phase.{Phase}
 use Rattle.store.specs.declared.Phase.TheVariants.{Idle, FirstStored, SecondStored}
 use Rattle.store.specs.declared.Refusal.{Refusal}
 use Rattle.store.specs.declared.Refusal.TheVariants.{Unfit}
-use Rattle.store.specs.declared.Answer.TheVariants.{Refused}
 use Rattle.store.specs.declared.State.{State}
 use Rattle.store.specs.Answer.{Outcome, ask}
 use Rattle.store.specs.Places.{free_place, find_committed}
@@ -150,7 +150,7 @@ module _ (m c : List ℕ) (s : State) where
   pub passed_fit : (k : Call) → Passed (asks m c s k) → Fitting
   passed_fit k p = fit_of s _ _ (subst Passed (first_asked m c s k) p).0
 
-  pub refused_fit : (k : Call) (r : Refusal) → ask (asks m c s k) ≡ Some r → (Refused r ≡ Refused Unfit → ⊥) → Fitting
+  pub refused_fit : (k : Call) (r : Refusal) → ask (asks m c s k) ≡ Some r → (◌≡◌ {A = Result Answer Refusal} (Err r) (Err Unfit) → ⊥) → Fitting
   refused_fit k r e h =
       fit_of s _ _ (go (fits s (length m) (length c)) (drop 1 (asks m c s k)) (ap ask (sym (first_asked m c s k)) ∙ e))
     where
@@ -204,7 +204,7 @@ write_fits m c s i h v k a b = record {
 }
 
 leaves_way : {m c : List ℕ} {s : State} {k : Call} {o : Outcome} → Way m c s k o
-    → (o.answer ≡ Refused Unfit → ⊥) → Leaves o
+    → (o.answer ≡ Err Unfit → ⊥) → Leaves o
 unfolding begun commit_step committed store_log_if log_stored stored_tail store_page_if page_stored settled
     checkpoint_step record_size new_head bytes_of
 leaves_way {m} {c} {s} (refused k r w) h = refused_fit m c s k r w h
@@ -265,10 +265,10 @@ leaves_way {m} {c} {s} (checks (SecondStored o t) p w) h = phase_fits m c s _ 0 
 
 -- ---- each call
 
-pub call_leaves : (m c : List ℕ) (s : State) (k : Call) → ((called m c s k).answer ≡ Refused Unfit → ⊥)
+pub call_leaves : (m c : List ℕ) (s : State) (k : Call) → ((called m c s k).answer ≡ Err Unfit → ⊥)
     → Leaves (called m c s k)
 call_leaves m c s k h = leaves_way (way m c s k) h
 
-pub call_fits : (m c : List ℕ) (s : State) (k : Call) → ((called m c s k).answer ≡ Refused Unfit → ⊥)
+pub call_fits : (m c : List ℕ) (s : State) (k : Call) → ((called m c s k).answer ≡ Err Unfit → ⊥)
     → fits (called m c s k).state (length (called m c s k).medium) (length (called m c s k).cache) ≡ true
 call_fits m c s k h = fit_is _ _ _ (call_leaves m c s k h)

@@ -1,11 +1,12 @@
 -- Each event makes at most one store: a call leaves the medium alone or replaces one block (OneBlock), and openings and
 -- cuts leave it alone.
+use Rattle.store.specs.declared.Refusal.{Refusal}
+use Rattle.std.specs.Prelude.{Err, Ok, Result}
 use Prim.Native.Nat.{ℕ}
 use mathlib.Core.Path.{◌≡◌, refl, sym, subst}
 use mathlib.Core.List.{List, [], ◌∷◌}
 use Rattle.store.specs.declared.Answer.{Answer}
-use Rattle.store.specs.declared.Answer.TheVariants.{Refused, Done, Begun, Written, Committed, Opened, Missing, Erased}
-use Rattle.store.specs.declared.Answer.TheVariants.{Present, Listed}
+use Rattle.store.specs.declared.Answer.TheVariants.{Done, Begun, Written, Committed, Opened, Missing, Erased, Present, Listed}
 use Rattle.store.specs.Answer.{Outcome}
 use Rattle.store.specs.Open.{open_of}
 use Rattle.runs.specs.Event.{Event, opening, cut, call}
@@ -14,18 +15,18 @@ use Rattle.runs.specs.Relief.{OneStore, alone, replaced, OneEach}
 use Rattle.runs.proofs.OneBlock.{Stores, nothing, block, stores}
 use Rattle.runs.proofs.Refusals.{open_medium}
 
-opened_alone : (a : Answer) (w : World) (o : Outcome) → o.medium ≡ medium_of w
+opened_alone : (a : Result Answer Refusal) (w : World) (o : Outcome) → o.medium ≡ medium_of w
     → medium_of (opened_to a w o) ≡ medium_of w
-opened_alone (Refused r) w o e = refl
-opened_alone Done w o e = e
-opened_alone (Begun n) w o e = e
-opened_alone (Written k) w o e = e
-opened_alone (Committed t) w o e = e
-opened_alone (Opened t) w o e = e
-opened_alone Missing w o e = e
-opened_alone Erased w o e = e
-opened_alone Present w o e = e
-opened_alone (Listed k) w o e = e
+opened_alone (Err r) w o e = refl
+opened_alone (Ok Done) w o e = e
+opened_alone (Ok (Begun n)) w o e = e
+opened_alone (Ok (Written k)) w o e = e
+opened_alone (Ok (Committed t)) w o e = e
+opened_alone (Ok (Opened t)) w o e = e
+opened_alone (Ok Missing) w o e = e
+opened_alone (Ok Erased) w o e = e
+opened_alone (Ok Present) w o e = e
+opened_alone (Ok (Listed k)) w o e = e
 
 pub one_of : {m n : List ℕ} {k : ℕ} → Stores m k n → OneStore m n
 one_of {m = m} s = go s

@@ -1,6 +1,6 @@
 -- An accepted opening leaves a state that fits: its conditions give the ranges and the lengths, each page's used slots
 -- are at most 15 before redo and after every record applied, and the tail is a block that the conditions judge.
-use Rattle.std.specs.Prelude.{Option, Some, None}
+use Rattle.std.specs.Prelude.{Option, Some, None, Ok}
 use mathlib.Core.Path.{◌≡◌, refl, ap, ◌∙◌}
 use mathlib.Core.Bool.{Bool, true, false, cond, ◌&&◌}
 use mathlib.Core.List.{List, [], ◌∷◌, ◌++◌}
@@ -279,11 +279,11 @@ module _ (m : List ℕ) (l d : ℕ) (well : well_formed m l d ≡ true) where
 
 -- ---- an accepted opening
 
-pub open_fits : (m c : List ℕ) (l d : ℕ) (t : CommitTime) → (open_of m c l d).answer ≡ Opened t
+pub open_fits : (m c : List ℕ) (l d : ℕ) (t : CommitTime) → (open_of m c l d).answer ≡ Ok (Opened t)
     → fits (open_of m c l d).state (length m) (length (open_of m c l d).cache) ≡ true
 open_fits m c l d t e = go (opening_way m c l d) e
   where
-    go : {o : Outcome} → Opening m c l d o → o.answer ≡ Opened t → fits o.state (length m) (length o.cache) ≡ true
+    go : {o : Outcome} → Opening m c l d o → o.answer ≡ Ok (Opened t) → fits o.state (length m) (length o.cache) ≡ true
     go bad_sizes e = let z : ◌≡◌ {A = ℕ} 0 1 = cc in absurd (omega arith)
     go bad_cache e = let z : ◌≡◌ {A = ℕ} 0 1 = cc in absurd (omega arith)
     go malformed e = let z : ◌≡◌ {A = ℕ} 0 1 = cc in absurd (omega arith)

@@ -1,6 +1,6 @@
 -- What calls leave alone, for every state, medium and cache. Each claim is read off from the ways in which a call ends:
 -- a refusal leaves all as it was, and the steps of begin, abort, reads and lists write neither medium nor cache.
-use Rattle.std.specs.Prelude.{Option, Some}
+use Rattle.std.specs.Prelude.{Option, Some, Err, Ok}
 use Prim.Native.Nat.{ℕ}
 use native.Mathlib.Omega.{arith}
 use mathlib.Core.Path.{◌≡◌, refl, ◌∙◌}
@@ -10,7 +10,7 @@ use mathlib.Core.List.{List, [], ◌∷◌}
 use lib.ListN.{length}
 use lib.Dec.{eqb}
 use Rattle.fields.specs.Block.{zeros, medium_length, cache_length}
-use Rattle.store.specs.declared.Answer.TheVariants.{Refused, Opened}
+use Rattle.store.specs.declared.Answer.TheVariants.{Opened}
 use Rattle.store.specs.declared.Phase.TheVariants.{Idle, FirstStored, SecondStored}
 use Rattle.store.specs.declared.Refusal.{Refusal}
 use Rattle.store.specs.declared.Refusal.TheVariants.{BadSizes, BadCache, Malformed}
@@ -45,7 +45,7 @@ pub record Untouched (m c b : List ℕ) (s : State) (o : Outcome) : Type 0 where
 
 -- refused by the first "no", or all questions passed
 data Ended (m c : List ℕ) (s : State) (k : Call) (o : Outcome) : Type 0 where
-  by_no : (r : Refusal) → ask (asks m c s k) ≡ Some r → o.answer ≡ Refused r → Untouched m c (given k) s o
+  by_no : (r : Refusal) → ask (asks m c s k) ≡ Some r → o.answer ≡ Err r → Untouched m c (given k) s o
       → Ended m c s k o
   by_step : Passed (asks m c s k) → is_refused o.answer ≡ false → Ended m c s k o
 
@@ -68,7 +68,7 @@ ended (checks (SecondStored n t) p w) = by_step p refl
 
 module _ (m c : List ℕ) (s : State) (k : Call) (r : Refusal) where
   -- 01: "on "no", this number with zeros, all buffers unchanged"
-  pub refusal_leaves : (called m c s k).answer ≡ Refused r → Untouched m c (given k) s (called m c s k)
+  pub refusal_leaves : (called m c s k).answer ≡ Err r → Untouched m c (given k) s (called m c s k)
   refusal_leaves e = go (ended (way m c s k))
     where
       go : Ended m c s k (called m c s k) → Untouched m c (given k) s (called m c s k)
@@ -76,7 +76,7 @@ module _ (m c : List ℕ) (s : State) (k : Call) (r : Refusal) where
       go (by_step p n) = not_refused n e
 
   -- a call is refused by the first "no" of its questions
-  pub refusal_asked : (called m c s k).answer ≡ Refused r → ask (asks m c s k) ≡ Some r
+  pub refusal_asked : (called m c s k).answer ≡ Err r → ask (asks m c s k) ≡ Some r
   refusal_asked e = go (ended (way m c s k))
     where
       go : Ended m c s k (called m c s k) → ask (asks m c s k) ≡ Some r
@@ -84,10 +84,10 @@ module _ (m c : List ℕ) (s : State) (k : Call) (r : Refusal) where
       go (by_step p n) = not_refused n e
 
   -- and whenever there is one
-  pub asked_refused : ask (asks m c s k) ≡ Some r → (called m c s k).answer ≡ Refused r
+  pub asked_refused : ask (asks m c s k) ≡ Some r → (called m c s k).answer ≡ Err r
   asked_refused e = go (ended (way m c s k))
     where
-      go : Ended m c s k (called m c s k) → (called m c s k).answer ≡ Refused r
+      go : Ended m c s k (called m c s k) → (called m c s k).answer ≡ Err r
       go (by_no q w a u) = let h : q ≡ r = cc in rw h at a
       go (by_step p n) = let h = passes (asks m c s k) p in let z : ◌≡◌ {A = ℕ} 0 1 = cc in absurd (omega arith)
 
@@ -153,7 +153,7 @@ pub data Opening (m c : List ℕ) (l d : ℕ) : Outcome → Type 0 where
   bad_cache : Opening m c l d (refuses BadCache no_state m c)
   malformed : Opening m c l d (refuses Malformed no_state m (zeros (length c)))
   opened : Passed (open_asks m c l d)
-      → Opening m c l d (leaves (Opened (record { 0 = last_time m l })) (opened_state m l d) m (redone m l d).cache)
+      → Opening m c l d (leaves (Ok (Opened (record { 0 = last_time m l }))) (opened_state m l d) m (redone m l d).cache)
 
 pub opening_way : (m c : List ℕ) (l d : ℕ) → Opening m c l d (open_of m c l d)
 unfolding open_of open_if refused_cache refusal_number
@@ -177,7 +177,7 @@ pub record Unopened (m c : List ℕ) (r : Refusal) (o : Outcome) : Type 0 where
   pub buffer : o.buffer ≡ []
   pub value : o.value ≡ zeros 16
 
-pub open_refusal_leaves : (m c : List ℕ) (l d : ℕ) (r : Refusal) → (open_of m c l d).answer ≡ Refused r
+pub open_refusal_leaves : (m c : List ℕ) (l d : ℕ) (r : Refusal) → (open_of m c l d).answer ≡ Err r
     → Unopened m c r (open_of m c l d)
 open_refusal_leaves m c l d r e = go (opening_way m c l d) e
   where
@@ -191,7 +191,7 @@ open_refusal_leaves m c l d r e = go (opening_way m c l d) e
       value = refl;
     }
 
-    go : {o : Outcome} → Opening m c l d o → o.answer ≡ Refused r → Unopened m c r o
+    go : {o : Outcome} → Opening m c l d o → o.answer ≡ Err r → Unopened m c r o
     go bad_sizes e = early BadSizes (λ k. let z : ◌≡◌ {A = ℕ} 0 1 = cc in omega arith) (cc)
     go bad_cache e = early BadCache (λ k. let z : ◌≡◌ {A = ℕ} 0 1 = cc in omega arith) (cc)
     go malformed e = record {
@@ -216,9 +216,9 @@ open_medium m c l d = go (opening_way m c l d)
 
 -- ---- formatting
 
-pub format_refusal_leaves : (m : List ℕ) (l d : ℕ) (r : Refusal) → (format_of m l d).answer ≡ Refused r
+pub format_refusal_leaves : (m : List ℕ) (l d : ℕ) (r : Refusal) → (format_of m l d).answer ≡ Err r
     → (format_of m l d).medium ≡ m
 unfolding format_of format_if
 format_refusal_leaves m l d r =
-    asked (λ (a : Option Refusal). (format_if a m l d).answer ≡ Refused r → (format_if a m l d).medium ≡ m)
+    asked (λ (a : Option Refusal). (format_if a m l d).answer ≡ Err r → (format_if a m l d).medium ≡ m)
     (format_asks m l d) (λ q w e. refl) (λ p e. not_refused refl e)

@@ -2,7 +2,7 @@
 -- record and of a slot, and what opening judges and finds by them. Whatever reads neither a record nor a record number
 -- is the store's own, and so is the writer of a slot.
 use Rattle.layout.specs.declared.CommitTime.{CommitTime}
-use Rattle.std.specs.Prelude.{ℕ, zero, suc, ◌+◌, ◌-◌, ◌*◌, ◌^◌, ◌<◌, max, ◌≡◌, Bool, true, false, cond, not, ◌&&◌, ◌||◌, Option, None, Some}
+use Rattle.std.specs.Prelude.{ℕ, zero, suc, ◌+◌, ◌-◌, ◌*◌, ◌^◌, ◌<◌, max, ◌≡◌, Bool, true, false, cond, not, ◌&&◌, ◌||◌, Option, None, Some, Ok}
 use Rattle.std.specs.Prelude.{List, [], ◌∷◌, ◌++◌, length, get_or, drop, eqb, leb, ltb}
 use Rattle.fields.specs.Field.{dec}
 use Rattle.fields.specs.Part.{part}
@@ -258,7 +258,7 @@ asks_before m c l d =
 unfoldable pub open_if_before : Option Refusal → List ℕ → List ℕ → ℕ → ℕ → Outcome
 open_if_before (Some r) m c l d = refuses r no_state m (refused_cache r c)
 open_if_before None m c l d =
-    leaves (Opened (record { 0 = last_before m l })) (state_before m l d) m (redone_before m l d).cache
+    leaves (Ok (Opened (record { 0 = last_before m l }))) (state_before m l d) m (redone_before m l d).cache
 
 -- 01: "In this order, those that fit the call": opening's outcome, as it was
 unfoldable pub open_before : List ℕ → List ℕ → ℕ → ℕ → Outcome

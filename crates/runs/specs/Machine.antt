@@ -1,12 +1,12 @@
 -- The room as a machine: the medium, and while it is open the cache and the state. Each step is by the definitions of
 -- the calls.
+use Rattle.store.specs.declared.Refusal.{Refusal}
 use Rattle.layout.specs.declared.CommitTime.{CommitTime}
-use Rattle.std.specs.Prelude.{ℕ, zero, suc, ◌+◌, ◌*◌, Bool, true, false, not, ◌&&◌, List, [], ◌∷◌, Option, None, Some}
+use Rattle.std.specs.Prelude.{ℕ, zero, suc, ◌+◌, ◌*◌, Bool, true, false, not, ◌&&◌, List, [], ◌∷◌, Option, None, Some, Err, Ok, Result}
 use Rattle.fields.specs.Part.{part}
 use Rattle.fields.specs.Equal.{eq_list}
 use Rattle.store.specs.declared.Answer.{Answer}
-use Rattle.store.specs.declared.Answer.TheVariants.{Refused, Done, Begun, Written, Committed, Opened, Missing, Erased}
-use Rattle.store.specs.declared.Answer.TheVariants.{Present, Listed}
+use Rattle.store.specs.declared.Answer.TheVariants.{Done, Begun, Written, Committed, Opened, Missing, Erased, Present, Listed}
 use Rattle.store.specs.declared.Place.{Place}
 use Rattle.store.specs.declared.State.{State}
 use Rattle.store.specs.Answer.{Outcome, answer_number, answer_value}
@@ -45,17 +45,17 @@ medium_of (down m) = m
 medium_of (up m c s) = m
 
 -- 01: "none or erased are results": what a read's answer says
-abbrev pub strip_of : Answer → List ℕ → Strip
-strip_of (Refused r) v = missing
-strip_of Done v = missing
-strip_of (Begun n) v = missing
-strip_of (Written k) v = missing
-strip_of (Committed t) v = missing
-strip_of (Opened t) v = missing
-strip_of Missing v = missing
-strip_of Erased v = erased
-strip_of Present v = present v
-strip_of (Listed k) v = missing
+abbrev pub strip_of : Result Answer Refusal → List ℕ → Strip
+strip_of (Err r) v = missing
+strip_of (Ok Done) v = missing
+strip_of (Ok (Begun n)) v = missing
+strip_of (Ok (Written k)) v = missing
+strip_of (Ok (Committed t)) v = missing
+strip_of (Ok (Opened t)) v = missing
+strip_of (Ok Missing) v = missing
+strip_of (Ok Erased) v = erased
+strip_of (Ok Present) v = present v
+strip_of (Ok (Listed k)) v = missing
 
 -- 01: "its time or none": a version's time, if it has one
 abbrev pub time_in : Option CommitTime → Option ℕ
@@ -110,17 +110,17 @@ abbrev pub after : Outcome → World
 after o = up o.medium o.cache o.state
 
 -- 01: "if of wrong length, it is refused 2 and the run goes on as it stood": so with any refused opening
-abbrev pub opened_to : Answer → World → Outcome → World
-opened_to (Refused r) w o = w
-opened_to Done w o = after o
-opened_to (Begun n) w o = after o
-opened_to (Written k) w o = after o
-opened_to (Committed t) w o = after o
-opened_to (Opened t) w o = after o
-opened_to Missing w o = after o
-opened_to Erased w o = after o
-opened_to Present w o = after o
-opened_to (Listed k) w o = after o
+abbrev pub opened_to : Result Answer Refusal → World → Outcome → World
+opened_to (Err r) w o = w
+opened_to (Ok Done) w o = after o
+opened_to (Ok (Begun n)) w o = after o
+opened_to (Ok (Written k)) w o = after o
+opened_to (Ok (Committed t)) w o = after o
+opened_to (Ok (Opened t)) w o = after o
+opened_to (Ok Missing) w o = after o
+opened_to (Ok Erased) w o = after o
+opened_to (Ok Present) w o = after o
+opened_to (Ok (Listed k)) w o = after o
 
 -- 01: "it falls between calls": what is seen of a cut, and of a call while the store is shut: the number r alone
 unfoldable pub quiet : ℕ → Observation

@@ -1,5 +1,7 @@
 -- A call made by the code is a step of the play, and its number is that of its answer; a play begins on the store that
 -- a script finds.
+use Rattle.store.specs.declared.Refusal.{Refusal}
+use Rattle.std.specs.Prelude.{Result}
 use mathlib.Core.Path.{◌≡◌, sym, ap, ◌∙◌}
 use mathlib.Core.Bool.{Bool, true, false, cond}
 use mathlib.Core.List.{List, ◌∷◌}
@@ -27,7 +29,7 @@ use Rattle.shortest.specs.Kept.{calls_in}
 use Rattle.shortest.proofs.ChoiceLaws.{pick_yes, pick_no}
 
 -- k is the letter of the call, n the number of its answer
-module _ (call : Call) (s : State) (m c : List ℕ) (k n : ℕ) (a : Answer) (p : k ≡ letter_of call)
+module _ (call : Call) (s : State) (m c : List ℕ) (k n : ℕ) (a : Result Answer Refusal) (p : k ≡ letter_of call)
     (g : n ≡ answer_number a) where
   pub query_made : (v : List ℕ) → k ≡ 81 → reads a v s m c ≡ query_of call s m c
       → made (world s m c) n ≡ made_of (world s m c) call

@@ -1,6 +1,7 @@
 -- What `stripbook` prints for lines: nothing from the first of another form on, and last the line of the last call,
 -- with the number that the calls end in.
-use Rattle.std.specs.Prelude.{Option, None}
+use Rattle.store.specs.declared.Refusal.{Refusal}
+use Rattle.std.specs.Prelude.{Option, None, Err, Ok, Result}
 use mathlib.Core.Path.{◌≡◌, refl, sym, ap, ◌∙◌}
 use mathlib.Core.Bool.{Bool, true, false, cond}
 use mathlib.Core.List.{List, [], ◌∷◌, ◌++◌, append-nil, append_assoc}
@@ -10,8 +11,7 @@ use borrow.Author.Tests.{eqb-true, eqb-false, ne_eqb}
 use lib.ListN.{length, get_or}
 use lib.Dec.{eqb, ltb}
 use Rattle.store.specs.declared.Answer.{Answer}
-use Rattle.store.specs.declared.Answer.TheVariants.{Refused, Done, Begun, Written, Committed, Opened}
-use Rattle.store.specs.declared.Answer.TheVariants.{Missing, Erased, Present, Listed}
+use Rattle.store.specs.declared.Answer.TheVariants.{Done, Begun, Written, Committed, Opened, Missing, Erased, Present, Listed}
 use Rattle.store.specs.Answer.{answer_number}
 use Rattle.script.specs.Words.{ahead, lines_of}
 use Rattle.script.specs.Run.{Step, followed, prints_from}
@@ -110,18 +110,18 @@ prints_script (l ∷ ls) w =
     ∙ ap (then (script_of ls)) (sym g)))
 
 -- a refusal has no result
-refused_dash : (a : Answer) (b : ℕ) → (answer_number a ≡ 0 → ⊥) → result_of a b ≡ None
+refused_dash : (a : Result Answer Refusal) (b : ℕ) → (answer_number a ≡ 0 → ⊥) → result_of a b ≡ None
 unfolding answer_number result_of
-refused_dash (Refused r) b h = refl
-refused_dash Done b h = refl
-refused_dash (Begun n) b h = absurd (h refl)
-refused_dash (Written k) b h = absurd (h refl)
-refused_dash (Committed t) b h = absurd (h refl)
-refused_dash (Opened t) b h = absurd (h refl)
-refused_dash Missing b h = refl
-refused_dash Erased b h = refl
-refused_dash Present b h = absurd (h refl)
-refused_dash (Listed k) b h = absurd (h refl)
+refused_dash (Err r) b h = refl
+refused_dash (Ok Done) b h = refl
+refused_dash (Ok (Begun n)) b h = absurd (h refl)
+refused_dash (Ok (Written k)) b h = absurd (h refl)
+refused_dash (Ok (Committed t)) b h = absurd (h refl)
+refused_dash (Ok (Opened t)) b h = absurd (h refl)
+refused_dash (Ok Missing) b h = refl
+refused_dash (Ok Erased) b h = refl
+refused_dash (Ok Present) b h = absurd (h refl)
+refused_dash (Ok (Listed k)) b h = absurd (h refl)
 
 -- the letter of the last line
 unfoldable pub last_letter : List (List ℕ) → ℕ

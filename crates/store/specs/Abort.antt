@@ -1,5 +1,5 @@
 -- Abort.
-use Rattle.std.specs.Prelude.{ℕ, Bool, List, [], ◌∷◌, length, Option, None, Some}
+use Rattle.std.specs.Prelude.{ℕ, Bool, List, [], ◌∷◌, length, Option, None, Some, Ok}
 use Rattle.store.specs.declared.Refusal.{Refusal}
 use Rattle.store.specs.declared.Refusal.TheVariants.{Unfit, NotActive}
 use Rattle.store.specs.declared.Answer.TheVariants.{Done}
@@ -15,7 +15,7 @@ abort_asks s m c n = (fits s (length m) (length c), Unfit) ∷ (is_at (find_acti
 -- 01: "Abort writes nothing": the place is free, and the versions wait under a number that is not live
 abbrev pub abort_at : Option ℕ → State → List ℕ → List ℕ → Outcome
 abort_at None s m c = refuses NotActive s m c
-abort_at (Some i) s m c = leaves Done (with_place s i free_place) m c
+abort_at (Some i) s m c = leaves (Ok Done) (with_place s i free_place) m c
 
 -- 01: "on "no", this number with zeros": abort refused, or done at the number's place
 unfoldable pub abort_if : Option Refusal → State → List ℕ → List ℕ → ℕ → Outcome

@@ -1,10 +1,10 @@
 -- Answers and refusals in 01's numbers, what a call leaves, and how its questions are put.
-use Rattle.std.specs.Prelude.{ℕ, Bool, cond, List, [], ◌∷◌, Option, None, Some}
+use Rattle.std.specs.Prelude.{ℕ, Bool, cond, List, [], ◌∷◌, Option, None, Some, Err, Ok, Result}
 use Rattle.fields.specs.Block.{zeros}
 use Rattle.store.specs.declared.Refusal.{Refusal}
 use Rattle.store.specs.declared.Refusal.TheVariants.{BadSizes, BadCache, Malformed, NoPlace, NotActive, Held, NoSlot, LogFull, NoTime, NotYet, NoPage, NotLogged, Unchanged, ShortBuffer, NoNumber, Unfit, NoRecord}
 use Rattle.store.specs.declared.Answer.{Answer}
-use Rattle.store.specs.declared.Answer.TheVariants.{Refused, Done, Begun, Written, Committed, Opened, Missing, Erased, Present, Listed}
+use Rattle.store.specs.declared.Answer.TheVariants.{Done, Begun, Written, Committed, Opened, Missing, Erased, Present, Listed}
 use Rattle.store.specs.declared.State.{State}
 
 -- 01, 'Questions put to a call': the number behind each question; 02, #104: "18, is the record number below 1,024?"
@@ -28,35 +28,35 @@ refusal_number Unfit = 16
 refusal_number NoRecord = 18
 
 -- 01: "a definition gives this paper's number and values for every case": 0, or the refusal's number
-unfoldable pub answer_number : Answer → ℕ
-answer_number (Refused r) = refusal_number r
-answer_number Done = 0
-answer_number (Begun n) = 0
-answer_number (Written s) = 0
-answer_number (Committed t) = 0
-answer_number (Opened t) = 0
-answer_number Missing = 0
-answer_number Erased = 0
-answer_number Present = 0
-answer_number (Listed k) = 0
+unfoldable pub answer_number : Result Answer Refusal → ℕ
+answer_number (Err r) = refusal_number r
+answer_number (Ok Done) = 0
+answer_number (Ok (Begun n)) = 0
+answer_number (Ok (Written s)) = 0
+answer_number (Ok (Committed t)) = 0
+answer_number (Ok (Opened t)) = 0
+answer_number (Ok Missing) = 0
+answer_number (Ok Erased) = 0
+answer_number (Ok Present) = 0
+answer_number (Ok (Listed k)) = 0
 
 -- 01: "this paper's number and values for every case": the number, slot, time or count, 0 where there is none
-unfoldable pub answer_value : Answer → ℕ
-answer_value (Refused r) = 0
-answer_value Done = 0
-answer_value (Begun n) = n.0
-answer_value (Written s) = s
-answer_value (Committed t) = t.0
-answer_value (Opened t) = t.0
-answer_value Missing = 0
-answer_value Erased = 0
-answer_value Present = 0
-answer_value (Listed k) = k
+unfoldable pub answer_value : Result Answer Refusal → ℕ
+answer_value (Err r) = 0
+answer_value (Ok Done) = 0
+answer_value (Ok (Begun n)) = n.0
+answer_value (Ok (Written s)) = s
+answer_value (Ok (Committed t)) = t.0
+answer_value (Ok (Opened t)) = t.0
+answer_value (Ok Missing) = 0
+answer_value (Ok Erased) = 0
+answer_value (Ok Present) = 0
+answer_value (Ok (Listed k)) = k
 
 -- 01: "the statement about a call fixes result, state, medium and cache": all that a call leaves, with the 16 bytes
 -- beside a read's answer (zeros for any other) and the answer buffer
 pub record Outcome : Type 0 where
-  pub answer : Answer
+  pub answer : Result Answer Refusal
   pub value : List ℕ
   pub state : State
   pub medium : List ℕ
@@ -64,12 +64,12 @@ pub record Outcome : Type 0 where
   pub buffer : List ℕ
 
 -- 01: "fixes result, state, medium and cache": these four, for a call with neither a value nor an answer buffer
-abbrev pub leaves : Answer → State → List ℕ → List ℕ → Outcome
+abbrev pub leaves : Result Answer Refusal → State → List ℕ → List ℕ → Outcome
 leaves a s m c = record { answer = a; value = zeros 16; state = s; medium = m; cache = c; buffer = [] }
 
 -- 01: "on "no", this number with zeros, all buffers unchanged"
 abbrev pub refuses : Refusal → State → List ℕ → List ℕ → Outcome
-refuses r s m c = leaves (Refused r) s m c
+refuses r s m c = leaves (Err r) s m c
 
 -- 01: "In this order, those that fit the call": each question with its refusal, and the first "no"
 abbrev pub ask : List (Bool × Refusal) → Option Refusal

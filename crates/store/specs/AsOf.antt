@@ -1,6 +1,6 @@
 -- Read as of a time.
 use Rattle.layout.specs.declared.CommitTime.{CommitTime}
-use Rattle.std.specs.Prelude.{ℕ, Bool, List, [], ◌∷◌, length, leb, Option, None, Some}
+use Rattle.std.specs.Prelude.{ℕ, Bool, List, [], ◌∷◌, length, leb, Option, None, Some, Ok}
 use Rattle.fields.specs.Block.{zeros}
 use Rattle.layout.specs.Slot.{key_form}
 use Rattle.store.specs.declared.Refusal.{Refusal}
@@ -21,7 +21,7 @@ as_of_asks s m c key t =
 
 -- 01: "As of t: the committed version .. none or erased are results": what the version found says, or missing
 abbrev pub as_of_at : Option (ℕ × CommitTime) → State → List ℕ → List ℕ → Outcome
-as_of_at None s m c = reads Missing (zeros 16) s m c
+as_of_at None s m c = reads (Ok Missing) (zeros 16) s m c
 as_of_at (Some (n, t)) s m c = read_cell (cell_at c n) s m c
 
 -- 01: "on "no", this number with zeros": refused, or the search from the record's newest version

@@ -1,5 +1,5 @@
 -- Begin.
-use Rattle.std.specs.Prelude.{ℕ, ◌+◌, ◌-◌, ◌%◌, ◌^◌, Bool, List, [], ◌∷◌, length, set, ltb, Option, None, Some}
+use Rattle.std.specs.Prelude.{ℕ, ◌+◌, ◌-◌, ◌%◌, ◌^◌, Bool, List, [], ◌∷◌, length, set, ltb, Option, None, Some, Ok}
 use Rattle.store.specs.declared.Life.TheVariants.{Active}
 use Rattle.store.specs.declared.Refusal.{Refusal}
 use Rattle.store.specs.declared.Refusal.TheVariants.{Unfit, NoNumber, NoPlace}
@@ -37,7 +37,7 @@ begun s i clock = record {
 -- 01: "takes the first free place": the outcome once the place is known
 abbrev pub begin_at : Option ℕ → State → List ℕ → List ℕ → ℕ → Outcome
 begin_at None s m c clock = refuses NoPlace s m c
-begin_at (Some k) s m c clock = leaves (Begun s.next) (begun s (ring_place s.ring k) clock) m c
+begin_at (Some k) s m c clock = leaves (Ok (Begun s.next)) (begun s (ring_place s.ring k) clock) m c
 
 -- 01: "on "no", this number with zeros": begin refused, or done at the place found
 unfoldable pub begin_if : Option Refusal → State → List ℕ → List ℕ → ℕ → Outcome

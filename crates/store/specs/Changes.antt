@@ -1,6 +1,6 @@
 -- List of changes.
 use Rattle.layout.specs.declared.CommitTime.{CommitTime}
-use Rattle.std.specs.Prelude.{ℕ, zero, suc, ◌*◌, Bool, true, cond, not, ◌&&◌, List, [], ◌∷◌, ◌++◌, length, eqb, leb, ltb, Option, None, Some}
+use Rattle.std.specs.Prelude.{ℕ, zero, suc, ◌*◌, Bool, true, cond, not, ◌&&◌, List, [], ◌∷◌, ◌++◌, length, eqb, leb, ltb, Option, None, Some, Err, Ok}
 use Rattle.fields.specs.Field.{enc}
 use Rattle.fields.specs.Part.{splice}
 use Rattle.fields.specs.Equal.{eq_list}
@@ -9,7 +9,7 @@ use Rattle.fields.specs.Cells.{flat}
 use Rattle.layout.specs.Slot.{Cell, key_form}
 use Rattle.store.specs.declared.Refusal.{Refusal}
 use Rattle.store.specs.declared.Refusal.TheVariants.{Unfit, NoRecord, NotYet, ShortBuffer}
-use Rattle.store.specs.declared.Answer.TheVariants.{Refused, Listed}
+use Rattle.store.specs.declared.Answer.TheVariants.{Listed}
 use Rattle.store.specs.declared.State.{State}
 use Rattle.store.specs.Answer.{Outcome, ask}
 use Rattle.store.specs.Places.{time_under}
@@ -75,9 +75,9 @@ changes_asks s m c key t1 t2 room =
 -- 01: "The answer is the number of lines", "bytes after the list stay unchanged"
 unfoldable pub changes_if : Option Refusal → State → List ℕ → List ℕ → List ℕ → List Line → Outcome
 changes_if (Some r) s m c b ls =
-    record { answer = Refused r; value = zeros 16; state = s; medium = m; cache = c; buffer = b }
+    record { answer = Err r; value = zeros 16; state = s; medium = m; cache = c; buffer = b }
 changes_if None s m c b ls =
-    record { answer = Listed (length ls); value = zeros 16; state = s; medium = m; cache = c; buffer = splice b 0 (flat line_bytes ls) }
+    record { answer = Ok (Listed (length ls)); value = zeros 16; state = s; medium = m; cache = c; buffer = splice b 0 (flat line_bytes ls) }
 
 -- 01: "In this order, those that fit the call": the outcome of a list of changes, its first "no" or its lines
 unfoldable pub changes_of : State → List ℕ → List ℕ → List ℕ → ℕ → ℕ → ℕ → Outcome

@@ -1,5 +1,5 @@
 -- Checkpoint: one entry, called three times.
-use Rattle.std.specs.Prelude.{ℕ, zero, suc, ◌+◌, ◌*◌, min, Bool, cond, List, [], ◌∷◌, length, take, eqb, leb, Option, None, Some}
+use Rattle.std.specs.Prelude.{ℕ, zero, suc, ◌+◌, ◌*◌, min, Bool, cond, List, [], ◌∷◌, length, take, eqb, leb, Option, None, Some, Ok}
 use Rattle.fields.specs.Block.{put}
 use Rattle.fields.specs.Cells.{flat}
 use Rattle.layout.specs.Table.{pair_bytes}
@@ -55,11 +55,11 @@ table_block ps o i = flat pair_bytes (pairs_from ps o i 32)
 -- when the checkpoint began"
 unfoldable pub checkpoint_step : Phase → State → List ℕ → List ℕ → Outcome
 checkpoint_step Idle s m c =
-    leaves Done (with_phase s (FirstStored (new_oldest s) s.saved)) (put m 1 (table_block s.places (new_oldest s) 0)) c
+    leaves (Ok Done) (with_phase s (FirstStored (new_oldest s) s.saved)) (put m 1 (table_block s.places (new_oldest s) 0)) c
 checkpoint_step (FirstStored o t) s m c =
-    leaves Done (with_phase s (SecondStored o t)) (put m 2 (table_block s.places o 32)) c
+    leaves (Ok Done) (with_phase s (SecondStored o t)) (put m 2 (table_block s.places o 32)) c
 checkpoint_step (SecondStored o t) s m c =
-    leaves Done (with_phase s Idle)
+    leaves (Ok Done) (with_phase s Idle)
     (put m 0 (master_bytes (record { blocks = s.blocks; pages = s.pages; oldest = o; next = s.next; last = t }))) c
 
 -- 01: "on "no", this number with zeros": a checkpoint call refused, or the next of its three stores

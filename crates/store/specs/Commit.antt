@@ -1,5 +1,5 @@
 -- Commit.
-use Rattle.std.specs.Prelude.{ℕ, ◌+◌, ◌-◌, ◌^◌, max, Bool, true, cond, ◌||◌, List, [], ◌∷◌, length, set, eqb, ltb, Option, None, Some}
+use Rattle.std.specs.Prelude.{ℕ, ◌+◌, ◌-◌, ◌^◌, max, Bool, true, cond, ◌||◌, List, [], ◌∷◌, length, set, eqb, ltb, Option, None, Some, Ok}
 use Rattle.layout.specs.Journal.{commit}
 use Rattle.layout.specs.declared.CommitTime.{CommitTime}
 use Rattle.store.specs.declared.Life.TheVariants.{Committed as CommittedLife}
@@ -56,13 +56,13 @@ committed s i n t g = record {
 unfoldable pub commit_step : State → List ℕ → List ℕ → ℕ → ℕ → CommitTime → Outcome
 commit_step s m c i n t =
     let g = logged s m (commit (record { number = record { 0 = n }; time = t })) in
-    leaves (Committed t) (committed s i n t g) g.medium c
+    leaves (Ok (Committed t)) (committed s i n t g) g.medium c
 
 -- 01: "A transaction without versions ends with answer 0, no record, no time"
 abbrev pub commit_at : Option ℕ → State → List ℕ → List ℕ → ℕ → ℕ → Outcome
 commit_at None s m c n clock = refuses NotActive s m c
 commit_at (Some i) s m c n clock =
-    cond (eqb (place_at s.places i).waiting 0) (leaves Done (with_place s i free_place) m c)
+    cond (eqb (place_at s.places i).waiting 0) (leaves (Ok Done) (with_place s i free_place) m c)
     (commit_step s m c i n (commit_time s i clock))
 
 -- 01: "on "no", this number with zeros": commit refused, or done at the number's place

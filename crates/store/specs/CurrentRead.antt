@@ -1,5 +1,5 @@
 -- Current read.
-use Rattle.std.specs.Prelude.{ℕ, Bool, cond, not, List, [], ◌∷◌, length, eqb, Option, None, Some}
+use Rattle.std.specs.Prelude.{ℕ, Bool, cond, not, List, [], ◌∷◌, length, eqb, Option, None, Some, Ok, Result}
 use Rattle.fields.specs.Block.{zeros}
 use Rattle.layout.specs.Slot.{Cell, key_form}
 use Rattle.store.specs.declared.Refusal.{Refusal}
@@ -23,16 +23,16 @@ current_asks s m c n key =
     ∷ []
 
 -- 01: "fixes result, state, medium and cache": a read's answer and the value beside it; the other three stay
-abbrev pub reads : Answer → List ℕ → State → List ℕ → List ℕ → Outcome
+abbrev pub reads : Result Answer Refusal → List ℕ → State → List ℕ → List ℕ → Outcome
 reads a value s m c = record { answer = a; value = value; state = s; medium = m; cache = c; buffer = [] }
 
 -- 01: "none or erased are results": what a version says
 unfoldable pub read_cell : Cell → State → List ℕ → List ℕ → Outcome
-read_cell v s m c = cond (eqb v.kind 1) (reads Erased (zeros 16) s m c) (reads Present v.value s m c)
+read_cell v s m c = cond (eqb v.kind 1) (reads (Ok Erased) (zeros 16) s m c) (reads (Ok Present) v.value s m c)
 
 -- 01: "none or erased are results": what the version found says, or missing
 abbrev pub current_at : Option ℕ → State → List ℕ → List ℕ → Outcome
-current_at None s m c = reads Missing (zeros 16) s m c
+current_at None s m c = reads (Ok Missing) (zeros 16) s m c
 current_at (Some i) s m c = read_cell (cell_at c i) s m c
 
 -- 01: "on "no", this number with zeros": refused, or the search from the record's newest version

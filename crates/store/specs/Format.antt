@@ -1,17 +1,17 @@
 -- Format.
-use Rattle.std.specs.Prelude.{ℕ, ◌+◌, ◌*◌, Bool, ◌&&◌, List, [], ◌∷◌, ◌++◌, length, eqb, Option, None, Some}
+use Rattle.std.specs.Prelude.{ℕ, ◌+◌, ◌*◌, Bool, ◌&&◌, List, [], ◌∷◌, ◌++◌, length, eqb, Option, None, Some, Err, Ok, Result}
 use Rattle.fields.specs.Block.{zeros, medium_length}
 use Rattle.layout.specs.Master.{master_bytes}
 use Rattle.store.specs.declared.Refusal.{Refusal}
 use Rattle.store.specs.declared.Refusal.TheVariants.{BadSizes}
 use Rattle.store.specs.declared.Answer.{Answer}
-use Rattle.store.specs.declared.Answer.TheVariants.{Refused, Done}
+use Rattle.store.specs.declared.Answer.TheVariants.{Done}
 use Rattle.store.specs.Answer.{ask}
 use Rattle.store.specs.State.{in_range}
 
 -- 01: "Formatting .. starts a new history": what it leaves; it has neither state nor cache
 pub record Formatted : Type 0 where
-  pub answer : Answer
+  pub answer : Result Answer Refusal
   pub medium : List ℕ
 
 -- 01: "L, D (the caller's) in range, medium length right? 1"
@@ -26,8 +26,8 @@ fresh_medium l d =
 
 -- 01: "on "no", this number with zeros, all buffers unchanged": refused, or the fresh medium
 unfoldable pub format_if : Option Refusal → List ℕ → ℕ → ℕ → Formatted
-format_if (Some r) m l d = record { answer = Refused r; medium = m }
-format_if None m l d = record { answer = Done; medium = fresh_medium l d }
+format_if (Some r) m l d = record { answer = Err r; medium = m }
+format_if None m l d = record { answer = Ok Done; medium = fresh_medium l d }
 
 -- 01: "In this order, those that fit the call": formatting's outcome, its first "no" or the fresh medium
 unfoldable pub format_of : List ℕ → ℕ → ℕ → Formatted

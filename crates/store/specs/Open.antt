@@ -1,5 +1,5 @@
 -- Open.
-use Rattle.std.specs.Prelude.{ℕ, ◌*◌, Bool, cond, ◌&&◌, List, [], ◌∷◌, length, eqb, Option, None, Some}
+use Rattle.std.specs.Prelude.{ℕ, ◌*◌, Bool, cond, ◌&&◌, List, [], ◌∷◌, length, eqb, Option, None, Some, Ok}
 use Rattle.fields.specs.Block.{zeros, medium_length, cache_length}
 use Rattle.store.specs.declared.Phase.TheVariants.{Idle}
 use Rattle.store.specs.declared.Refusal.{Refusal}
@@ -46,7 +46,7 @@ refused_cache r c = cond (eqb (refusal_number r) 3) (zeros (length c)) c
 unfoldable pub open_if : Option Refusal → List ℕ → List ℕ → ℕ → ℕ → Outcome
 open_if (Some r) m c l d = refuses r no_state m (refused_cache r c)
 open_if None m c l d =
-    leaves (Opened (record { 0 = last_time m l })) (opened_state m l d) m (redone m l d).cache
+    leaves (Ok (Opened (record { 0 = last_time m l }))) (opened_state m l d) m (redone m l d).cache
 
 -- 01: "In this order, those that fit the call": opening's outcome, its first "no" or the opened store
 unfoldable pub open_of : List ℕ → List ℕ → ℕ → ℕ → Outcome

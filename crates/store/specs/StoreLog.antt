@@ -1,5 +1,5 @@
 -- Store log.
-use Rattle.std.specs.Prelude.{ℕ, Bool, not, List, [], ◌∷◌, length, Option, None, Some}
+use Rattle.std.specs.Prelude.{ℕ, Bool, not, List, [], ◌∷◌, length, Option, None, Some, Ok}
 use Rattle.fields.specs.Equal.{eq_list}
 use Rattle.fields.specs.Block.{blk, log_block_at}
 use Rattle.layout.specs.Journal.{sequence_of}
@@ -38,7 +38,7 @@ log_stored s = record {
 -- 01: "on "no", this number with zeros", "A store replaces one block": refused, or the tail put in its block
 unfoldable pub store_log_if : Option Refusal → State → List ℕ → List ℕ → Outcome
 store_log_if (Some r) s m c = refuses r s m c
-store_log_if None s m c = leaves Done (log_stored s) (stored_tail s.blocks m s.tail) c
+store_log_if None s m c = leaves (Ok Done) (log_stored s) (stored_tail s.blocks m s.tail) c
 
 -- 01: "In this order, those that fit the call": the outcome of storing the log, its first "no" or its store
 unfoldable pub store_log_of : State → List ℕ → List ℕ → Outcome

@@ -1,6 +1,6 @@
 -- Store page.
 use Rattle.layout.specs.declared.CommitTime.{CommitTime}
-use Rattle.std.specs.Prelude.{ℕ, zero, suc, ◌+◌, Bool, not, List, [], ◌∷◌, length, set, leb, ltb, Option, None, Some}
+use Rattle.std.specs.Prelude.{ℕ, zero, suc, ◌+◌, Bool, not, List, [], ◌∷◌, length, set, leb, ltb, Option, None, Some, Ok}
 use Rattle.fields.specs.Equal.{eq_list}
 use Rattle.fields.specs.Block.{blk, put, page_block_at}
 use Rattle.layout.specs.Slot.{slot_state}
@@ -97,7 +97,7 @@ unfoldable pub store_page_if : Option Refusal → State → List ℕ → List �
 store_page_if (Some r) s m c p = refuses r s m c
 store_page_if None s m c p =
     let page = stamped_page s (blk c p) in
-    leaves Done (page_stored s p (blk c p)) (put m (page_block_at s.blocks p) page) (put c p page)
+    leaves (Ok Done) (page_stored s p (blk c p)) (put m (page_block_at s.blocks p) page) (put c p page)
 
 -- 01: "In this order, those that fit the call": the outcome of storing a page, its first "no" or its store
 unfoldable pub store_page_of : State → List ℕ → List ℕ → ℕ → Outcome

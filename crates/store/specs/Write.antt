@@ -1,5 +1,5 @@
 -- Write, and what it shares with erase.
-use Rattle.std.specs.Prelude.{ℕ, ◌+◌, ◌*◌, Bool, cond, not, List, [], ◌∷◌, length, get_or, set, eqb, ltb, Option, None, Some}
+use Rattle.std.specs.Prelude.{ℕ, ◌+◌, ◌*◌, Bool, cond, not, List, [], ◌∷◌, length, get_or, set, eqb, ltb, Option, None, Some, Ok}
 use Rattle.fields.specs.Block.{page_of}
 use Rattle.layout.specs.Slot.{Cell, key_form}
 use Rattle.layout.specs.Page.{put_version}
@@ -74,7 +74,7 @@ written s i g = record {
 unfoldable pub write_step : State → List ℕ → List ℕ → ℕ → VersionHead → List ℕ → Outcome
 write_step s m c i h value =
     let g = logged s m (version h value) in
-    leaves (Written s.slots) (written s i g) g.medium
+    leaves (Ok (Written s.slots)) (written s i g) g.medium
     (put_version c s.slots (tail_end g.tail).0 (cell_for h value))
 
 -- 01: "A write or erase takes the next slot": the outcome once the number's place is known

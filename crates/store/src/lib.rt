@@ -77,10 +77,9 @@ pub enum Refusal {
     NoRecord,
 }
 
-// What a call answers; `answer_number` and `answer_value` of specs/ give the numbers of each.
+// What a call answers that is not refused; `answer_number` and `answer_value` of specs/ give the numbers of each.
 #[derive(Clone, Copy)]
 pub enum Answer {
-    Refused(Refusal),
     Done,
     Begun(TxNumber),
     Written(u64),
@@ -95,7 +94,7 @@ pub enum Answer {
 // What a read answers, with the value beside it: zeros where there is none.
 #[derive(Clone, Copy)]
 pub struct Reading {
-    pub answer: Answer,
+    pub answer: Result<Answer, Refusal>,
     pub value: [u8; 16],
 }
 

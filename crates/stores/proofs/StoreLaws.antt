@@ -1,5 +1,7 @@
 -- What the stores need: the blocks of a state that fits lie within its medium and its cache, and what a page store leaves of state,
 -- medium and cache is what its definition says. Assumes nothing.
+use Rattle.store.specs.declared.Refusal.{Refusal}
+use Rattle.std.specs.Prelude.{Err, Ok, Result}
 use mathlib.Core.Path.{◌≡◌, sym, ap, ◌∙◌}
 use mathlib.Core.Bool.{Bool, true, false, cond, not}
 use mathlib.Core.List.{List, ◌++◌}
@@ -14,7 +16,7 @@ use Rattle.layout.specs.Page.{page_end}
 use Rattle.fields.proofs.PartLaws.{splice_self, lent_part, lent_back}
 use Rattle.layout.proofs.PlaceLaws.{log_in_medium, page_in_medium, page_in_cache}
 use Rattle.store.specs.declared.Answer.{Answer}
-use Rattle.store.specs.declared.Answer.TheVariants.{Refused, Done}
+use Rattle.store.specs.declared.Answer.TheVariants.{Done}
 use Rattle.store.specs.declared.Refusal.TheVariants.{Unchanged}
 use Rattle.store.specs.declared.State.{State}
 use Rattle.store.specs.Answer.{leaves}
@@ -59,7 +61,7 @@ module _ (w : List ℕ) (m c : ℕ) (f : Sized w m c) where
 
 pub log_done : (s u : State) (m n c : List ℕ) → fits s (length m) (length c) ≡ true
     → eq_list (blk m (log_block_at s.blocks (sequence_of s.tail))) s.tail ≡ false → u ≡ log_stored s → n ≡ stored_tail s.blocks m s.tail
-    → leaves Done u n c ≡ store_log_of s m c
+    → leaves (Ok Done) u n c ≡ store_log_of s m c
 unfolding store_log_of store_log_if
 log_done s u m n c e q eu en = simp (e, q, eu, en)
 
@@ -92,13 +94,13 @@ end_asked c p e w = sym (w ∙ ap page_end (lent_blk c p))
 module _ (s : State) (m c : List ℕ) (p e : ℕ) (r : Bool) (f : fits s (length m) (length c) ≡ true) (h : p < s.pages)
     (ee : page_end (blk c p) ≡ e) (he : e ≤ s.end.0)
     (er : not (eq_list (blk m (page_block_at s.blocks p)) (stamped_page s (blk c p))) ≡ r) where
-  pub page_unchanged : r ≡ false → store_page_of s m c p ≡ leaves (Refused Unchanged) s m c
+  pub page_unchanged : r ≡ false → store_page_of s m c p ≡ leaves (Err Unchanged) s m c
   unfolding store_page_of store_page_if
   page_unchanged w = simp (f, lt-ltb _ _ h, ee, le-leb _ _ he, er, w)
 
   pub page_done : r ≡ true
       → store_page_of s m c p
-      ≡ leaves Done (page_stored s p (blk c p)) (put m (page_block_at s.blocks p) (stamped_page s (blk c p))) (put c p (stamped_page s (blk c p)))
+      ≡ leaves (Ok Done) (page_stored s p (blk c p)) (put m (page_block_at s.blocks p) (stamped_page s (blk c p))) (put c p (stamped_page s (blk c p)))
   unfolding store_page_of store_page_if
   page_done w = simp (f, lt-ltb _ _ h, ee, le-leb _ _ he, er, w)
 
@@ -125,7 +127,7 @@ module _ (w t m c : List ℕ) (p k : ℕ) (ek : k ≡ page_block_at (get_or w 0 
       (ev : state_of v t ≡ cond r (with_places s (settled_under w (lent c p))) s)
       (ep : page ≡ cond r (stamped_under w (lent c p)) (lent c p)) (eb : block ≡ cond r (stamped_under w (lent c p)) (lent m k)) where
     -- the block held the page already
-    pub page_kept : (a : Answer) → r ≡ false → leaves a (state_of v t) (laid m k block) (laid c p page) ≡ leaves a s m c
+    pub page_kept : (a : Result Answer Refusal) → r ≡ false → leaves a (state_of v t) (laid m k block) (laid c p page) ≡ leaves a s m c
     page_kept a e =
         let x : state_of v t ≡ s = rw e at ev in
         let y : page ≡ lent c p = rw e at ep in
@@ -135,8 +137,8 @@ module _ (w t m c : List ℕ) (p k : ℕ) (ek : k ≡ page_block_at (get_or w 0 
     -- it did not; u are the words without the page's first change
     pub page_laid : (u : List ℕ) → r ≡ true → state_of u t ≡ with_first (state_of v t) (set (first_of v) p 0)
         → length page ≡ length (lent c p) → length block ≡ length (lent m k)
-        → leaves Done (state_of u t) (laid m k block) (laid c p page)
-        ≡ leaves Done (page_stored s p (blk c p)) (put m (page_block_at s.blocks p) (stamped_page s (blk c p))) (put c p (stamped_page s (blk c p)))
+        → leaves (Ok Done) (state_of u t) (laid m k block) (laid c p page)
+        ≡ leaves (Ok Done) (page_stored s p (blk c p)) (put m (page_block_at s.blocks p) (stamped_page s (blk c p))) (put c p (stamped_page s (blk c p)))
     unfolding page_stored with_first with_places state_of state_by
     page_laid u e eu np nb =
         let x : state_of v t ≡ with_places s (settled_under w (lent c p)) = rw e at ev in

@@ -1,6 +1,6 @@
 -- How a commit ends: where its questions refuse, where it has no versions, and where its step is the definition's. Assumes
 -- nothing.
-use Rattle.std.specs.Prelude.{None, Some}
+use Rattle.std.specs.Prelude.{None, Some, Ok}
 use mathlib.Core.Path.{◌≡◌, ◌∙◌}
 use mathlib.Core.Bool.{true}
 use mathlib.Core.List.{List}
@@ -39,7 +39,7 @@ pub record CommitAsked (s : State) (m c : List ℕ) : Type 0 where
 
 module _ (s : State) (m c : List ℕ) (n i : ℕ) (e : ask (commit_asks s m c n) ≡ None) (f : find_active s.places n ≡ Some i) where
   pub commit_empty : (clock : ℕ) (t : State) → (place_at s.places i).waiting ≡ 0 → t ≡ with_place s i free_place
-      → leaves Done t m c ≡ commit_of s m c n clock
+      → leaves (Ok Done) t m c ≡ commit_of s m c n clock
   unfolding commit_of commit_if
   commit_empty clock t w et = rw (e, f, eq-eqb _ _ w, et)
 
@@ -63,6 +63,6 @@ pub commit_done : (s u v : State) (m k c : List ℕ) (i n : ℕ) (t : CommitTime
     → u ≡ taken s (logged s m (commit (record { number = record { 0 = n }; time = t })))
     → k ≡ (logged s m (commit (record { number = record { 0 = n }; time = t }))).medium
     → v ≡ committed u i n t (record { medium = u.tail; tail = u.tail; end = u.end; saved = u.saved })
-    → leaves (Committed t) v k c ≡ commit_step s m c i n t
+    → leaves (Ok (Committed t)) v k c ≡ commit_step s m c i n t
 unfolding commit_step committed taken
 commit_done s u v m k c i n t eu ek ev = simp (ev, ek, eu)

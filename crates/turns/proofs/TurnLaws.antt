@@ -1,5 +1,8 @@
 -- What a line leaves in the buffers is what its definition leaves in the room: a call is lent the first bytes, and its
 -- outcome stands in their place.
+use Rattle.layout.specs.declared.CommitTime.{CommitTime}
+use Rattle.store.specs.declared.Refusal.{Refusal}
+use Rattle.std.specs.Prelude.{Ok, Result}
 use mathlib.Core.Path.{◌≡◌, refl, sym, ap, ◌∙◌}
 use mathlib.Core.Bool.{false, cond, ◌&&◌}
 use mathlib.Core.List.{List, ◌++◌, append-nil}
@@ -20,7 +23,7 @@ use Rattle.store.specs.State.{in_range}
 use Rattle.store.specs.Format.{format_if, format_of}
 use Rattle.store.specs.Open.{open_if, open_of}
 use Rattle.store.proofs.FitLaws.{range_of}
-use Rattle.handover.specs.declared.HandAnswer.{HandAnswer}
+use Rattle.handover.specs.declared.HandRefusal.{HandRefusal}
 use Rattle.handover.specs.declared.Transfer.{Transfer}
 use Rattle.handover.specs.Hand.{hand_ends, hand_of}
 use Rattle.script.specs.declared.call.Call.{Call}
@@ -44,7 +47,7 @@ unfolding formatted format_of format_if answer_number refusal_number
 format_same m n l d e =
     bool_case (in_range l d && eqb (length n) (medium_length l d)) (λ t. simp (e, t)) (λ t. simp (e, t))
 
-pub format_left : (l d r n : ℕ) (a : Answer) (v m c : List ℕ) (s : State) → r ≡ stage_after a → n ≡ fresh_length l d
+pub format_left : (l d r n : ℕ) (a : Result Answer Refusal) (v m c : List ℕ) (s : State) → r ≡ stage_after a → n ≡ fresh_length l d
     → n ≤ 50688 → n ≤ length m → length v ≡ length (take n m)
     → record { answer = a; medium = v } ≡ format_of (take n m) l d
     → left_by (record { stage = r; blocks = l; pages = d; bytes = n }) (v ++ drop n m) c s 70 a
@@ -88,7 +91,7 @@ module _ (t : Standing) (m c b : List ℕ) (s : State) (letter byte pm bytes : �
   unfolding opening opened
   open_is = let k = stage_2 t h in rw (medium_in_law t m c s, blocks_in_law t m c s k, pages_in_law t m c s k)
 
-  module _ (a : Answer) (st : State) (k : List ℕ)
+  module _ (a : Result Answer Refusal) (st : State) (k : List ℕ)
       (e : leaves a st (take pm m) k ≡ open_of (take pm m) (replicate (length (take bytes b)) byte) t.blocks
       t.pages) where
     found : leaves a st (take (medium_part t) m) k ≡ open_of (take (medium_part t) m) (replicate bytes byte)
@@ -122,7 +125,7 @@ module _ (t : Standing) (m c b : List ℕ) (s : State) (letter byte pm bytes : �
 -- ---- a cut, and a byte put into the medium
 
 pub cut_left : (t : Standing) (m c : List ℕ) (s : State) → 2 ≤ stage_of t
-    → left_by (record { stage = 2; blocks = t.blocks; pages = t.pages; bytes = t.bytes }) m c s 88 Done
+    → left_by (record { stage = 2; blocks = t.blocks; pages = t.pages; bytes = t.bytes }) m c s 88 (Ok Done)
     ≡ moves 88 (cut (room_of t m c s))
 unfolding room_of cut
 cut_left t m c s h =
@@ -131,7 +134,7 @@ cut_left t m c s h =
     (λ g. simp (le-ltb _ _ k, le-ltb _ _ g))
 
 pub poke_in : (t : Standing) (m c : List ℕ) (s : State) (at b n : ℕ) → n ≡ medium_part t → at < n
-    → left_by t (set m at b) c s 90 Done ≡ moves 90 (poked (room_of t m c s) at b)
+    → left_by t (set m at b) c s 90 (Ok Done) ≡ moves 90 (poked (room_of t m c s) at b)
 unfolding poked
 poke_in t m c s at b n e h =
     let k : take (medium_part t) (set m at b) ≡ set (take (medium_part t) m) at b =
@@ -147,7 +150,7 @@ poke_in t m c s at b n e h =
     gone_none g = let z : n ≡ 0 = e ∙ no_medium t g in omega arith
 
 pub poke_out : (t : Standing) (m c : List ℕ) (s : State) (at b n : ℕ) → n ≡ medium_part t → n ≤ at
-    → left_by t m c s 90 Done ≡ moves 90 (poked (room_of t m c s) at b)
+    → left_by t m c s 90 (Ok Done) ≡ moves 90 (poked (room_of t m c s) at b)
 unfolding poked
 poke_out t m c s at b n e h =
     let k : take (medium_part t) m ≡ set (take (medium_part t) m) at b =
@@ -185,7 +188,7 @@ change_letter (Page page) e = refl
 change_letter (Poke offset byte) e = refl
 change_letter Other e = refl
 
-pub make_left : (t : Standing) (m c : List ℕ) (s : State) (k : Call) (v : List ℕ) (a : Answer) (st : State) (pm pc : ℕ)
+pub make_left : (t : Standing) (m c : List ℕ) (s : State) (k : Call) (v : List ℕ) (a : Result Answer Refusal) (st : State) (pm pc : ℕ)
     (vm vc : List ℕ)
     → 3 ≤ stage_of t → (plan_of k).looks ≡ false → pm ≡ medium_part t → pc ≡ cache_part t → pm ≤ length m
     → pc ≤ length c
@@ -233,7 +236,7 @@ not_hand (Page page) o = refl
 not_hand (Poke offset byte) o = refl
 not_hand Other o = refl
 
-pub hand_left : (t : Standing) (m c : List ℕ) (s : State) (h : Transfer) (a : HandAnswer) (st : State) (pm pc : ℕ)
+pub hand_left : (t : Standing) (m c : List ℕ) (s : State) (h : Transfer) (a : Result CommitTime HandRefusal) (st : State) (pm pc : ℕ)
     (vm vc : List ℕ)
     → 3 ≤ stage_of t → pm ≡ medium_part t → pc ≡ cache_part t → pm ≤ length m → pc ≤ length c
     → length vm ≡ length (take pm m) → length vc ≡ length (take pc c)

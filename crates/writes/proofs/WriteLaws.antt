@@ -1,5 +1,5 @@
 -- How a write or an erase ends: where its questions refuse, and where its step is the definition's. Assumes nothing.
-use Rattle.std.specs.Prelude.{Option, None, Some}
+use Rattle.std.specs.Prelude.{Option, None, Some, Ok}
 use mathlib.Core.Path.{◌≡◌, refl, sym, ap, ◌∙◌}
 use mathlib.Core.Bool.{true}
 use mathlib.Core.List.{List}
@@ -90,7 +90,7 @@ pub write_done : (s t u : State) (m n c d : List ℕ) (i : ℕ) (h : VersionHead
     → t ≡ taken s (logged s m (version h v)) → n ≡ (logged s m (version h v)).medium → e ≡ tail_end t.tail
     → d ≡ put_version c h.slot e.0 (record { state = Waiting h.number; key = h.key; kind = h.kind; earlier = h.earlier; value = v })
     → u ≡ written t i (record { medium = t.tail; tail = t.tail; end = t.end; saved = t.saved })
-    → leaves (Written h.slot) u n d ≡ write_step s m c i h v
+    → leaves (Ok (Written h.slot)) u n d ≡ write_step s m c i h v
 unfolding write_step cell_for written taken
 write_done s t u m n c d i h v e es et en ee ed eu = simp (eu, en, ed, ee, et, es)
 

@@ -1,7 +1,8 @@
 -- From one opening to the next, in plain words: until the first cut the rows seen follow those found; from then on
 -- nothing but cuts and refused openings comes. Every commit in the book has a version before it, so an opening shows
 -- its time.
-use Rattle.std.specs.Prelude.{Some}
+use Rattle.store.specs.declared.Refusal.{Refusal}
+use Rattle.std.specs.Prelude.{Some, Err, Ok, Result}
 use Prim.Native.Nat.{ℕ, zero, suc, ◌≤◌}
 use native.Mathlib.Omega.{arith}
 use mathlib.Core.Bool.{true, false, false≢true}
@@ -13,8 +14,7 @@ use lib.ListN.{length, take, length-take}
 use lib.Seq.{take_all}
 use borrow.Author.Tests.{eqb-true, eqb-false}
 use Rattle.store.specs.declared.Answer.{Answer}
-use Rattle.store.specs.declared.Answer.TheVariants.{Refused, Done, Begun, Written, Committed, Opened, Missing, Erased}
-use Rattle.store.specs.declared.Answer.TheVariants.{Present, Listed}
+use Rattle.store.specs.declared.Answer.TheVariants.{Done, Begun, Written, Committed, Opened, Missing, Erased, Present, Listed}
 use Rattle.store.specs.Answer.{Outcome, answer_number}
 use Rattle.store.specs.Open.{open_of}
 use Rattle.store.specs.Format.{fresh_medium}
@@ -45,18 +45,18 @@ unfolding fall
 fall_twice b = ap (λ (rs : List Row). record { opened = []; rows = rs; stored = b.stored }) (take_twice b.stored b.rows)
 
 -- a refused opening leaves the world
-refused_world : (a : Answer) (w : World) (o : Outcome) → answer_number a ≢ 0 → opened_to a w o ≡ w
+refused_world : (a : Result Answer Refusal) (w : World) (o : Outcome) → answer_number a ≢ 0 → opened_to a w o ≡ w
 unfolding answer_number
-refused_world (Refused r) w o h = refl
-refused_world Done w o h = absurd (h refl)
-refused_world (Begun n) w o h = absurd (h refl)
-refused_world (Written n) w o h = absurd (h refl)
-refused_world (Committed t) w o h = absurd (h refl)
-refused_world (Opened t) w o h = absurd (h refl)
-refused_world Missing w o h = absurd (h refl)
-refused_world Erased w o h = absurd (h refl)
-refused_world Present w o h = absurd (h refl)
-refused_world (Listed n) w o h = absurd (h refl)
+refused_world (Err r) w o h = refl
+refused_world (Ok Done) w o h = absurd (h refl)
+refused_world (Ok (Begun n)) w o h = absurd (h refl)
+refused_world (Ok (Written n)) w o h = absurd (h refl)
+refused_world (Ok (Committed t)) w o h = absurd (h refl)
+refused_world (Ok (Opened t)) w o h = absurd (h refl)
+refused_world (Ok Missing) w o h = absurd (h refl)
+refused_world (Ok Erased) w o h = absurd (h refl)
+refused_world (Ok Present) w o h = absurd (h refl)
+refused_world (Ok (Listed n)) w o h = absurd (h refl)
 
 kept_book : (n : ℕ) (b new : Book) → n ≢ 0 → unless_refused n b new ≡ b
 kept_book zero b new h = absurd (h refl)

@@ -1,7 +1,7 @@
 -- A current read finds, along earlier slots, the strip that the book's fold over all version rows gives: both are a
 -- fold over the record's versions by rising slot (WalkLaws), and they agree at each slot.
 use Rattle.layout.specs.declared.CommitTime.{CommitTime}
-use Rattle.std.specs.Prelude.{Option, Some, None}
+use Rattle.std.specs.Prelude.{Option, Some, None, Ok}
 use Prim.Native.Nat.{ℕ, zero, suc, ◌≤◌, ◌<◌}
 use native.Mathlib.Omega.{arith}
 use mathlib.Core.Bool.{or-true, Bool, true, false, cond, ◌&&◌, ◌||◌}
@@ -146,8 +146,8 @@ pub cell_strip : (x : Cell) (s : State) (m c : List ℕ) → strip_of (read_cell
 unfolding read_cell row_strip
 cell_strip x s m c = go (eqb x.kind 1)
   where
-    go : (t : Bool) → strip_of (cond t (reads Erased (zeros 16) s m c) (reads Present x.value s m c)).answer
-        (cond t (reads Erased (zeros 16) s m c) (reads Present x.value s m c)).value
+    go : (t : Bool) → strip_of (cond t (reads (Ok Erased) (zeros 16) s m c) (reads (Ok Present) x.value s m c)).answer
+        (cond t (reads (Ok Erased) (zeros 16) s m c) (reads (Ok Present) x.value s m c)).value
         ≡ cond t erased (present x.value)
     go true = refl
     go false = refl

@@ -1,7 +1,7 @@
 -- A call that was refused 8 is done once the log may take its record: its other questions were answered "yes" then, and
 -- are answered the same as long as the log's history and the active places are. A record is held just if its newest
 -- version's number is another that is active.
-use Rattle.std.specs.Prelude.{Some, Option, None}
+use Rattle.std.specs.Prelude.{Some, Option, None, Err, Ok, Result}
 use Prim.Native.Nat.{ℕ, ◌-◌, ◌*◌, ◌^◌}
 use native.Mathlib.Omega.{arith}
 use mathlib.Core.Path.{◌≡◌, refl, sym, ap, ◌∙◌}
@@ -13,8 +13,7 @@ use Rattle.fields.proofs.CellLaws.{Each}
 use Rattle.layout.specs.Journal.{Record}
 use Rattle.layout.specs.Slot.{Cell, key_form}
 use Rattle.store.specs.declared.Answer.{Answer}
-use Rattle.store.specs.declared.Answer.TheVariants.{Refused, Done, Begun, Written, Committed, Opened, Missing, Erased}
-use Rattle.store.specs.declared.Answer.TheVariants.{Present, Listed}
+use Rattle.store.specs.declared.Answer.TheVariants.{Done, Begun, Written, Committed, Opened, Missing, Erased, Present, Listed}
 use Rattle.store.specs.declared.Phase.TheVariants.{Idle, FirstStored, SecondStored}
 use Rattle.store.specs.declared.Place.{Place}
 use Rattle.store.specs.declared.Refusal.{Refusal}
@@ -72,18 +71,18 @@ full_of NoNumber e = absurd (omega arith)
 full_of Unfit e = absurd (omega arith)
 full_of NoRecord e = absurd (omega arith)
 
-done_number : (a : Answer) → is_refused a ≡ false → answer_number a ≡ 0
+done_number : (a : Result Answer Refusal) → is_refused a ≡ false → answer_number a ≡ 0
 unfolding answer_number
-done_number (Refused r) h = absurd (false≢true (sym h))
-done_number Done h = refl
-done_number (Begun n) h = refl
-done_number (Written n) h = refl
-done_number (Committed t) h = refl
-done_number (Opened t) h = refl
-done_number Missing h = refl
-done_number Erased h = refl
-done_number Present h = refl
-done_number (Listed n) h = refl
+done_number (Err r) h = absurd (false≢true (sym h))
+done_number (Ok Done) h = refl
+done_number (Ok (Begun n)) h = refl
+done_number (Ok (Written n)) h = refl
+done_number (Ok (Committed t)) h = refl
+done_number (Ok (Opened t)) h = refl
+done_number (Ok Missing) h = refl
+done_number (Ok Erased) h = refl
+done_number (Ok Present) h = refl
+done_number (Ok (Listed n)) h = refl
 
 pub record Filled (m c : List ℕ) (s : State) (x : Call) (o : Outcome) : Type 0 where
   pub no : ask (asks m c s x) ≡ Some LogFull

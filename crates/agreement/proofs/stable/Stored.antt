@@ -2,7 +2,7 @@
 -- time just if it is above that of the last stored commit: the state's stored time is that of the rows which a cut
 -- would leave, and a running store fits its buffers.
 use Rattle.layout.specs.declared.CommitTime.{CommitTime}
-use Rattle.std.specs.Prelude.{Option, Some, None}
+use Rattle.std.specs.Prelude.{Option, Some, None, Ok}
 use Prim.Native.Nat.{ℕ, ◌*◌}
 use mathlib.Core.Bool.{Bool, true, false, cond}
 use mathlib.Core.List.{List, [], ◌∷◌}
@@ -45,7 +45,7 @@ module _ {l d : ℕ} {m c : List ℕ} {s : State} {b : Book} {disk : Disk} {clos
   read_answered (Some (n, t)) = go (eqb (cell_at c n).kind 1)
     where
       go : (y : Bool)
-          → answer_number (cond y (reads Erased (zeros 16) s m c) (reads Present (cell_at c n).value s m c)).answer ≡ 0
+          → answer_number (cond y (reads (Ok Erased) (zeros 16) s m c) (reads (Ok Present) (cell_at c n).value s m c)).answer ≡ 0
       go true = refl
       go false = refl
 

@@ -1,6 +1,6 @@
 -- The places once the log is freed, and once all active transactions are aborted. No committed one is live then, since
 -- none of its versions waits any more; so what is left are the active ones, and each abort frees its own place.
-use Rattle.std.specs.Prelude.{Some}
+use Rattle.std.specs.Prelude.{Some, Ok}
 use Prim.Native.Nat.{ℕ, suc, ◌+◌, ◌^◌, ◌≤◌, ◌<◌}
 use native.Mathlib.Omega.{arith}
 use mathlib.Core.Path.{◌≡◌, refl, sym, ap, ◌∙◌, subst}
@@ -130,7 +130,7 @@ pub record Emptied (r : State) (i : ℕ) (m : List ℕ) (s : State) : Type 0 whe
 module _ {l d : ℕ} {m c : List ℕ} {s : State} {b : Book} {disk : Disk} {closed : List (List Record)}
     {tail : List Record} (u : Up l d m c s b disk closed tail) where
   abort_done : (x i : ℕ) → find_active s.places x ≡ Some i → called m c s (abort x)
-      ≡ leaves Done (with_place s i free_place) m c
+      ≡ leaves (Ok Done) (with_place s i free_place) m c
   unfolding called abort_of abort_if
   abort_done x i e = rw (fits_up u, e) (rw e)
 

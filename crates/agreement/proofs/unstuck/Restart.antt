@@ -1,7 +1,7 @@
 -- No run is stuck. Once the log is freed and all active transactions are aborted, every place is free, no record is
 -- held, and the tail is the oldest block; so begin finds a place, and the log takes the version and the commit, in the
 -- tail or in the next block.
-use Rattle.std.specs.Prelude.{Option, Some, None}
+use Rattle.std.specs.Prelude.{Option, Some, None, Ok}
 use Prim.Native.Nat.{ℕ, ◌+◌, ◌-◌, ◌*◌, ◌%◌, ◌^◌, ◌≤◌, ◌<◌}
 use native.Mathlib.Omega.{arith}
 use native.Mathlib.Nat.{mod-lt, zero-add}
@@ -78,7 +78,7 @@ module _ {l d : ℕ} {m c : List ℕ} {s : State} {b : Book} {disk : Disk} {clos
   next_is : s.next.0 ≡ r.next.0
   next_is = ap (λ (x : TxNumber). x.0) e.same.next
 
-  begin_done : (clock : ℕ) → called m c s (begin clock) ≡ leaves (Begun s.next)
+  begin_done : (clock : ℕ) → called m c s (begin clock) ≡ leaves (Ok (Begun s.next))
       (begun s (ring_place s.ring 0) clock) m c
   unfolding called begin_of begin_if
   begin_done clock =

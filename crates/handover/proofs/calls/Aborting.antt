@@ -1,6 +1,6 @@
 -- The abort of a handover is not refused, for every state, medium and cache: begin asks whether they fit and gives its number a
 -- place, and read, write and a refused commit leave a store that fits with the number active.
-use Rattle.std.specs.Prelude.{Option, None, Some}
+use Rattle.std.specs.Prelude.{Option, None, Some, Ok}
 use Prim.Native.Nat.{ℕ}
 use mathlib.Core.Path.{◌≡◌, refl, ap, ◌∙◌}
 use mathlib.Core.Bool.{true}
@@ -30,11 +30,11 @@ pub record Abortable (o : Outcome) (n : ℕ) : Type 0 where
   pub fit : fits o.state (length o.medium) (length o.cache) ≡ true
   pub active : is_at (find_active o.state.places n) ≡ true
 
-pub abort_done : (o : Outcome) (n : ℕ) → Abortable o n → (aborts o n).answer ≡ Done
+pub abort_done : (o : Outcome) (n : ℕ) → Abortable o n → (aborts o n).answer ≡ Ok Done
 unfolding abort_of abort_if
 abort_done o n a =
     rw (a.fit, a.active)
-    (found (λ (f : Option ℕ). (abort_at f o.state o.medium o.cache).answer ≡ Done) (find_active o.state.places n) a.active (λ i e. refl))
+    (found (λ (f : Option ℕ). (abort_at f o.state o.medium o.cache).answer ≡ Ok Done) (find_active o.state.places n) a.active (λ i e. refl))
 
 -- what fits goes on fitting
 fits_on : (m c : List ℕ) (s : State) (k : Call) → fits s (length m) (length c) ≡ true

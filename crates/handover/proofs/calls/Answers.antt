@@ -1,12 +1,12 @@
 -- What the store's answers say of a refusal: an answer's number is that of its refusal, or 0. By the cases of an answer.
-use Rattle.std.specs.Prelude.{Option, None, Some}
+use Rattle.std.specs.Prelude.{Option, None, Some, Err, Ok, Result}
 use Prim.Native.Nat.{ℕ, ◌<◌}
 use native.Mathlib.Omega.{arith}
 use mathlib.Core.Path.{◌≡◌, refl, sym, ap, ◌∙◌}
 use mathlib.Core.Bool.{true, false≢true}
 use mathlib.Core.List.{List}
 use Rattle.store.specs.declared.Answer.{Answer}
-use Rattle.store.specs.declared.Answer.TheVariants.{Refused, Done, Begun, Written, Committed, Opened, Missing, Erased, Present, Listed}
+use Rattle.store.specs.declared.Answer.TheVariants.{Done, Begun, Written, Committed, Opened, Missing, Erased, Present, Listed}
 use Rattle.store.specs.declared.Refusal.{Refusal}
 use Rattle.store.specs.Answer.{refusal_number, answer_number}
 use Rattle.runs.specs.Event.{present}
@@ -19,26 +19,26 @@ abbrev pub number_of : Option Refusal → ℕ
 number_of None = 0
 number_of (Some r) = refusal_number r
 
-number_is : (a : Answer) → answer_number a ≡ number_of (refusal_in a)
+number_is : (a : Result Answer Refusal) → answer_number a ≡ number_of (refusal_in a)
 unfolding answer_number
-number_is (Refused r) = refl
-number_is Done = refl
-number_is (Begun n) = refl
-number_is (Written k) = refl
-number_is (Committed t) = refl
-number_is (Opened t) = refl
-number_is Missing = refl
-number_is Erased = refl
-number_is Present = refl
-number_is (Listed k) = refl
+number_is (Err r) = refl
+number_is (Ok Done) = refl
+number_is (Ok (Begun n)) = refl
+number_is (Ok (Written k)) = refl
+number_is (Ok (Committed t)) = refl
+number_is (Ok (Opened t)) = refl
+number_is (Ok Missing) = refl
+number_is (Ok Erased) = refl
+number_is (Ok Present) = refl
+number_is (Ok (Listed k)) = refl
 
-pub number_none : (a : Answer) → refusal_in a ≡ None → answer_number a ≡ 0
+pub number_none : (a : Result Answer Refusal) → refusal_in a ≡ None → answer_number a ≡ 0
 number_none a e = number_is a ∙ ap number_of e
 
-pub number_some : (a : Answer) (r : Refusal) → refusal_in a ≡ Some r → 0 < answer_number a
+pub number_some : (a : Result Answer Refusal) (r : Refusal) → refusal_in a ≡ Some r → 0 < answer_number a
 number_some a r e = omega (arith, number_is a, ap number_of e, positive r)
 
-pub zero_none : (a : Answer) → answer_number a ≡ 0 → refusal_in a ≡ None
+pub zero_none : (a : Result Answer Refusal) → answer_number a ≡ 0 → refusal_in a ≡ None
 zero_none a e = go (refusal_in a) (sym (number_is a) ∙ e)
   where
     go : (x : Option Refusal) → number_of x ≡ 0 → x ≡ None
@@ -50,31 +50,31 @@ zero_none a e = go (refusal_in a) (sym (number_is a) ∙ e)
 pub none_some : {A : Type 0} {r : Refusal} → None ≡ Some r → A
 none_some e = let z : ◌≡◌ {A = ℕ} 0 1 = cc in absurd (omega arith)
 
-pub no_refusal : {A : Type 0} (a : Answer) (r : Refusal) → refusal_in a ≡ None → a ≡ Refused r → A
+pub no_refusal : {A : Type 0} (a : Result Answer Refusal) (r : Refusal) → refusal_in a ≡ None → a ≡ Err r → A
 no_refusal a r e q = none_some (sym e ∙ ap refusal_in q)
 
-pub in_refusal : (a : Answer) (r : Refusal) → refusal_in a ≡ Some r → a ≡ Refused r
-in_refusal (Refused q) r e = let z : q ≡ r = cc in ap Refused z
-in_refusal Done r e = none_some e
-in_refusal (Begun n) r e = none_some e
-in_refusal (Written k) r e = none_some e
-in_refusal (Committed t) r e = none_some e
-in_refusal (Opened t) r e = none_some e
-in_refusal Missing r e = none_some e
-in_refusal Erased r e = none_some e
-in_refusal Present r e = none_some e
-in_refusal (Listed k) r e = none_some e
+pub in_refusal : (a : Result Answer Refusal) (r : Refusal) → refusal_in a ≡ Some r → a ≡ Err r
+in_refusal (Err q) r e = let z : q ≡ r = cc in ap (Err z)
+in_refusal (Ok Done) r e = none_some e
+in_refusal (Ok (Begun n)) r e = none_some e
+in_refusal (Ok (Written k)) r e = none_some e
+in_refusal (Ok (Committed t)) r e = none_some e
+in_refusal (Ok (Opened t)) r e = none_some e
+in_refusal (Ok Missing) r e = none_some e
+in_refusal (Ok Erased) r e = none_some e
+in_refusal (Ok Present) r e = none_some e
+in_refusal (Ok (Listed k)) r e = none_some e
 
 -- ---- the strip of a read that finds one
 
-pub present_strip : (a : Answer) (v : List ℕ) → is_present a ≡ true → strip_of a v ≡ present v
-present_strip (Refused r) v e = absurd (false≢true e)
-present_strip Done v e = absurd (false≢true e)
-present_strip (Begun n) v e = absurd (false≢true e)
-present_strip (Written k) v e = absurd (false≢true e)
-present_strip (Committed t) v e = absurd (false≢true e)
-present_strip (Opened t) v e = absurd (false≢true e)
-present_strip Missing v e = absurd (false≢true e)
-present_strip Erased v e = absurd (false≢true e)
-present_strip Present v e = refl
-present_strip (Listed k) v e = absurd (false≢true e)
+pub present_strip : (a : Result Answer Refusal) (v : List ℕ) → is_present a ≡ true → strip_of a v ≡ present v
+present_strip (Err r) v e = absurd (false≢true e)
+present_strip (Ok Done) v e = absurd (false≢true e)
+present_strip (Ok (Begun n)) v e = absurd (false≢true e)
+present_strip (Ok (Written k)) v e = absurd (false≢true e)
+present_strip (Ok (Committed t)) v e = absurd (false≢true e)
+present_strip (Ok (Opened t)) v e = absurd (false≢true e)
+present_strip (Ok Missing) v e = absurd (false≢true e)
+present_strip (Ok Erased) v e = absurd (false≢true e)
+present_strip (Ok Present) v e = refl
+present_strip (Ok (Listed k)) v e = absurd (false≢true e)

@@ -1,6 +1,7 @@
 -- How a handover in a run ends, as the stages of its calls find it: definitions only. `b` and `s` are the book and the state
 -- before it.
-use Rattle.std.specs.Prelude.{None}
+use Rattle.layout.specs.declared.CommitTime.{CommitTime}
+use Rattle.std.specs.Prelude.{None, Result}
 use Prim.Native.Nat.{ℕ, ◌+◌, ◌≤◌, ◌<◌, max}
 use mathlib.Core.Path.{◌≡◌}
 use mathlib.Core.Logic.{◌≢◌}
@@ -15,8 +16,8 @@ use Rattle.runs.specs.Book.{Book, Row, Version, version, committed, versions, la
 use Rattle.runs.specs.Machine.{up}
 use Rattle.agreement.proofs.invariant.Invariant.{Inv}
 use Rattle.handover.specs.declared.Transfer.{Transfer}
-use Rattle.handover.specs.declared.HandAnswer.{HandAnswer}
-use Rattle.handover.specs.declared.HandAnswer.TheVariants.{Handed}
+use Rattle.handover.specs.declared.HandRefusal.{HandRefusal}
+use Rattle.handover.specs.declared.HandRefusal.TheVariants.{Handed}
 use Rattle.handover.specs.Hand.{HandOutcome, hand_number, owner_of, with_owner}
 use Rattle.handover.specs.Promise.{read_by}
 use Rattle.handover.proofs.rows.Held.{newest_under, held_row}
@@ -45,9 +46,9 @@ abbrev pub new_row : Transfer → ℕ → List ℕ → Row
 new_row h x v = version (new_version h x v)
 
 -- the rows, by the answer: as before; with the version; with its commit row too
-pub data RowsEnd (b : Book) (s : State) (h : Transfer) (rows : List Row) : HandAnswer → Type 0 where
-  unwritten : (a : HandAnswer) → 0 < hand_number a → rows ≡ b.rows → RowsEnd b s h rows a
-  aborted : (a : HandAnswer) (x : ℕ) (v : List ℕ) → 0 < hand_number a → New b s x → Checked b s h x v
+pub data RowsEnd (b : Book) (s : State) (h : Transfer) (rows : List Row) : Result CommitTime HandRefusal → Type 0 where
+  unwritten : (a : Result CommitTime HandRefusal) → 0 < hand_number a → rows ≡ b.rows → RowsEnd b s h rows a
+  aborted : (a : Result CommitTime HandRefusal) (x : ℕ) (v : List ℕ) → 0 < hand_number a → New b s x → Checked b s h x v
       → rows ≡ b.rows ++ (new_row h x v ∷ []) → RowsEnd b s h rows a
   handed : (x : ℕ) (v : List ℕ) (t : ℕ) → New b s x → Checked b s h x v → t ≡ max h.began (max h.ended (last_time b.rows + 1))
       → rows ≡ (b.rows ++ (new_row h x v ∷ [])) ++ (committed x t ∷ []) → RowsEnd b s h rows (Handed (record { 0 = t }))

@@ -1,5 +1,7 @@
 -- From how a handover ends to what it promises of the book: the rows are as before, or have the version, or its commit row too, and
 -- the laws of Adding say what each of these answers.
+use Rattle.layout.specs.declared.CommitTime.{CommitTime}
+use Rattle.std.specs.Prelude.{Result}
 use Prim.Native.Nat.{ℕ, ◌≤◌, ◌<◌}
 use native.Mathlib.Omega.{arith}
 use mathlib.Core.Path.{◌≡◌, sym, ap, ◌∙◌, subst}
@@ -14,7 +16,7 @@ use Rattle.runs.specs.Book.{Book, Row, committed, versions, last_time, has_row, 
 use Rattle.agreement.proofs.history.ListLaws.{same?}
 use Rattle.agreement.proofs.plain.Laws.{rowless_left}
 use Rattle.handover.specs.declared.Transfer.{Transfer}
-use Rattle.handover.specs.declared.HandAnswer.{HandAnswer}
+use Rattle.handover.specs.declared.HandRefusal.{HandRefusal}
 use Rattle.handover.specs.Hand.{hand_number, hand_value, owner_of, with_owner}
 use Rattle.handover.specs.Promise.{read_by, Owned, RefusedBook, HandedBook}
 use Rattle.handover.proofs.rows.Rows.{last_version, last_commit, row_last, foreign, current_fresh}
@@ -32,14 +34,14 @@ owned_as e p = subst Owned e p
 -- ---- the rows
 
 -- a number without rows had none before
-pub rowless_before : {b : Book} {s : State} {h : Transfer} {rs : List Row} {a : HandAnswer} → RowsEnd b s h rs a → (n : ℕ) → has_row rs n ≡ false → has_row b.rows n ≡ false
+pub rowless_before : {b : Book} {s : State} {h : Transfer} {rs : List Row} {a : Result CommitTime HandRefusal} → RowsEnd b s h rs a → (n : ℕ) → has_row rs n ≡ false → has_row b.rows n ≡ false
 rowless_before (unwritten a q e) n f = rw e at f
 rowless_before {b} {s} {h} (aborted a x v q new checked e) n f = rowless_left b.rows (new_row h x v ∷ []) n (rw e at f)
 rowless_before {b} {s} {h} (handed x v t new checked time e) n f =
     rowless_left b.rows (new_row h x v ∷ []) n (rowless_left (b.rows ++ (new_row h x v ∷ [])) (committed x t ∷ []) n (rw e at f))
 
 module _ (b : Book) (s : State) (h : Transfer) where
-  pub past_same : {rs : List Row} {a : HandAnswer} → RowsEnd b s h rs a → (key t : ℕ) → t ≤ last_time b.rows → strip_as_of rs key t ≡ strip_as_of b.rows key t
+  pub past_same : {rs : List Row} {a : Result CommitTime HandRefusal} → RowsEnd b s h rs a → (key t : ℕ) → t ≤ last_time b.rows → strip_as_of rs key t ≡ strip_as_of b.rows key t
   past_same (unwritten a q e) key t low = rw e
   past_same (aborted a x v q new checked e) key t low = rw e (written_past b.rows (new_version h x v) new.rowless key t)
   past_same (handed x v t new checked time e) key u low = rw e (handed_earlier b.rows (new_version h x v) new.rowless t key u (omega arith))
@@ -50,7 +52,7 @@ module _ (b : Book) (s : State) (h : Transfer) where
   owned x v checked z = checked.taker (sym (new_owner v h.to checked.size) ∙ z)
 
   -- what has an owner keeps one
-  pub owner_same : {rs : List Row} {a : HandAnswer} → RowsEnd b s h rs a → (n key : ℕ)
+  pub owner_same : {rs : List Row} {a : Result CommitTime HandRefusal} → RowsEnd b s h rs a → (n key : ℕ)
       → Owned (current_of b.rows n key missing (versions b.rows)) → Owned (current_of rs n key missing (versions rs))
   owner_same (unwritten a q e) n key p = rw e p
   owner_same (aborted a x v q new checked e) n key p = rw e (go (same? key h.flight) (same? n x))
@@ -70,7 +72,7 @@ module _ (b : Book) (s : State) (h : Transfer) where
   -- ---- refused
 
   -- a number that is not new reads as before
-  pub reads_same : {rs : List Row} {a : HandAnswer} → RowsEnd b s h rs a → 0 < hand_number a → (n key : ℕ)
+  pub reads_same : {rs : List Row} {a : Result CommitTime HandRefusal} → RowsEnd b s h rs a → 0 < hand_number a → (n key : ℕ)
       → ((x : ℕ) → New b s x → has_row rs x ≡ true → n ≢ x) → current_of rs n key missing (versions rs) ≡ current_of b.rows n key missing (versions b.rows)
   unfolding hand_number
   reads_same (unwritten a q e) p n key f = rw e
@@ -84,7 +86,7 @@ module _ (b : Book) (s : State) (h : Transfer) where
   apart rs n x new has (inl was-open) e = false≢true (sym new.shut ∙ ap (is_open b.opened) (sym e) ∙ was-open)
   apart rs n x new has (inr rowless) e = false≢true (sym rowless ∙ ap (has_row rs) e ∙ has)
 
-  pub refused_book : (after : Book) (a : HandAnswer) → RowsEnd b s h after.rows a → 0 < hand_number a → RefusedBook b after
+  pub refused_book : (after : Book) (a : Result CommitTime HandRefusal) → RowsEnd b s h after.rows a → 0 < hand_number a → RefusedBook b after
   unfolding read_by hand_number
   refused_book after a (unwritten _ q e) p = record { current = λ n key f. rw e; past = λ key t. rw e; lists = λ key t1 t2. rw e; last = rw e }
   refused_book after a (aborted _ x v q new checked e) p = record {
@@ -97,7 +99,7 @@ module _ (b : Book) (s : State) (h : Transfer) where
 
   -- ---- handed
 
-  pub handed_book : (after : Book) (a : HandAnswer) → RowsEnd b s h after.rows a → hand_number a ≡ 0 → HandedBook h (hand_value a) b after
+  pub handed_book : (after : Book) (a : Result CommitTime HandRefusal) → RowsEnd b s h after.rows a → hand_number a ≡ 0 → HandedBook h (hand_value a) b after
   unfolding read_by hand_number hand_value strip_of
   handed_book after a (unwritten _ q e) z = absurd (omega arith)
   handed_book after a (aborted _ x v q new checked e) z = absurd (omega arith)

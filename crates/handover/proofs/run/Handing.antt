@@ -1,6 +1,6 @@
 -- A handover from a running store: its first two stages, begin and the read with its check. What the read gives is what the book has
 -- for a new number, and a flight that it may read is held against nobody.
-use Rattle.std.specs.Prelude.{Option, None, Some}
+use Rattle.std.specs.Prelude.{Option, None, Some, Ok, Result}
 use Prim.Native.Nat.{ℕ, ◌^◌, ◌<◌}
 use native.Mathlib.Omega.{arith}
 use mathlib.Core.Path.{◌≡◌, refl, sym, ap, ◌∙◌}
@@ -26,7 +26,7 @@ use Rattle.agreement.proofs.history.Ghost.{Disk}
 use Rattle.agreement.proofs.invariant.Invariant.{Up, running}
 use Rattle.agreement.proofs.reads.ReadFacts.{positive}
 use Rattle.handover.specs.declared.Transfer.{Transfer}
-use Rattle.handover.specs.declared.HandAnswer.TheVariants.{Denied, NotOwner}
+use Rattle.handover.specs.declared.HandRefusal.TheVariants.{Denied, NotOwner}
 use Rattle.handover.specs.Hand.{hand_number, refusal_in, is_present, owner_of, may_hand, begins, reads, after_check, after_read, after_begin, hand_of}
 use Rattle.handover.specs.Calls.{check_calls, read_calls, begin_calls, hand_calls}
 use Rattle.handover.specs.Promise.{read_by, look}
@@ -43,13 +43,13 @@ use Rattle.handover.proofs.run.Stages.{Under, Stage, Sizes, stage_none, stage_ca
 -- ---- the check
 
 -- what question 17 asks
-record May (a : Answer) (v : List ℕ) (h : Transfer) : Type 0 where
+record May (a : Result Answer Refusal) (v : List ℕ) (h : Transfer) : Type 0 where
   present : is_present a ≡ true
   owner : owner_of v ≡ h.from
   giver : h.from ≢ 0
   taker : h.to ≢ 0
 
-may : (a : Answer) (v : List ℕ) (h : Transfer) → may_hand a v h ≡ true → May a v h
+may : (a : Result Answer Refusal) (v : List ℕ) (h : Transfer) → may_hand a v h ≡ true → May a v h
 unfolding may_hand
 may a v h q =
     let owners = and_1 (is_present a) _ q in
@@ -137,14 +137,14 @@ module _ {l d : ℕ} {m c : List ℕ} {s : State} {b : Book} {disk : Disk} {clos
   begin_typed = sizes.began
 
   begun : refusal_in (begins s m c h).answer ≡ None
-      → Under l d b s h (answer_value (begins s m c h).answer) (begins s m c h) (fed l (leaves Done s m c) b (begin h.began))
-      × ((fed l (leaves Done s m c) b (begin h.began)).rows ≡ b.rows)
+      → Under l d b s h (answer_value (begins s m c h).answer) (begins s m c h) (fed l (leaves (Ok Done) s m c) b (begin h.began))
+      × ((fed l (leaves (Ok Done) s m c) b (begin h.began)).rows ≡ b.rows)
   unfolding called seen_of entered clock_of
   begun e =
       let x = answer_value (begins s m c h).answer in
-      let f = goes l d (leaves Done s m c) b (begin h.began) (running u) begin_typed in
+      let f = goes l d (leaves (Ok Done) s m c) b (begin h.began) (running u) begin_typed in
       let w = begin_way (way m c s (begin h.began)) e in
-      let entry = fed_none l (leaves Done s m c) b (begin h.began) e in
+      let entry = fed_none l (leaves (Ok Done) s m c) b (begin h.began) e in
       let unused = f.0 (number_none (begins s m c h).answer e) in
       let low : x < 2 ^ 64 = omega (arith, w.number, u.state.next_high) in (
         record {
@@ -158,18 +158,18 @@ module _ {l d : ℕ} {m c : List ℕ} {s : State} {b : Book} {disk : Disk} {clos
         ap (λ (y : Book). y.rows) entry,
       )
 
-  pub hand_stage : Stage l d b s h (hand_calls s m c h) (leaves Done s m c) b (hand_of s m c h)
+  pub hand_stage : Stage l d b s h (hand_calls s m c h) (leaves (Ok Done) s m c) b (hand_of s m c h)
   unfolding hand_calls hand_of after_begin called hand_number
   hand_stage = stage_call l d b s h (begin h.began) begin_typed (go (refusal_in (begins s m c h).answer) refl)
     where
       go : (a : Option Refusal) → refusal_in (begins s m c h).answer ≡ a
-          → Stage l d b s h (begin_calls a (begins s m c h) h) (begins s m c h) (fed l (leaves Done s m c) b (begin h.began)) (after_begin a (begins s m c h) h)
+          → Stage l d b s h (begin_calls a (begins s m c h) h) (begins s m c h) (fed l (leaves (Ok Done) s m c) b (begin h.began)) (after_begin a (begins s m c h) h)
       go (Some r) e =
           let same = (refusal_leaves m c s (begin h.began) r (in_refusal (begins s m c h).answer r e)).state in
           stage_none l d b s h (record {
-            inv = (goes l d (leaves Done s m c) b (begin h.began) (running u) begin_typed).1;
+            inv = (goes l d (leaves (Ok Done) s m c) b (begin h.began) (running u) begin_typed).1;
             active = λ n. ap (λ (t : State). is_at (find_active t.places n)) same;
             stored = omega (arith, ap (λ (t : State). t.saved.0) same);
-            rows = unwritten (Denied r) (positive r) (ap (λ (y : Book). y.rows) (fed_some l (leaves Done s m c) b (begin h.began) r e));
+            rows = unwritten (Denied r) (positive r) (ap (λ (y : Book). y.rows) (fed_some l (leaves (Ok Done) s m c) b (begin h.began) r e));
           })
       go None e = let (under, rows) = begun e in read_stage l d b s h sizes under rows

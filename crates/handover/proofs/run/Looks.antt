@@ -1,7 +1,7 @@
 -- What reads of a running store show, by its book: state and buffers fit, so a current read is refused just by its record number and
 -- by what the active numbers and the newest rows say, a read as of a time just by its record number and the time stored; else the
 -- strip is that of the rows.
-use Rattle.std.specs.Prelude.{Option, None, Some}
+use Rattle.std.specs.Prelude.{Option, None, Some, Result}
 use Prim.Native.Nat.{ℕ, zero, suc, ◌≤◌, ◌<◌}
 use native.Mathlib.Omega.{arith}
 use mathlib.Core.Path.{◌≡◌, refl, sym, ap, ◌∙◌, subst}
@@ -55,12 +55,12 @@ shows_owner {r = zero} a b f w = subst Owned (sym (b.answered refl)) (f (subst O
 shows_owner {r = suc r} a b f w = absurd (subst Owned (a.refused (omega arith)) w)
 
 -- a refused call shows no strip
-refused_strip : (a : Answer) (v : List ℕ) → 0 < answer_number a → strip_of a v ≡ missing
+refused_strip : (a : Result Answer Refusal) (v : List ℕ) → 0 < answer_number a → strip_of a v ≡ missing
 refused_strip a v h = go (refusal_in a) refl
   where
     go : (x : Option Refusal) → refusal_in a ≡ x → strip_of a v ≡ missing
     go None e = absurd (omega (arith, number_none a e))
-    go (Some r) e = ap (λ (y : Answer). strip_of y v) (in_refusal a r e)
+    go (Some r) e = ap (λ (y : Result Answer Refusal). strip_of y v) (in_refusal a r e)
 
 -- a call's number is that of its first "no"
 asked_number : (m c : List ℕ) (s : State) (k : Call) → answer_number (called m c s k).answer ≡ number_of (ask (asks m c s k))

@@ -1,6 +1,6 @@
 -- Reads by a number that has just begun: it is active and no version is its own, so its read is refused just if there is no such
 -- record or the key's newest version is of an active number, and gives what the rows have for a number without any.
-use Rattle.std.specs.Prelude.{Option, None}
+use Rattle.std.specs.Prelude.{Option, None, Ok}
 use Prim.Native.Nat.{ℕ, ◌^◌}
 use mathlib.Core.Path.{◌≡◌, refl, sym, ap, ◌∙◌}
 use mathlib.Core.Logic.{◌≢◌}
@@ -76,15 +76,15 @@ module _ {l d : ℕ} {m c : List ℕ} {s : State} {b : Book} {disk : Disk} {clos
 
   -- the book then
   abbrev book : Book
-  book = fed l (leaves Done s m c) b (begin clock)
+  book = fed l (leaves (Ok Done) s m c) b (begin clock)
 
   same_rows : book.rows ≡ b.rows
   unfolding entered called
-  same_rows = ap (λ (y : Book). y.rows) (fed_none l (leaves Done s m c) b (begin clock) given)
+  same_rows = ap (λ (y : Book). y.rows) (fed_none l (leaves (Ok Done) s m c) b (begin clock) given)
 
-  inv : Inv l d (after (next (leaves Done s m c) (begin clock))) book
+  inv : Inv l d (after (next (leaves (Ok Done) s m c) (begin clock))) book
   unfolding call_typed
-  inv = (goes l d (leaves Done s m c) b (begin clock) (running u) (lt-ltb clock (2 ^ 64) can.0)).1
+  inv = (goes l d (leaves (Ok Done) s m c) b (begin clock) (running u) (lt-ltb clock (2 ^ 64) can.0)).1
 
   same_held : (key : ℕ) → held_row (newest_under key None (versions b.rows)) (begin_of s m c clock).state.places number ≡ taken u number key
   same_held key = held_others (begin_of s m c clock).state.places s.places (newest_of_others b number key rowless) begun.beside.others

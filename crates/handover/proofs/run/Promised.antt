@@ -1,6 +1,7 @@
 -- What a handover promises of the store's own reads, from how it ends: the same numbers are active and the same keys held, so
 -- current reads are refused as before, and all else is what the rows answer (Kept).
-use Rattle.std.specs.Prelude.{Option, None, Some}
+use Rattle.layout.specs.declared.CommitTime.{CommitTime}
+use Rattle.std.specs.Prelude.{Option, None, Some, Result}
 use Prim.Native.Nat.{ℕ}
 use native.Mathlib.Omega.{arith}
 use mathlib.Core.Path.{◌≡◌, refl, sym, ap, ◌∙◌}
@@ -21,7 +22,7 @@ use Rattle.agreement.proofs.history.Ghost.{Disk}
 use Rattle.agreement.proofs.history.ListLaws.{same?}
 use Rattle.agreement.proofs.invariant.Invariant.{Up}
 use Rattle.handover.specs.declared.Transfer.{Transfer}
-use Rattle.handover.specs.declared.HandAnswer.{HandAnswer}
+use Rattle.handover.specs.declared.HandRefusal.{HandRefusal}
 use Rattle.handover.specs.Hand.{HandOutcome, hand_number, hand_value, with_owner}
 use Rattle.handover.specs.Promise.{read_by, HandedBook, look, new_read, CanBegin, AnyReads, AnyNewReads, HandedReads, Keeps}
 use Rattle.handover.proofs.calls.Fed.{with_up}
@@ -53,7 +54,7 @@ module _ (b : Book) (s : State) (h : Transfer) (ps : List Place) (active : (n : 
       go (inl e) = rw (e, eq-eqb h.flight h.flight refl, checked.free n, active x, new.idle) (and-false (not (eqb x n)))
       go (inr e) = rw (ne_eqb h.flight key (λ q. e (sym q))) (as_active (newest_under key None (versions b.rows)) n)
 
-  same_held : {rs : List Row} {a : HandAnswer} → RowsEnd b s h rs a → (key n : ℕ)
+  same_held : {rs : List Row} {a : Result CommitTime HandRefusal} → RowsEnd b s h rs a → (key n : ℕ)
       → held_row (newest_under key None (versions rs)) ps n ≡ held_row (newest_under key None (versions b.rows)) s.places n
   same_held (unwritten a q e) key n = rw e (as_active (newest_under key None (versions b.rows)) n)
   same_held (aborted a x v q new checked e) key n = rw (e, versions_version b.rows (new_version h x v)) (written_held x v new checked key n)
@@ -61,7 +62,7 @@ module _ (b : Book) (s : State) (h : Transfer) (ps : List Place) (active : (n : 
       rw (e, versions_commit (b.rows ++ (new_row h x v ∷ [])) x t, versions_version b.rows (new_version h x v)) (written_held x v new checked key n)
 
 -- where it is handed over, nobody held the flight
-handed_free : {b : Book} {s : State} {h : Transfer} {rs : List Row} {a : HandAnswer} → RowsEnd b s h rs a → hand_number a ≡ 0
+handed_free : {b : Book} {s : State} {h : Transfer} {rs : List Row} {a : Result CommitTime HandRefusal} → RowsEnd b s h rs a → hand_number a ≡ 0
     → (n : ℕ) → held_row (newest_under h.flight None (versions b.rows)) s.places n ≡ false
 unfolding hand_number
 handed_free (unwritten a q e) z n = absurd (omega arith)
@@ -69,7 +70,7 @@ handed_free (aborted a x v q new checked e) z n = absurd (omega arith)
 handed_free (handed x v t new checked time e) z n = checked.free n
 
 -- and there is such a record
-handed_form : {b : Book} {s : State} {h : Transfer} {rs : List Row} {a : HandAnswer} → RowsEnd b s h rs a → hand_number a ≡ 0 → key_form h.flight ≡ true
+handed_form : {b : Book} {s : State} {h : Transfer} {rs : List Row} {a : Result CommitTime HandRefusal} → RowsEnd b s h rs a → hand_number a ≡ 0 → key_form h.flight ≡ true
 unfolding hand_number
 handed_form (unwritten a q e) z = absurd (omega arith)
 handed_form (aborted a x v q new checked e) z = absurd (omega arith)

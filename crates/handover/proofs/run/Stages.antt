@@ -1,6 +1,7 @@
 -- The stages of a handover in a run, from its last call back. Between begin and its end its number x is active and nothing else has
 -- changed but the rows (`Under`); each call keeps this or ends it, by the lemma for each event and by what the call does (Ways).
-use Rattle.std.specs.Prelude.{Option, None, Some}
+use Rattle.layout.specs.declared.CommitTime.{CommitTime}
+use Rattle.std.specs.Prelude.{Option, None, Some, Result}
 use Prim.Native.Nat.{ℕ, ◌+◌, max}
 use mathlib.Core.Path.{◌≡◌, refl, sym, ap, ◌∙◌}
 use mathlib.Core.Logic.{◌⊎◌, inl, inr, ◌≢◌}
@@ -26,8 +27,8 @@ use Rattle.agreement.proofs.invariant.Invariant.{Inv}
 use Rattle.agreement.proofs.logging.GrowthLaws.{fits_up}
 use Rattle.agreement.proofs.reads.ReadFacts.{positive}
 use Rattle.handover.specs.declared.Transfer.{Transfer}
-use Rattle.handover.specs.declared.HandAnswer.{HandAnswer}
-use Rattle.handover.specs.declared.HandAnswer.TheVariants.{Denied}
+use Rattle.handover.specs.declared.HandRefusal.{HandRefusal}
+use Rattle.handover.specs.declared.HandRefusal.TheVariants.{Denied}
 use Rattle.handover.specs.Hand.{HandOutcome, hand_number, refusal_in, with_owner, writes, commits, aborts, gives_up, after_commit, after_write}
 use Rattle.handover.specs.Calls.{hand_typed, commit_calls, write_calls}
 use Rattle.handover.proofs.calls.Answers.{number_none, in_refusal}
@@ -118,7 +119,7 @@ module _ (l d : ℕ) (b : Book) (s : State) (h : Transfer) where
 
   -- ---- the abort
 
-  pub abort_stage : {x : ℕ} {o : Outcome} {book : Book} (a : HandAnswer) → Under l d b s h x o book → RowsEnd b s h book.rows a
+  pub abort_stage : {x : ℕ} {o : Outcome} {book : Book} (a : Result CommitTime HandRefusal) → Under l d b s h x o book → RowsEnd b s h book.rows a
       → Stage l d b s h (abort x ∷ []) o book (gives_up a o x)
   unfolding called call_typed entered
   abort_stage {x = x} {o = o} {book = book} a under rows = stage_call (abort x) under.word (stage_none (record {

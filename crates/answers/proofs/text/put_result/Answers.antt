@@ -3,12 +3,12 @@ use native.Mathlib.Omega.{arith}
 use Rattle.answers.specs.Text.{result_text}
 use Rattle.answers.proofs.text.put_result.Goals as goal
 
-pub returns-in-Refused : goal.returns-in-Refused
+pub returns-in-Err : goal.returns-in-Err
 unfolding result_text
-returns-in-Refused c =
+returns-in-Err c =
     record {
       upper_bound = omega (arith, c.byte.ensures.value);
-      out_after = simp c.in-Refused.is c.byte.ensures.out_after;
+      out_after = simp c.in-Err.is c.byte.ensures.out_after;
     }
 
 pub returns-in-Done : goal.returns-in-Done

@@ -4,9 +4,9 @@ use Rattle.book.specs.Room.{result_of}
 use Rattle.book.specs.Show.{shown_of}
 use Rattle.book.proofs.room.show.Goals as goal
 
-pub returns-in-Refused : goal.returns-in-Refused
+pub returns-in-Err : goal.returns-in-Err
 unfolding shown_of result_of answer_number
-returns-in-Refused c = simp (c.in-Refused.is, c.number_of.ensures, c.none.ensures)
+returns-in-Err c = simp (c.in-Err.is, c.number_of.ensures, c.none.ensures)
 
 pub returns-in-Done : goal.returns-in-Done
 unfolding shown_of result_of answer_number
