@@ -2,12 +2,12 @@
 // answer put into the output.
 ghost use Rattle.std.specs.Prelude.{◌≡◌, true, [], ◌*◌, ◌≤◌, length, take};
 ghost use Rattle.script.specs.Run.{stand, play_of};
-ghost use Rattle.memory.specs.Memory.{state_of};
 ghost use Rattle.book.specs.Steps.{world, does};
 
 use crate::{call, room};
 use script::line;
 use script::line::Line;
+use store::State;
 
 // Where a run stands behind a read: the line begun, whether the run goes on, and how many bytes of the output
 // are to be written.
@@ -21,8 +21,7 @@ pub struct Run {
 // Takes the bytes of a read: at the end of each line its call is made.
 pub fn play(
     begun: Line,
-    words: &mut [u64; 448],
-    tail: &mut [u8; 512],
+    state: &mut State,
     bytes: &[u8],
     medium: &mut [u8],
     cache: &mut [u8],
@@ -30,9 +29,9 @@ pub fn play(
 ) -> Run
     requires { 44 * length bytes.now ≤ length out.old }
     ensures n_in_bounds { result.n ≤ length out.new }
-    ensures out_after { stand result.line (world (state_of words.new tail.new) medium.new cache.new)
+    ensures out_after { stand result.line (world state.new medium.new cache.new)
         result.on (take result.n out.new)
-        ≡ play_of does (stand begun (world (state_of words.old tail.old) medium.old cache.old) true []) bytes.now }
+        ≡ play_of does (stand begun (world state.old medium.old cache.old) true []) bytes.now }
 {
     let mut line = begun;
     let mut n: usize = 0;
@@ -59,11 +58,11 @@ pub fn play(
             };
         }
         if letter == b'Q' {
-            let reading = room::query(asked, words, tail, medium, cache);
+            let reading = room::query(asked, state, medium, cache);
             let answer = reading.answer;
             n = room::put(out, n, letter, answer, reading.value[0]);
         } else {
-            let answer = room::change(asked, words, tail, medium, cache);
+            let answer = room::change(asked, state, medium, cache);
             n = room::put(out, n, letter, answer, 0);
         }
     }

@@ -5,14 +5,13 @@ ghost use Rattle.store.specs.Answer.{answer_number, leaves};
 ghost use Rattle.store.specs.Open.{open_of};
 ghost use Rattle.store.specs.CurrentRead.{reads};
 ghost use Rattle.store.specs.declared.Answer.TheVariants.{Done};
-ghost use Rattle.memory.specs.Memory.{state_of};
 ghost use Rattle.book.specs.Room.{result_of, line_text, result_text, letter_of};
 ghost use Rattle.book.specs.Play.{change_of, query_of};
 ghost use Rattle.book.specs.Show.{shown_result, shown_of};
 
 use crate::call::Call;
 use script::print;
-use store::{Answer, Reading};
+use store::{Answer, Reading, State};
 
 // What is printed behind the letter: 0 or the refusal, and a result, if there is one.
 #[derive(Clone, Copy)]
@@ -103,35 +102,34 @@ pub fn letter(call: Call) -> u8
 }
 
 // A power cut, and opening again: state and cache are lost.
-fn cut(words: &mut [u64; 448], tail: &mut [u8; 512], medium: &[u8], cache: &mut [u8]) -> Answer
-    ensures { leaves result (state_of words.new tail.new) medium.now cache.new
+fn cut(state: &mut State, medium: &[u8], cache: &mut [u8]) -> Answer
+    ensures { leaves result state.new medium.now cache.new
         ≡ open_of medium.now (zeros (length cache.old)) 4 2 }
 {
     fields::block::clear(cache);
-    media::open::open(medium, cache, words, tail, 4, 2)
+    media::open::open(medium, cache, state, 4, 2)
 }
 
 // Makes the call of a line that is no query.
 pub fn change(
     call: Call,
-    words: &mut [u64; 448],
-    tail: &mut [u8; 512],
+    state: &mut State,
     medium: &mut [u8],
     cache: &mut [u8],
 ) -> Answer
-    ensures { leaves result (state_of words.new tail.new) medium.new cache.new
-        ≡ change_of call (state_of words.old tail.old) medium.old cache.old }
+    ensures { leaves result state.new medium.new cache.new
+        ≡ change_of call state.old medium.old cache.old }
 {
     match call {
-        Call::Begin(clock) => transactions::begin::begin(words, tail, medium, cache, clock),
+        Call::Begin(clock) => transactions::begin::begin(state, medium, cache, clock),
         Call::Write(number, key, byte) => {
-            writes::write::write(words, tail, medium, cache, number, key, [byte; 16])
+            writes::write::write(state, medium, cache, number, key, [byte; 16])
         }
         Call::Commit(number, clock) => {
-            transactions::commit::commit(words, tail, medium, cache, number, clock)
+            transactions::commit::commit(state, medium, cache, number, clock)
         }
         Call::Query(_, _) => Answer::Done,
-        Call::Cut => cut(words, tail, medium, cache),
+        Call::Cut => cut(state, medium, cache),
         Call::Other => Answer::Done,
     }
 }
@@ -148,19 +146,18 @@ fn nothing() -> Reading
 // Makes a query, which leaves the state as it is.
 pub fn query(
     call: Call,
-    words: &[u64; 448],
-    tail: &[u8; 512],
+    state: &State,
     medium: &[u8],
     cache: &[u8],
 ) -> Reading
-    ensures { reads result.answer result.value (state_of words.now tail.now) medium.now cache.now
-        ≡ query_of call (state_of words.now tail.now) medium.now cache.now }
+    ensures { reads result.answer result.value state.now medium.now cache.now
+        ≡ query_of call state.now medium.now cache.now }
 {
     match call {
         Call::Begin(_) => nothing(),
         Call::Write(_, _, _) => nothing(),
         Call::Commit(_, _) => nothing(),
-        Call::Query(key, time) => reads::as_of::as_of(words, tail, medium, cache, key, time),
+        Call::Query(key, time) => reads::as_of::as_of(state, medium, cache, key, time),
         Call::Cut => nothing(),
         Call::Other => nothing(),
     }

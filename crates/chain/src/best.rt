@@ -2,16 +2,16 @@
 ghost use Rattle.std.specs.Prelude.{◌≡◌, suc, length, None};
 ghost use Rattle.store.specs.Places.{time_under};
 ghost use Rattle.store.specs.Chain.{version_time, better_of, best_from, best_of};
-ghost use Rattle.memory.specs.Memory.{places_of};
 ghost use Rattle.cached.specs.Room.{Room, Head};
 ghost use Rattle.chain.specs.Later.{or_later};
 
 use layout::CommitTime;
 use layout::slot::Slot;
+use store::State;
 
 // The time of a version: its stamp or its pair's time.
-pub fn version_time(words: &[u64; 448], slot: Slot) -> Option<CommitTime>
-    ensures { result ≡ version_time (time_under (places_of words.now)) slot }
+pub fn version_time(state: &State, slot: Slot) -> Option<CommitTime>
+    ensures { result ≡ version_time (time_under state.now.places) slot }
 {
     match slot {
         Slot::Empty => None,
@@ -57,9 +57,9 @@ fn later(first: Option<(u64, CommitTime)>, second: Option<(u64, CommitTime)>) ->
 }
 
 // The version with the greatest time not above t, following earlier slots from s; among equal times the highest slot.
-fn find_from(cache: &[u8], words: &[u64; 448], t: u64, s: u64) -> Option<(u64, CommitTime)>
+fn find_from(cache: &[u8], state: &State, t: u64, s: u64) -> Option<(u64, CommitTime)>
     requires { Room (length cache.now) (suc s) }
-    ensures { result ≡ best_from cache.now (time_under (places_of words.now)) t (suc s) s }
+    ensures { result ≡ best_from cache.now (time_under state.now.places) t (suc s) s }
 {
     let mut best = None;
     let mut at = s;
@@ -79,9 +79,9 @@ fn find_from(cache: &[u8], words: &[u64; 448], t: u64, s: u64) -> Option<(u64, C
     }
 }
 
-pub fn find(head: Option<u64>, cache: &[u8], words: &[u64; 448], t: u64) -> Option<(u64, CommitTime)>
+pub fn find(head: Option<u64>, cache: &[u8], state: &State, t: u64) -> Option<(u64, CommitTime)>
     requires { Head head (length cache.now) }
-    ensures { result ≡ best_of head cache.now (time_under (places_of words.now)) t }
+    ensures { result ≡ best_of head cache.now (time_under state.now.places) t }
 {
     match head {
         Some(s) => find_from(cache, words, t, s),

@@ -5,11 +5,11 @@ ghost use Rattle.fields.specs.Cells.{flat};
 ghost use Rattle.store.specs.Places.{time_under};
 ghost use Rattle.store.specs.Chain.{cell_at};
 ghost use Rattle.store.specs.Changes.{line_bytes, differs, differs_from, lines_below};
-ghost use Rattle.memory.specs.Memory.{places_of};
 ghost use Rattle.cached.specs.Room.{Room, Head};
 ghost use Rattle.chain.specs.Ranked.{dated_at, pairs, Slots, latest, if_differs, changed, lines_of};
 
 use layout::CommitTime;
+use store::State;
 
 // Do two slots differ in kind or value?
 fn differ(cache: &[u8], a: u64, b: u64) -> bool
@@ -126,14 +126,14 @@ fn write(cache: &[u8], ranked: &[u64], n: usize, out: &mut [u8])
 pub fn list(
     head: Option<u64>,
     cache: &[u8],
-    words: &[u64; 448],
+    state: &State,
     t1: u64,
     t2: u64,
     buffer: &mut [u8],
 ) -> Option<u64>
     requires { Head head (length cache.now) }
-    ensures result_value { let ls = lines_below cache.now (time_under (places_of words.now)) head t1 (suc (suc t2)) (suc t2) in result ≡ cond (leb (32 * length ls) (length buffer.old)) (Some (length ls)) None }
-    ensures buffer_after { let ls = lines_below cache.now (time_under (places_of words.now)) head t1 (suc (suc t2)) (suc t2) in buffer.new ≡ cond (leb (32 * length ls) (length buffer.old)) (splice buffer.old 0 (flat line_bytes ls)) buffer.old }
+    ensures result_value { let ls = lines_below cache.now (time_under state.now.places) head t1 (suc (suc t2)) (suc t2) in result ≡ cond (leb (32 * length ls) (length buffer.old)) (Some (length ls)) None }
+    ensures buffer_after { let ls = lines_below cache.now (time_under state.now.places) head t1 (suc (suc t2)) (suc t2) in buffer.new ≡ cond (leb (32 * length ls) (length buffer.old)) (splice buffer.old 0 (flat line_bytes ls)) buffer.old }
 {
     let mut ranked = [0u64; 1920];
     let n = crate::ranked::gather(head, cache, words, t2, &mut ranked);

@@ -1,10 +1,10 @@
 // The newest version of a record, and whether it holds the record.
 ghost use Rattle.std.specs.Prelude.{◌≡◌, suc, length};
 ghost use Rattle.store.specs.Chain.{version_of, newest, held_as, held_at};
-ghost use Rattle.memory.specs.Memory.{places_of};
 ghost use Rattle.cached.specs.Room.{Room, Head};
 
 use layout::slot::Slot;
+use store::State;
 
 // Does a slot hold a version of the record?
 pub fn holds(cache: &[u8], key: u16, n: u64) -> bool
@@ -37,8 +37,8 @@ pub fn find(cache: &[u8], key: u16, n: u64) -> Option<u64>
 }
 
 // Does a slot wait under another active number?
-fn holds_against(slot: Slot, words: &[u64; 448], n: u64) -> bool
-    ensures { result ≡ held_as slot (places_of words.now) n }
+fn holds_against(slot: Slot, state: &State, n: u64) -> bool
+    ensures { result ≡ held_as slot state.now.places n }
 {
     match slot {
         Slot::Empty => false,
@@ -57,9 +57,9 @@ fn holds_against(slot: Slot, words: &[u64; 448], n: u64) -> bool
 }
 
 // Does a record's newest version hold it against transaction n?
-pub fn is_held(newest: Option<u64>, cache: &[u8], words: &[u64; 448], n: u64) -> bool
+pub fn is_held(newest: Option<u64>, cache: &[u8], state: &State, n: u64) -> bool
     requires { Head newest (length cache.now) }
-    ensures { result ≡ held_at newest cache.now (places_of words.now) n }
+    ensures { result ≡ held_at newest cache.now state.now.places n }
 {
     match newest {
         Some(s) => holds_against(cached::state_at(cache, s), words, n),

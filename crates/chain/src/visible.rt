@@ -2,14 +2,14 @@
 ghost use Rattle.std.specs.Prelude.{◌≡◌, suc, length};
 ghost use Rattle.store.specs.Places.{time_under};
 ghost use Rattle.store.specs.Chain.{is_timed, visible, visible_from, visible_of};
-ghost use Rattle.memory.specs.Memory.{places_of};
 ghost use Rattle.cached.specs.Room.{Room, Head};
 
 use layout::slot::Slot;
+use store::State;
 
 // Is a number committed? Then its pair has a time.
-fn is_committed(words: &[u64; 448], n: u64) -> bool
-    ensures { result ≡ is_timed (time_under (places_of words.now) n) }
+fn is_committed(state: &State, n: u64) -> bool
+    ensures { result ≡ is_timed (time_under state.now.places n) }
 {
     let f = live::places::find_committed(words, n);
     match f {
@@ -19,8 +19,8 @@ fn is_committed(words: &[u64; 448], n: u64) -> bool
 }
 
 // Does transaction n see what the slot says?
-fn sees(slot: Slot, words: &[u64; 448], n: u64) -> bool
-    ensures { result ≡ visible slot (time_under (places_of words.now)) n }
+fn sees(slot: Slot, state: &State, n: u64) -> bool
+    ensures { result ≡ visible slot (time_under state.now.places) n }
 {
     match slot {
         Slot::Empty => false,
@@ -35,9 +35,9 @@ fn sees(slot: Slot, words: &[u64; 448], n: u64) -> bool
 }
 
 // The first version that n sees, following earlier slots from s.
-fn find_from(cache: &[u8], words: &[u64; 448], n: u64, s: u64) -> Option<u64>
+fn find_from(cache: &[u8], state: &State, n: u64, s: u64) -> Option<u64>
     requires { Room (length cache.now) (suc s) }
-    ensures { result ≡ visible_from cache.now (time_under (places_of words.now)) n (suc s) s }
+    ensures { result ≡ visible_from cache.now (time_under state.now.places) n (suc s) s }
 {
     let mut at = s;
     loop {
@@ -56,9 +56,9 @@ fn find_from(cache: &[u8], words: &[u64; 448], n: u64, s: u64) -> Option<u64>
     }
 }
 
-pub fn find(head: Option<u64>, cache: &[u8], words: &[u64; 448], n: u64) -> Option<u64>
+pub fn find(head: Option<u64>, cache: &[u8], state: &State, n: u64) -> Option<u64>
     requires { Head head (length cache.now) }
-    ensures { result ≡ visible_of head cache.now (time_under (places_of words.now)) n }
+    ensures { result ≡ visible_of head cache.now (time_under state.now.places) n }
 {
     match head {
         Some(s) => find_from(cache, words, n, s),

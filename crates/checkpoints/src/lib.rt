@@ -14,15 +14,14 @@ ghost use Rattle.store.specs.Places.{place_at};
 ghost use Rattle.store.specs.State.{with_phase};
 ghost use Rattle.store.specs.Checkpoint.{least_or, new_oldest, no_pair, pair_below, pairs_from, checkpoint_step};
 ghost use Rattle.store.specs.Relief.{checkpoint_left};
-ghost use Rattle.memory.specs.Memory.{places_of, first_of, phase_by, state_of};
+ghost use Rattle.memory.specs.Memory.{phase_by};
 ghost use Rattle.checkpoints.specs.Lesser.{lesser_of};
 
 use layout::item::Pair;
 use layout::master::Fields;
 use layout::{CommitTime, TxNumber};
-use memory::{
-    BEGAN, BLOCKS, ENDS, FIRSTS, KINDS, NEXT, NUMBERS, OLDEST, PAGES, PHASE, SAVED, TIMES,
-};
+use memory::{BEGAN, ENDS, FIRSTS, KINDS, NUMBERS, OLDEST, PHASE, TIMES};
+use store::State;
 
 // The lesser of two numbers, where 0 is none.
 fn lesser(a: u64, b: u64) -> u64
@@ -41,9 +40,9 @@ fn lesser(a: u64, b: u64) -> u64
 }
 
 // The least of the first changes of the pages that is not 0, or another number if all are.
-fn least(words: &[u64], pages: u64, other: u64) -> u64
+fn least(state: &State, pages: u64, other: u64) -> u64
     requires { (length words.now ≡ 448) × (pages ≤ 64) }
-    ensures { result ≡ least_or other (take pages (first_of words.now)) }
+    ensures { result ≡ least_or other (take pages state.now.first) }
 {
     let mut found: u64 = 0;
     let mut i: u64 = 0;
@@ -58,12 +57,12 @@ fn least(words: &[u64], pages: u64, other: u64) -> u64
 }
 
 // The new oldest sequence: the least block that first changed a page not stored since, or the tail.
-fn new_oldest(words: &[u64; 448], tail: &[u8; 512]) -> u64
-    requires { get_or words.now 1 0 ≤ 64 }
-    ensures { result ≡ new_oldest (state_of words.now tail.now) }
+fn new_oldest(state: &State) -> u64
+    requires { state.now.pages ≤ 64 }
+    ensures { result ≡ new_oldest state.now }
 {
-    let pages = words[PAGES];
-    least(words, pages, layout::journal::sequence(tail))
+    let pages = state.pages;
+    least(words, pages, layout::journal::sequence(&state.tail))
 }
 
 // Does the record with an end place lie below a block? From 2^55 on, 512 × the sequence is above every end place.
@@ -87,10 +86,9 @@ fn no_pair() -> Pair
 }
 
 // The pair that the table has for a place: that of a commit below the oldest block.
-fn pair_of(words: &[u64], i: usize, oldest: u64) -> Pair
-    requires words_len { length words.now ≡ 448 }
+fn pair_of(state: &State, i: usize, oldest: u64) -> Pair
     requires i_bound { i < 64 }
-    ensures { result ≡ pair_below oldest (place_at (places_of words.now) i).life }
+    ensures { result ≡ pair_below oldest (place_at state.now.places i).life }
 {
     if words[KINDS + i] != 2 {
         return no_pair();
@@ -105,10 +103,10 @@ fn pair_of(words: &[u64], i: usize, oldest: u64) -> Pair
 }
 
 // Lays the pairs of the places `from` up to `to` over the front of a block, each in the room of its place.
-fn lay_pairs(block: &mut [u8], words: &[u64; 448], oldest: u64, from: usize, to: usize)
+fn lay_pairs(block: &mut [u8], state: &State, oldest: u64, from: usize, to: usize)
     requires block_len { length block.old ≡ 512 }
     requires from_le_to { (from ≤ to) × (to ≤ 64) × (to ≤ from + 32) }
-    ensures { block.new ≡ splice block.old 0 (flat pair_bytes (pairs_from (places_of words.now) oldest from (to - from))) }
+    ensures { block.new ≡ splice block.old 0 (flat pair_bytes (pairs_from state.now.places oldest from (to - from))) }
 {
     let mut at: usize = 0;
     let mut i = from;
@@ -121,67 +119,65 @@ fn lay_pairs(block: &mut [u8], words: &[u64; 448], oldest: u64, from: usize, to:
 }
 
 // Stores block k of the medium with the places `from` up to `to` of the table.
-fn store_table(medium: &mut [u8], k: usize, words: &[u64; 448], oldest: u64, from: usize, to: usize)
+fn store_table(medium: &mut [u8], k: usize, state: &State, oldest: u64, from: usize, to: usize)
     requires k_bound { (k ≤ 2) × (1536 ≤ length medium.old) }
     requires from_le_to { (from ≤ to) × (to ≤ 64) × (to ≤ from + 32) }
-    ensures { medium.new ≡ put medium.old k (flat pair_bytes (pairs_from (places_of words.now) oldest from (to - from))) }
+    ensures { medium.new ≡ put medium.old k (flat pair_bytes (pairs_from state.now.places oldest from (to - from))) }
 {
     let a = 512 * k;
     lay_pairs(&mut medium[a..a + 512], words, oldest, from, to);
 }
 
 // Stores the master with the oldest sequence and the time that the first call fixed, and the next number of this call.
-fn store_master(words: &[u64; 448], medium: &mut [u8])
+fn store_master(state: &State, medium: &mut [u8])
     requires { 512 ≤ length medium.old }
-    ensures { medium.new ≡ put medium.old 0 (master_bytes (record { blocks = get_or words.now 0 0; pages = get_or words.now 1 0; oldest = get_or words.now 9 0; next = record { 0 = get_or words.now 3 0 }; last = record { 0 = get_or words.now 10 0 } })) }
+    ensures { medium.new ≡ put medium.old 0 (master_bytes (record { blocks = state.now.blocks; pages = state.now.pages; oldest = state.now.?9; next = record { 0 = state.now.next.0 }; last = record { 0 = get_or words.now 10 0 } })) }
 {
     layout::master::write(
         &mut medium[0..512],
         Fields {
-            blocks: words[BLOCKS],
-            pages: words[PAGES],
+            blocks: state.blocks,
+            pages: state.pages,
             oldest: words[OLDEST],
-            next: TxNumber(words[NEXT]),
+            next: TxNumber(state.next.0),
             last: CommitTime(words[BEGAN]),
         },
     );
 }
 
 // Notes that the first store is made, and fixes the oldest sequence and the time last stored for the others.
-fn begin(words: &mut [u64], oldest: u64)
-    requires { length words.old ≡ 448 }
-    ensures { (tail : List ℕ) → state_of words.new tail ≡ with_phase (state_of words.old tail) (FirstStored oldest (record { 0 = get_or words.old 5 0 })) }
+fn begin(state: &mut State, oldest: u64)
+    ensures { state.new ≡ with_phase state.old (FirstStored oldest (record { 0 = state.old.saved.0 })) }
 {
     words[PHASE] = 1;
     words[OLDEST] = oldest;
-    words[BEGAN] = words[SAVED];
+    words[BEGAN] = state.saved.0;
 }
 
 // Notes how many of the stores are made; what the first call fixed stays.
-fn go_on(words: &mut [u64], kind: u64)
-    requires { length words.old ≡ 448 }
-    ensures { (tail : List ℕ) → state_of words.new tail ≡ with_phase (state_of words.old tail) (phase_by kind (get_or words.old 9 0) (get_or words.old 10 0)) }
+fn go_on(state: &mut State, kind: u64)
+    ensures { state.new ≡ with_phase state.old (phase_by kind state.old.?9 (get_or words.old 10 0)) }
 {
     words[PHASE] = kind;
 }
 
 // Is a call left: is a checkpoint under way, or would one move the oldest block?
-pub fn is_left(words: &[u64; 448], tail: &[u8; 512], medium: &[u8]) -> bool
-    requires { (get_or words.now 1 0 ≤ 64) × (512 ≤ length medium.now) }
-    ensures { result ≡ checkpoint_left (state_of words.now tail.now) medium.now }
+pub fn is_left(state: &State, medium: &[u8]) -> bool
+    requires { (state.now.pages ≤ 64) × (512 ≤ length medium.now) }
+    ensures { result ≡ checkpoint_left state.now medium.now }
 {
     let phase = words[PHASE];
     match phase {
         1 => true,
         2 => true,
-        _ => new_oldest(words, tail) != layout::master::oldest(medium),
+        _ => new_oldest(state) != layout::master::oldest(medium),
     }
 }
 
 // The next of the three stores. It writes one block, in place.
-pub fn step(words: &mut [u64; 448], tail: &[u8; 512], medium: &mut [u8])
-    requires { (get_or words.old 1 0 ≤ 64) × (1536 ≤ length medium.old) }
-    ensures { (cache : List ℕ) → leaves (Ok Done) (state_of words.new tail.now) medium.new cache ≡ checkpoint_step (state_of words.old tail.now).phase (state_of words.old tail.now) medium.old cache }
+pub fn step(state: &mut State, medium: &mut [u8])
+    requires { (state.old.pages ≤ 64) × (1536 ≤ length medium.old) }
+    ensures { (cache : List ℕ) → leaves (Ok Done) state.new medium.new cache ≡ checkpoint_step state.old.phase state.old medium.old cache }
 {
     let phase = words[PHASE];
     match phase {
@@ -195,7 +191,7 @@ pub fn step(words: &mut [u64; 448], tail: &[u8; 512], medium: &mut [u8])
             go_on(words, 0);
         }
         _ => {
-            let oldest = new_oldest(words, tail);
+            let oldest = new_oldest(state);
             store_table(medium, 1, words, oldest, 0, 32);
             begin(words, oldest);
         }

@@ -2,11 +2,11 @@
 ghost use Rattle.std.specs.Prelude.{◌≡◌, not, ◌+◌, ◌≤◌, length, take};
 ghost use Rattle.fields.specs.Part.{part};
 ghost use Rattle.fields.specs.Equal.{eq_list};
-ghost use Rattle.memory.specs.Memory.{state_of};
 ghost use Rattle.disk.specs.Block.{log_block, page_block, phase_block, block_of, start_of, length_of};
 
-use memory::{BLOCKS, PAGES, PHASE};
+use memory::{PHASE};
 use script::call::Call;
+use store::State;
 
 // The bytes of a medium that a line can change: where they begin, and how many there are.
 #[derive(Clone, Copy)]
@@ -16,22 +16,22 @@ pub struct Extent {
 }
 
 // The tail's block.
-fn of_log(words: &[u64; 448], tail: &[u8; 512]) -> u64
-    ensures { result ≡ log_block (state_of words.now tail.now) }
+fn of_log(state: &State) -> u64
+    ensures { result ≡ log_block state.now }
 {
-    let blocks = words[BLOCKS];
-    if memory::fit::in_range(blocks, words[PAGES]) {
-        return layout::place::log_block(blocks, layout::journal::sequence(tail)) as u64;
+    let blocks = state.blocks;
+    if memory::fit::in_range(blocks, state.pages) {
+        return layout::place::log_block(blocks, layout::journal::sequence(&state.tail)) as u64;
     }
     0
 }
 
 // A page's block.
-fn of_page(words: &[u64; 448], tail: &[u8; 512], page: u64) -> u64
-    ensures { result ≡ page_block (state_of words.now tail.now) page }
+fn of_page(state: &State, page: u64) -> u64
+    ensures { result ≡ page_block state.now page }
 {
-    let blocks = words[BLOCKS];
-    let pages = words[PAGES];
+    let blocks = state.blocks;
+    let pages = state.pages;
     if memory::fit::in_range(blocks, pages) {
         if page < pages {
             return layout::place::page_block(blocks, page) as u64;
@@ -41,8 +41,8 @@ fn of_page(words: &[u64; 448], tail: &[u8; 512], page: u64) -> u64
 }
 
 // The block that the next call of a checkpoint stores.
-fn of_phase(words: &[u64; 448], tail: &[u8; 512]) -> u64
-    ensures { result ≡ phase_block (state_of words.now tail.now).phase }
+fn of_phase(state: &State) -> u64
+    ensures { result ≡ phase_block state.now.phase }
 {
     let kind = words[PHASE];
     if kind == 1 {
@@ -55,17 +55,17 @@ fn of_phase(words: &[u64; 448], tail: &[u8; 512]) -> u64
 }
 
 // The block that a line can change; 0 for a line that changes none.
-pub fn of(call: Call, words: &[u64; 448], tail: &[u8; 512]) -> u64
-    ensures { result ≡ block_of (state_of words.now tail.now) call }
+pub fn of(call: Call, state: &State) -> u64
+    ensures { result ≡ block_of state.now call }
 {
     match call {
-        Call::Write(_, _) => of_log(words, tail),
-        Call::Erase(_, _) => of_log(words, tail),
-        Call::Commit(_, _) => of_log(words, tail),
-        Call::Hand(_, _, _, _, _) => of_log(words, tail),
-        Call::StoreLog => of_log(words, tail),
-        Call::StorePage(page) => of_page(words, tail, page),
-        Call::Checkpoint => of_phase(words, tail),
+        Call::Write(_, _) => of_log(state),
+        Call::Erase(_, _) => of_log(state),
+        Call::Commit(_, _) => of_log(state),
+        Call::Hand(_, _, _, _, _) => of_log(state),
+        Call::StoreLog => of_log(state),
+        Call::StorePage(page) => of_page(state, page),
+        Call::Checkpoint => of_phase(state),
         Call::Poke(offset, _) => offset / 512,
         _ => 0,
     }

@@ -2,7 +2,6 @@
 ghost use Rattle.std.specs.Prelude.{◌≡◌, false, not, ◌++◌, ◌+◌, ◌≤◌, length, take};
 ghost use Rattle.fields.specs.Part.{part};
 ghost use Rattle.fields.specs.Equal.{eq_list};
-ghost use Rattle.memory.specs.Memory.{state_of};
 ghost use Rattle.rooms.specs.Room.{medium_in, plan_of, turn_of};
 ghost use Rattle.rooms.specs.Parts.{stage_of, room_of};
 ghost use Rattle.disk.specs.Stored.{is_format, stored, Whole};
@@ -12,6 +11,7 @@ use rooms::parts;
 use rooms::parts::Standing;
 use rooms::plan::Plan;
 use script::call::Asked;
+use store::State;
 
 // How the room stands then, how many bytes of the output are taken, and whether bytes of the medium changed: those from
 // `at` on, `len` of them, and no others.
@@ -30,8 +30,7 @@ pub fn play(
     asked: Asked,
     p: Plan,
     t: Standing,
-    words: &mut [u64; 448],
-    tail: &mut [u8; 512],
+    state: &mut State,
     medium: &mut [u8],
     cache: &mut [u8],
     buffer: &mut [u8],
@@ -46,25 +45,25 @@ pub fn play(
     requires stage_bound { p.stage ≤ stage_of t }
     ensures n_bound { result.n ≤ n + 94000 }
     ensures out_after { take result.n out.new ≡ take n out.old
-        ++ (turn_of asked (room_of t medium.old cache.old (state_of words.old tail.old))).text }
-    ensures tail_after { room_of result.standing medium.new cache.new (state_of words.new tail.new)
-        ≡ (turn_of asked (room_of t medium.old cache.old (state_of words.old tail.old))).room }
+        ++ (turn_of asked (room_of t medium.old cache.old state.old)).text }
+    ensures tail_after { room_of result.standing medium.new cache.new state.new
+        ≡ (turn_of asked (room_of t medium.old cache.old state.old)).room }
     ensures len_bound { result.at + result.len ≤ 50688 }
     ensures whole { is_format asked.call ≡ false
-        → Whole (medium_in (room_of t medium.old cache.old (state_of words.old tail.old))) result.at result.len }
+        → Whole (medium_in (room_of t medium.old cache.old state.old)) result.at result.len }
     ensures changed_value { is_format asked.call ≡ false → result.changed
-        ≡ not (eq_list (medium_in (room_of t medium.old cache.old (state_of words.old tail.old)))
-        (medium_in (room_of result.standing medium.new cache.new (state_of words.new tail.new)))) }
+        ≡ not (eq_list (medium_in (room_of t medium.old cache.old state.old))
+        (medium_in (room_of result.standing medium.new cache.new state.new))) }
     ensures len_after { is_format asked.call ≡ false
-        → stored result.changed (medium_in (room_of t medium.old cache.old (state_of words.old tail.old))) result.at
+        → stored result.changed (medium_in (room_of t medium.old cache.old state.old)) result.at
         (part medium.new result.at result.len)
-        ≡ medium_in (room_of result.standing medium.new cache.new (state_of words.new tail.new)) }
+        ≡ medium_in (room_of result.standing medium.new cache.new state.new) }
 {
     let call = asked.call;
-    let e = block::extent_of(block::of(call, words, tail), parts::medium_part(t));
+    let e = block::extent_of(block::of(call, state), parts::medium_part(t));
     let mut before = [0u8; 512];
     block::keep(e, medium, &mut before);
-    let stepped = turns::step::step(asked, p, t, words, tail, medium, cache, buffer, out, n);
+    let stepped = turns::step::step(asked, p, t, state, medium, cache, buffer, out, n);
     let standing = stepped.standing;
     Played {
         standing: standing,

@@ -4,12 +4,11 @@ ghost use Rattle.std.specs.Prelude.{◌≡◌, true, None, Ok};
 ghost use Rattle.store.specs.declared.Answer.TheVariants.{Done, Begun, Present};
 ghost use Rattle.store.specs.Answer.{answer_value, leaves};
 ghost use Rattle.store.specs.CurrentRead.{reads as CurrentRead·reads};
-ghost use Rattle.memory.specs.Memory.{state_of};
 ghost use Rattle.handover.specs.Hand.{hand_ends, gives_up, may_hand, after_write, after_check, after_read, after_begin, hand_of};
 
 use crate::{HandAnswer, Transfer};
 use layout::CommitTime;
-use store::{Answer, Reading};
+use store::{Answer, Reading, State};
 
 // The number or time in an answer; 0 where there is none.
 fn value_in(answer: Answer) -> u64
@@ -45,35 +44,32 @@ fn may_hand(reading: Reading, asked: Transfer) -> bool
 
 // Ends the transaction without a commit, and answers why.
 fn give_up(
-    words: &mut [u64; 448],
-    tail: &[u8; 512],
+    state: &mut State,
     medium: &[u8],
     cache: &[u8],
     number: u64,
     why: HandAnswer,
 ) -> HandAnswer
-    ensures { hand_ends result (state_of words.new tail.now) medium.now cache.now ≡ gives_up why (leaves (Ok Done) (state_of words.old tail.now) medium.now cache.now) number }
+    ensures { hand_ends result state.new medium.now cache.now ≡ gives_up why (leaves (Ok Done) state.old medium.now cache.now) number }
 {
-    transactions::abort::abort(words, tail, medium, cache, number);
+    transactions::abort::abort(state, medium, cache, number);
     why
 }
 
 // Commits what was written.
 fn commit(
-    words: &mut [u64; 448],
-    tail: &mut [u8; 512],
+    state: &mut State,
     medium: &mut [u8],
     cache: &[u8],
     number: u64,
     asked: Transfer,
 ) -> HandAnswer
-    ensures { hand_ends result (state_of words.new tail.new) medium.new cache.now ≡ after_write None (leaves (Ok Done) (state_of words.old tail.old) medium.old cache.now) number asked }
+    ensures { hand_ends result state.new medium.new cache.now ≡ after_write None (leaves (Ok Done) state.old medium.old cache.now) number asked }
 {
-    let answer = transactions::commit::commit(words, tail, medium, cache, number, asked.ended);
+    let answer = transactions::commit::commit(state, medium, cache, number, asked.ended);
     match answer {
         Answer::Refused(why) => give_up(
-            words,
-            tail,
+            state,
             medium,
             cache,
             number,
@@ -85,65 +81,60 @@ fn commit(
 
 // Writes the strip read with its new owner.
 fn write(
-    words: &mut [u64; 448],
-    tail: &mut [u8; 512],
+    state: &mut State,
     medium: &mut [u8],
     cache: &mut [u8],
     number: u64,
     asked: Transfer,
     strip: [u8; 16],
 ) -> HandAnswer
-    ensures { hand_ends result (state_of words.new tail.new) medium.new cache.new ≡ after_check true (CurrentRead·reads (Ok Present) strip (state_of words.old tail.old) medium.old cache.old) number asked }
+    ensures { hand_ends result state.new medium.new cache.new ≡ after_check true (CurrentRead·reads (Ok Present) strip state.old medium.old cache.old) number asked }
 {
     let mut value = strip;
     value[0] = asked.to;
-    let answer = writes::write::write(words, tail, medium, cache, number, asked.flight, value);
+    let answer = writes::write::write(state, medium, cache, number, asked.flight, value);
     match answer {
         Answer::Refused(why) => give_up(
-            words,
-            tail,
+            state,
             medium,
             cache,
             number,
             HandAnswer::Denied(why),
         ),
-        _ => commit(words, tail, medium, cache, number, asked),
+        _ => commit(state, medium, cache, number, asked),
     }
 }
 
 // Checks what the read gave, and goes on if it may.
 fn check(
-    words: &mut [u64; 448],
-    tail: &mut [u8; 512],
+    state: &mut State,
     medium: &mut [u8],
     cache: &mut [u8],
     number: u64,
     asked: Transfer,
     reading: Reading,
 ) -> HandAnswer
-    ensures { hand_ends result (state_of words.new tail.new) medium.new cache.new ≡ after_read None (CurrentRead·reads reading.answer reading.value (state_of words.old tail.old) medium.old cache.old) number asked }
+    ensures { hand_ends result state.new medium.new cache.new ≡ after_read None (CurrentRead·reads reading.answer reading.value state.old medium.old cache.old) number asked }
 {
     if !may_hand(reading, asked) {
-        return give_up(words, tail, medium, cache, number, HandAnswer::NotOwner);
+        return give_up(state, medium, cache, number, HandAnswer::NotOwner);
     }
     let strip = reading.value;
-    write(words, tail, medium, cache, number, asked, strip)
+    write(state, medium, cache, number, asked, strip)
 }
 
 // Reads the strip under the number that begin gave.
 fn read(
-    words: &mut [u64; 448],
-    tail: &mut [u8; 512],
+    state: &mut State,
     medium: &mut [u8],
     cache: &mut [u8],
     number: u64,
     asked: Transfer,
 ) -> HandAnswer
-    ensures { hand_ends result (state_of words.new tail.new) medium.new cache.new ≡ after_begin None (leaves (Ok (Begun (record { 0 = number }))) (state_of words.old tail.old) medium.old cache.old) asked }
+    ensures { hand_ends result state.new medium.new cache.new ≡ after_begin None (leaves (Ok (Begun (record { 0 = number }))) state.old medium.old cache.old) asked }
 {
     let reading = reads::current_read::current_read(
-        words,
-        tail,
+        state,
         medium,
         cache,
         number,
@@ -152,30 +143,28 @@ fn read(
     let answer = reading.answer;
     match answer {
         Answer::Refused(why) => give_up(
-            words,
-            tail,
+            state,
             medium,
             cache,
             number,
             HandAnswer::Denied(why),
         ),
-        _ => check(words, tail, medium, cache, number, asked, reading),
+        _ => check(state, medium, cache, number, asked, reading),
     }
 }
 
 // Hands a flight over. It answers for every input, and what it leaves is equated with its definition.
 pub fn hand(
-    words: &mut [u64; 448],
-    tail: &mut [u8; 512],
+    state: &mut State,
     medium: &mut [u8],
     cache: &mut [u8],
     asked: Transfer,
 ) -> HandAnswer
-    ensures { hand_ends result (state_of words.new tail.new) medium.new cache.new ≡ hand_of (state_of words.old tail.old) medium.old cache.old asked }
+    ensures { hand_ends result state.new medium.new cache.new ≡ hand_of state.old medium.old cache.old asked }
 {
-    let answer = transactions::begin::begin(words, tail, medium, cache, asked.began);
+    let answer = transactions::begin::begin(state, medium, cache, asked.began);
     match answer {
         Answer::Refused(why) => HandAnswer::Denied(why),
-        _ => read(words, tail, medium, cache, value_in(answer), asked),
+        _ => read(state, medium, cache, value_in(answer), asked),
     }
 }

@@ -3,16 +3,15 @@ ghost use Rattle.std.specs.Prelude.{◌≡◌, List, ℕ, ◌<◌, length};
 ghost use Rattle.store.specs.declared.Life.TheVariants.{Active, Committed};
 ghost use Rattle.store.specs.Places.{free_place, place_at, is_free, active_as, committed_as, clock_of, find_active, find_committed, find_free, raised, lowered};
 ghost use Rattle.store.specs.State.{with_place};
-ghost use Rattle.memory.specs.Memory.{places_of, state_of};
 
 use layout::{CommitTime, EndPlace, TxNumber};
 use memory::{COUNTS, ENDS, KINDS, NUMBERS, TIMES};
+use store::State;
 
 // Is place i active under the number?
-fn is_active(words: &[u64], i: usize, n: u64) -> bool
-    requires words_len { length words.now ≡ 448 }
+fn is_active(state: &State, i: usize, n: u64) -> bool
     requires i_bound { i < 64 }
-    ensures { result ≡ active_as (place_at (places_of words.now) i).life n }
+    ensures { result ≡ active_as (place_at state.now.places i).life n }
 {
     if words[NUMBERS + i] != n {
         return false;
@@ -21,10 +20,9 @@ fn is_active(words: &[u64], i: usize, n: u64) -> bool
 }
 
 // Is it committed under the number?
-fn is_committed(words: &[u64], i: usize, n: u64) -> bool
-    requires words_len { length words.now ≡ 448 }
+fn is_committed(state: &State, i: usize, n: u64) -> bool
     requires i_bound { i < 64 }
-    ensures { result ≡ committed_as (place_at (places_of words.now) i).life n }
+    ensures { result ≡ committed_as (place_at state.now.places i).life n }
 {
     if words[NUMBERS + i] != n {
         return false;
@@ -33,10 +31,9 @@ fn is_committed(words: &[u64], i: usize, n: u64) -> bool
 }
 
 // Is it free?
-fn is_free(words: &[u64], i: usize) -> bool
-    requires words_len { length words.now ≡ 448 }
+fn is_free(state: &State, i: usize) -> bool
     requires i_bound { i < 64 }
-    ensures { result ≡ is_free (place_at (places_of words.now) i).life }
+    ensures { result ≡ is_free (place_at state.now.places i).life }
 {
     if words[KINDS + i] == 1 {
         return false;
@@ -45,9 +42,8 @@ fn is_free(words: &[u64], i: usize) -> bool
 }
 
 // The first place that is active under the number.
-pub fn find_active(words: &[u64], n: u64) -> Option<u64>
-    requires { length words.now ≡ 448 }
-    ensures { result ≡ find_active (places_of words.now) n }
+pub fn find_active(state: &State, n: u64) -> Option<u64>
+    ensures { result ≡ find_active state.now.places n }
 {
     let mut i: usize = 0;
     while i < 64 {
@@ -60,9 +56,8 @@ pub fn find_active(words: &[u64], n: u64) -> Option<u64>
 }
 
 // The first place that is committed under the number.
-pub fn find_committed(words: &[u64], n: u64) -> Option<u64>
-    requires { length words.now ≡ 448 }
-    ensures { result ≡ find_committed (places_of words.now) n }
+pub fn find_committed(state: &State, n: u64) -> Option<u64>
+    ensures { result ≡ find_committed state.now.places n }
 {
     let mut i: usize = 0;
     while i < 64 {
@@ -75,9 +70,8 @@ pub fn find_committed(words: &[u64], n: u64) -> Option<u64>
 }
 
 // How far behind `ring` the first free place is, round the ring.
-pub fn find_free(words: &[u64], ring: u64) -> Option<u64>
-    requires { length words.now ≡ 448 }
-    ensures { result ≡ find_free (places_of words.now) ring }
+pub fn find_free(state: &State, ring: u64) -> Option<u64>
+    ensures { result ≡ find_free state.now.places ring }
 {
     let from = ring % 64;
     let mut k: u64 = 0;
@@ -92,10 +86,9 @@ pub fn find_free(words: &[u64], ring: u64) -> Option<u64>
 }
 
 // The clock at begin of the transaction in place i; 0 if none is active there.
-pub fn clock_at(words: &[u64], i: usize) -> u64
-    requires words_len { length words.now ≡ 448 }
+pub fn clock_at(state: &State, i: usize) -> u64
     requires i_bound { i < 64 }
-    ensures { result ≡ clock_of (place_at (places_of words.now) i).life }
+    ensures { result ≡ clock_of (place_at state.now.places i).life }
 {
     if words[KINDS + i] == 1 {
         return words[TIMES + i];
@@ -104,29 +97,26 @@ pub fn clock_at(words: &[u64], i: usize) -> u64
 }
 
 // How many versions of place i wait.
-pub fn waiting_at(words: &[u64], i: usize) -> u64
-    requires words_len { length words.now ≡ 448 }
+pub fn waiting_at(state: &State, i: usize) -> u64
     requires i_bound { i < 64 }
-    ensures { result ≡ (place_at (places_of words.now) i).waiting }
+    ensures { result ≡ (place_at state.now.places i).waiting }
 {
     words[COUNTS + i]
 }
 
 // Makes place i free.
-pub fn free(words: &mut [u64], i: usize)
-    requires words_len { length words.old ≡ 448 }
+pub fn free(state: &mut State, i: usize)
     requires i_bound { i < 64 }
-    ensures { (tail : List ℕ) → state_of words.new tail ≡ with_place (state_of words.old tail) i free_place }
+    ensures { state.new ≡ with_place state.old i free_place }
 {
     words[KINDS + i] = 0;
     words[COUNTS + i] = 0;
 }
 
 // Puts an active transaction without versions into place i.
-pub fn put_active(words: &mut [u64], i: usize, number: TxNumber, clock: u64)
-    requires words_len { length words.old ≡ 448 }
+pub fn put_active(state: &mut State, i: usize, number: TxNumber, clock: u64)
     requires i_bound { i < 64 }
-    ensures { (tail : List ℕ) → state_of words.new tail ≡ with_place (state_of words.old tail) i (record { life = Active number clock; waiting = 0 }) }
+    ensures { state.new ≡ with_place state.old i (record { life = Active number clock; waiting = 0 }) }
 {
     words[KINDS + i] = 1;
     words[NUMBERS + i] = number.0;
@@ -135,10 +125,9 @@ pub fn put_active(words: &mut [u64], i: usize, number: TxNumber, clock: u64)
 }
 
 // Makes the transaction in place i a committed one.
-pub fn put_committed(words: &mut [u64], i: usize, number: TxNumber, time: CommitTime, end: EndPlace)
-    requires words_len { length words.old ≡ 448 }
+pub fn put_committed(state: &mut State, i: usize, number: TxNumber, time: CommitTime, end: EndPlace)
     requires i_bound { i < 64 }
-    ensures { (tail : List ℕ) → state_of words.new tail ≡ with_place (state_of words.old tail) i (record { life = Committed number time end; waiting = (place_at (places_of words.old) i).waiting }) }
+    ensures { state.new ≡ with_place state.old i (record { life = Committed number time end; waiting = (place_at state.old.places i).waiting }) }
 {
     words[KINDS + i] = 2;
     words[NUMBERS + i] = number.0;
@@ -147,10 +136,9 @@ pub fn put_committed(words: &mut [u64], i: usize, number: TxNumber, time: Commit
 }
 
 // One waiting version more; a count that a foreign state could overflow stays at the highest.
-pub fn raise(words: &mut [u64], i: usize)
-    requires words_len { length words.old ≡ 448 }
+pub fn raise(state: &mut State, i: usize)
     requires i_bound { i < 64 }
-    ensures { (tail : List ℕ) → state_of words.new tail ≡ with_place (state_of words.old tail) i (raised (place_at (places_of words.old) i)) }
+    ensures { state.new ≡ with_place state.old i (raised (place_at state.old.places i)) }
 {
     let w = words[COUNTS + i];
     if w == 18446744073709551615 {
@@ -160,10 +148,9 @@ pub fn raise(words: &mut [u64], i: usize)
 }
 
 // One waiting version less; at none the place is free.
-pub fn lower(words: &mut [u64], i: usize)
-    requires words_len { length words.old ≡ 448 }
+pub fn lower(state: &mut State, i: usize)
     requires i_bound { i < 64 }
-    ensures { (tail : List ℕ) → state_of words.new tail ≡ with_place (state_of words.old tail) i (lowered (place_at (places_of words.old) i)) }
+    ensures { state.new ≡ with_place state.old i (lowered (place_at state.old.places i)) }
 {
     let w = words[COUNTS + i];
     if w <= 1 {

@@ -1,15 +1,14 @@
 // The commit times that the places know.
 ghost use Rattle.std.specs.Prelude.{◌≡◌, max, length};
 ghost use Rattle.store.specs.Places.{time_under};
-ghost use Rattle.memory.specs.Memory.{places_of};
 
 use layout::CommitTime;
-use memory::TIMES;
+use memory::{TIMES};
+use store::State;
 
 // The commit time of a number by its place.
-pub fn time_under(words: &[u64], n: u64) -> Option<CommitTime>
-    requires { length words.now ≡ 448 }
-    ensures { result ≡ time_under (places_of words.now) n }
+pub fn time_under(state: &State, n: u64) -> Option<CommitTime>
+    ensures { result ≡ time_under state.now.places n }
 {
     let f = crate::places::find_committed(words, n);
     match f {

@@ -3,13 +3,13 @@ ghost use Rattle.std.specs.Prelude.{◌≡◌};
 ghost use Rattle.store.specs.Answer.{leaves};
 ghost use Rattle.store.specs.State.{no_state};
 ghost use Rattle.store.specs.Open.{open_of};
-ghost use Rattle.memory.specs.Memory.{state_of, blank};
+ghost use Rattle.memory.specs.Memory.{blank};
 
-use store::{Answer, Refusal};
+use store::{Answer, Refusal, State};
 
 // Writes zeros over words and tail: the state that a refused opening leaves.
-fn clear(words: &mut [u64; 448], tail: &mut [u8; 512])
-    ensures { (words.new ≡ blank) × (state_of words.new tail.new ≡ no_state) }
+fn clear(state: &mut State)
+    ensures { (words.new ≡ blank) × (state.new ≡ no_state) }
 {
     memory::clear(words);
     fields::block::clear(tail);
@@ -18,24 +18,23 @@ fn clear(words: &mut [u64; 448], tail: &mut [u8; 512])
 pub fn open(
     medium: &[u8],
     cache: &mut [u8],
-    words: &mut [u64; 448],
-    tail: &mut [u8; 512],
+    state: &mut State,
     blocks: u64,
     pages: u64,
 ) -> Answer
-    ensures { leaves result (state_of words.new tail.new) medium.now cache.new ≡ open_of medium.now cache.old blocks pages }
+    ensures { leaves result state.new medium.now cache.new ≡ open_of medium.now cache.old blocks pages }
 {
-    clear(words, tail);
+    clear(state);
     if !crate::format::sizes_fit(medium.len(), blocks, pages) {
         return Answer::Refused(Refusal::BadSizes);
     }
     if cache.len() != layout::place::cache_length(pages) {
         return Answer::Refused(Refusal::BadCache);
     }
-    let found = opening::survey::open_state(medium, blocks, pages, cache, words, tail);
+    let found = opening::survey::open_state(medium, blocks, pages, cache, state);
     if !found.ok {
         fields::block::clear(cache);
-        clear(words, tail);
+        clear(state);
         return Answer::Refused(Refusal::Malformed);
     }
     Answer::Opened(layout::CommitTime(found.last))

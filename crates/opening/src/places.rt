@@ -5,7 +5,7 @@ ghost use Rattle.store.specs.Places.{free_place, place_at};
 ghost use Rattle.store.specs.State.{with_place};
 ghost use Rattle.store.specs.OpenLog.{read_log};
 ghost use Rattle.store.specs.OpenPairs.{table_find, end_of_commitment, time_or_zero, take_at, is_paired, waiting_numbers, open_places};
-ghost use Rattle.memory.specs.Memory.{listed, places_of, state_of, with_places};
+ghost use Rattle.memory.specs.Memory.{listed, with_places};
 ghost use Rattle.conditions.specs.Cursor.{Ready};
 ghost use Rattle.conditions.specs.Lookup.{Extent, Known, commits_of, commit_among};
 ghost use Rattle.opening.specs.Waits.{waiting_under};
@@ -14,7 +14,8 @@ ghost use Rattle.opening.specs.Placing.{place_of, table_place, free_unless};
 use crate::waiting::Inserted;
 use conditions::log::Match;
 use layout::{CommitTime, EndPlace, TxNumber};
-use memory::COUNTS;
+use memory::{COUNTS};
+use store::State;
 
 // How many versions wait under a number, by the list.
 fn waiting_under(list: &[u64; 128], total: u64, n: u64) -> u64
@@ -41,16 +42,15 @@ fn end_under(commits: &[u64], n: u64) -> EndPlace
 
 // Puts a committed transaction with its waiting versions into place i.
 fn put_live(
-    words: &mut [u64],
+    state: &mut State,
     i: usize,
     number: TxNumber,
     time: CommitTime,
     end: EndPlace,
     waiting: u64,
 )
-    requires words_len { length words.old ≡ 448 }
     requires i_bound { i < 64 }
-    ensures { (tail : List ℕ) → state_of words.new tail ≡ with_place (state_of words.old tail) i (record { life = Committed number time end; waiting = waiting }) }
+    ensures { state.new ≡ with_place state.old i (record { life = Committed number time end; waiting = waiting }) }
 {
     live::places::put_committed(words, i, number, time, end);
     words[COUNTS + i] = waiting;
@@ -63,14 +63,14 @@ fn take_table(
     commits: &[u64],
     list: &[u64; 128],
     total: u64,
-    words: &mut [u64; 448],
+    state: &mut State,
     i: usize,
 )
     requires ready { Ready blocks (length medium.now) }
     requires commits_value { commits.now ≡ commits_of (read_log medium.now blocks) }
     requires total_bound { (total ≤ 64) × (i < 64) }
-    requires i_value { place_at (places_of words.old) i ≡ free_place }
-    ensures { (tail : List ℕ) → state_of words.new tail ≡ with_place (state_of words.old tail) i (table_place medium.now (read_log medium.now blocks) (waiting_under list.now total) i) }
+    requires i_value { place_at state.old.places i ≡ free_place }
+    ensures { state.new ≡ with_place state.old i (table_place medium.now (read_log medium.now blocks) (waiting_under list.now total) i) }
 {
     let p = layout::table::read(medium, i);
     let n = p.number;
@@ -93,13 +93,13 @@ fn table_places(
     commits: &[u64],
     list: &[u64; 128],
     total: u64,
-    words: &mut [u64; 448],
+    state: &mut State,
 )
     requires ready { Ready blocks (length medium.now) }
     requires known { Known medium.now blocks used commits.now }
     requires total_bound { total ≤ 64 }
-    requires words_value { places_of words.old ≡ replicate 64 free_place }
-    ensures { (tail : List ℕ) → state_of words.new tail ≡ with_places (state_of words.old tail) (listed (table_place medium.now (read_log medium.now blocks) (waiting_under list.now total)) 0 64) }
+    requires words_value { state.old.places ≡ replicate 64 free_place }
+    ensures { state.new ≡ with_places state.old (listed (table_place medium.now (read_log medium.now blocks) (waiting_under list.now total)) 0 64) }
 {
     let mut i: usize = 0;
     while i < used {
@@ -109,10 +109,10 @@ fn table_places(
 }
 
 // Where a live pair of the log is put: the first free place, if the table has none for it.
-fn place_for(medium: &[u8], used: usize, words: &[u64; 448], n: u64) -> Option<u64>
+fn place_for(medium: &[u8], used: usize, state: &State, n: u64) -> Option<u64>
     requires in_bounds { 1536 ≤ length medium.now }
     requires extent { Extent medium.now used }
-    ensures { result ≡ free_unless (table_find medium.now n) (places_of words.now) }
+    ensures { result ≡ free_unless (table_find medium.now n) state.now.places }
 {
     let f = conditions::table::find(medium, used, n);
     match f {
@@ -126,13 +126,13 @@ fn take_log(
     medium: &[u8],
     used: usize,
     commits: &[u64],
-    words: &mut [u64; 448],
+    state: &mut State,
     n: u64,
     waiting: u64,
 )
     requires in_bounds { 1536 ≤ length medium.now }
     requires extent { Extent medium.now used }
-    ensures { (tail : List ℕ) → state_of words.new tail ≡ with_places (state_of words.old tail) (take_at (free_unless (table_find medium.now n) (places_of words.old)) (places_of words.old) (place_of (commit_among commits.now n) (record { 0 = n }) (record { 0 = time_or_zero (commit_among commits.now n) }) waiting)) }
+    ensures { state.new ≡ with_places state.old (take_at (free_unless (table_find medium.now n) state.old.places) state.old.places (place_of (commit_among commits.now n) (record { 0 = n }) (record { 0 = time_or_zero (commit_among commits.now n) }) waiting)) }
 {
     let f = place_for(medium, used, words, n);
     let Some(k) = f else {
@@ -154,13 +154,13 @@ pub fn lay(
     used: usize,
     commits: &[u64],
     cache: &[u8],
-    words: &mut [u64; 448],
+    state: &mut State,
 ) -> bool
     requires ready { Ready blocks (length medium.now) }
     requires known { Known medium.now blocks used commits.now }
     requires pages_bound { (pages ≤ 64) × (length cache.now ≡ 512 * pages) }
-    requires words_value { places_of words.old ≡ replicate 64 free_place }
-    ensures { (result ≡ leb (length (waiting_numbers cache.now (is_paired medium.now (read_log medium.now blocks)) (15 * pages))) 64) × (result ≡ true → (tail : List ℕ) → state_of words.new tail ≡ with_places (state_of words.old tail) (open_places medium.now (read_log medium.now blocks) cache.now (15 * pages))) }
+    requires words_value { state.old.places ≡ replicate 64 free_place }
+    ensures { (result ≡ leb (length (waiting_numbers cache.now (is_paired medium.now (read_log medium.now blocks)) (15 * pages))) 64) × (result ≡ true → (tail : List ℕ) → state.new ≡ with_places state.old (open_places medium.now (read_log medium.now blocks) cache.now (15 * pages))) }
 {
     let mut list = [0u64; 128];
     let slots = 15 * pages;

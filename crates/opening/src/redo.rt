@@ -4,7 +4,7 @@ ghost use Rattle.fields.specs.Block.{blk, page_of};
 ghost use Rattle.layout.specs.Page.{page_used, put_version};
 ghost use Rattle.store.specs.Write.{cell_for};
 ghost use Rattle.store.specs.OpenRedo.{applies, redo};
-ghost use Rattle.memory.specs.Memory.{first_of, state_of, with_first};
+ghost use Rattle.memory.specs.Memory.{with_first};
 ghost use Rattle.conditions.specs.Cursor.{Ready, Valid, rest_of};
 ghost use Rattle.conditions.specs.Lookup.{slots_below};
 ghost use Rattle.conditions.specs.Passes.{redo_ok};
@@ -12,6 +12,7 @@ ghost use Rattle.conditions.specs.Passes.{redo_ok};
 use conditions::cursor::{Cursor, Step};
 use layout::EndPlace;
 use layout::item::VersionHead;
+use store::State;
 
 // Is the record's end place above its page's?
 fn must_apply(cache: &[u8], h: VersionHead, end: EndPlace) -> bool
@@ -51,14 +52,14 @@ pub fn run(
     pages: u64,
     from: Cursor,
     cache: &mut [u8],
-    words: &mut [u64; 448],
+    state: &mut State,
 ) -> bool
     requires ready { Ready blocks (length medium.now) }
     requires valid { Valid from }
     requires pages_bound { (pages ≤ 64) × (length cache.old ≡ 512 * pages) }
     requires from_value { slots_below pages (rest_of medium.now blocks from) ≡ true }
-    ensures value { (result ≡ redo_ok (record { cache = cache.old; first = first_of words.old }) (rest_of medium.now blocks from)) × (result ≡ true → record { cache = cache.new; first = first_of words.new } ≡ redo (record { cache = cache.old; first = first_of words.old }) (rest_of medium.now blocks from)) }
-    ensures by_index { (tail : List ℕ) → state_of words.new tail ≡ with_first (state_of words.old tail) (first_of words.new) }
+    ensures value { (result ≡ redo_ok (record { cache = cache.old; first = state.old.first }) (rest_of medium.now blocks from)) × (result ≡ true → record { cache = cache.new; first = state.new.first } ≡ redo (record { cache = cache.old; first = state.old.first }) (rest_of medium.now blocks from)) }
+    ensures by_index { state.new ≡ with_first state.old state.new.first }
 {
     let mut c = from;
     loop {

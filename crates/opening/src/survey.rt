@@ -6,7 +6,7 @@ ghost use Rattle.store.specs.OpenLog.{read_count, log_end, read_tail, next_numbe
 ghost use Rattle.store.specs.OpenRedo.{pages_on, used_in};
 ghost use Rattle.store.specs.OpenConditions.{well_formed, redone};
 ghost use Rattle.store.specs.Open.{opened_state};
-ghost use Rattle.memory.specs.Memory.{first_of, state_of, blank, with_first};
+ghost use Rattle.memory.specs.Memory.{blank, with_first};
 ghost use Rattle.conditions.specs.Cursor.{Ready, Valid};
 ghost use Rattle.conditions.specs.Lookup.{Known, KeysBelow};
 ghost use Rattle.conditions.specs.Passes.{master_ok, table_and_slots};
@@ -14,7 +14,7 @@ ghost use Rattle.opening.specs.Surveyed.{with_numbers, ReadAs, Applied, OpenedAs
 
 use conditions::cursor::Cursor;
 use layout::master::Found;
-use memory::{BLOCKS, END, LAST, NEXT, PAGES, SAVED, SLOTS};
+use store::State;
 
 // Whether a medium is well formed, and its last time.
 #[derive(Clone, Copy)]
@@ -176,7 +176,7 @@ fn lay_tail(medium: &[u8], blocks: u64, log: Cursor, tail: &mut [u8; 512])
 
 // Sets the numbers of an opened medium.
 fn put_numbers(
-    words: &mut [u64],
+    state: &mut State,
     blocks: u64,
     pages: u64,
     slots: u64,
@@ -184,16 +184,15 @@ fn put_numbers(
     last: u64,
     end: u64,
 )
-    requires { length words.old ≡ 448 }
-    ensures { (tail : List ℕ) → state_of words.new tail ≡ with_numbers (state_of words.old tail) blocks pages slots next last end }
+    ensures { state.new ≡ with_numbers state.old blocks pages slots next last end }
 {
-    words[BLOCKS] = blocks;
-    words[PAGES] = pages;
-    words[SLOTS] = slots;
-    words[NEXT] = next;
-    words[LAST] = last;
-    words[SAVED] = last;
-    words[END] = end;
+    state.blocks = blocks;
+    state.pages = pages;
+    state.slots = slots;
+    state.next.0 = next;
+    state.last.0 = last;
+    state.saved.0 = last;
+    state.end.0 = end;
 }
 
 // Judges log, table and slots once redo is done, and puts into words and tail what the state is made of.
@@ -204,13 +203,12 @@ fn judge(
     log: Cursor,
     end: u64,
     cache: &[u8],
-    words: &mut [u64; 448],
-    tail: &mut [u8; 512],
+    state: &mut State,
 ) -> Opened
     requires ready { Ready blocks (length medium.now) }
     requires pages_bound { (pages ≤ 64) × (length cache.now ≡ 512 * pages) }
-    requires applied { Applied medium.now blocks pages log end cache.now (first_of words.old) }
-    requires by_index { (t : List ℕ) → state_of words.old t ≡ with_first (state_of blank t) (first_of words.old) }
+    requires applied { Applied medium.now blocks pages log end cache.now state.old.first }
+    requires by_index { (t : List ℕ) → state_of words.old t ≡ with_first (state_of blank t) state.old.first }
     requires medium_len { length medium.now ≡ medium_length blocks pages }
     ensures { OpenedAs medium.now blocks pages words.new tail.new result }
 {
@@ -247,14 +245,13 @@ pub fn open_state(
     blocks: u64,
     pages: u64,
     cache: &mut [u8],
-    words: &mut [u64; 448],
-    tail: &mut [u8; 512],
+    state: &mut State,
 ) -> Opened
     requires ready { Ready blocks (length medium.now) }
     requires pages_bound { (pages ≤ 64) × (length medium.now ≡ medium_length blocks pages) }
     requires cache_len { length cache.old ≡ 512 * pages }
     requires words_value { words.old ≡ blank }
-    ensures { (result.ok ≡ well_formed medium.now blocks pages) × (result.ok ≡ true → (cache.new ≡ (redone medium.now blocks pages).cache) × (state_of words.new tail.new ≡ opened_state medium.now blocks pages) × (result.last ≡ last_time medium.now blocks)) }
+    ensures { (result.ok ≡ well_formed medium.now blocks pages) × (result.ok ≡ true → (cache.new ≡ (redone medium.now blocks pages).cache) × (state.new ≡ opened_state medium.now blocks pages) × (result.last ≡ last_time medium.now blocks)) }
 {
     let found = read_log(medium, blocks, pages);
     let LogFound::Good(log, end) = found else {
@@ -264,5 +261,5 @@ pub fn open_state(
     if !crate::redo::run(medium, blocks, pages, log, cache, words) {
         return malformed();
     }
-    judge(medium, blocks, pages, log, end, cache, words, tail)
+    judge(medium, blocks, pages, log, end, cache, state)
 }

@@ -5,16 +5,16 @@ ghost use Rattle.std.specs.Prelude.{◌≡◌, cond, not, List, ℕ, ◌<◌, le
 ghost use Rattle.fields.specs.Equal.{eq_list};
 ghost use Rattle.layout.specs.Slot.{stamped};
 ghost use Rattle.store.specs.StorePage.{stamp_with};
-ghost use Rattle.memory.specs.Memory.{places_of, state_of, with_places};
+ghost use Rattle.memory.specs.Memory.{with_places};
 ghost use Rattle.pages.specs.Stamped.{stamped_under, settled_under, place_for, places_for, time_by, stamped_by, stamp_by, lower_by, settle_by};
 
 use layout::CommitTime;
 use layout::slot::Slot;
-use memory::{END, ENDS, TIMES};
+use memory::{ENDS, TIMES};
+use store::State;
 
 // The place by which a slot is stamped; 64 for none.
-fn place_for(words: &[u64], slot: Slot) -> u64
-    requires { length words.now ≡ 448 }
+fn place_for(state: &State, slot: Slot) -> u64
     ensures { result ≡ place_for words.now slot }
 {
     match slot {
@@ -23,7 +23,7 @@ fn place_for(words: &[u64], slot: Slot) -> u64
             let f = live::places::find_committed(words, n.0);
             match f {
                 Some(i) => {
-                    if words[ENDS + (i as usize)] <= words[END] {
+                    if words[ENDS + (i as usize)] <= state.end.0 {
                         return i;
                     }
                     64
@@ -36,7 +36,7 @@ fn place_for(words: &[u64], slot: Slot) -> u64
 }
 
 // The places by which the page's slots are stamped.
-fn places_for(words: &[u64; 448], page: &[u8]) -> [u64; 15]
+fn places_for(state: &State, page: &[u8]) -> [u64; 15]
     requires { length page.now ≡ 512 }
     ensures { result ≡ places_for words.now page.now }
 {
@@ -63,8 +63,7 @@ fn same_stamped(cached: &[u8], stored: &[u8], t: CommitTime) -> bool
 }
 
 // Are a cached slot, as it is stamped by its place, and the medium's the same?
-fn same_slot(words: &[u64], place: u64, cached: &[u8], stored: &[u8]) -> bool
-    requires words_len { length words.now ≡ 448 }
+fn same_slot(state: &State, place: u64, cached: &[u8], stored: &[u8]) -> bool
     requires cached_len { length cached.now ≡ 32 }
     requires stored_len { length stored.now ≡ 32 }
     ensures { result ≡ eq_list stored.now (stamped_by (time_by words.now place) cached.now) }
@@ -76,7 +75,7 @@ fn same_slot(words: &[u64], place: u64, cached: &[u8], stored: &[u8]) -> bool
 }
 
 // Is the cached page, once stamped, what the medium holds? Nothing is changed.
-fn is_stored(words: &[u64; 448], found: &[u64; 15], cached: &[u8], stored: &[u8]) -> bool
+fn is_stored(state: &State, found: &[u64; 15], cached: &[u8], stored: &[u8]) -> bool
     requires cached_len { length cached.now ≡ 512 }
     requires stored_len { length stored.now ≡ 512 }
     ensures { result ≡ eq_list stored.now (stamp_by words.now found.now cached.now 0 15) }
@@ -96,7 +95,7 @@ fn is_stored(words: &[u64; 448], found: &[u64; 15], cached: &[u8], stored: &[u8]
 }
 
 // Does the block hold the page, as it is once stamped? Nothing is changed.
-pub fn holds(words: &[u64; 448], page: &[u8], block: &[u8]) -> bool
+pub fn holds(state: &State, page: &[u8], block: &[u8]) -> bool
     requires { (length page.now ≡ 512) × (length block.now ≡ 512) }
     ensures { result ≡ eq_list block.now (stamped_under words.now page.now) }
 {
@@ -105,8 +104,7 @@ pub fn holds(words: &[u64; 448], page: &[u8], block: &[u8]) -> bool
 }
 
 // Stamps slot i of the page by its place.
-fn stamp_slot(words: &[u64], place: u64, page: &mut [u8], i: usize)
-    requires words_len { length words.now ≡ 448 }
+fn stamp_slot(state: &State, place: u64, page: &mut [u8], i: usize)
     requires page_len { length page.old ≡ 512 }
     requires i_bound { i < 15 }
     ensures { page.new ≡ stamp_with (time_by words.now place) page.old i }
@@ -117,7 +115,7 @@ fn stamp_slot(words: &[u64], place: u64, page: &mut [u8], i: usize)
 }
 
 // Stamps the page's waiting versions.
-fn stamp(words: &[u64; 448], found: &[u64; 15], page: &mut [u8])
+fn stamp(state: &State, found: &[u64; 15], page: &mut [u8])
     requires { length page.old ≡ 512 }
     ensures { page.new ≡ stamp_by words.now found.now page.old 0 15 }
 {
@@ -129,8 +127,8 @@ fn stamp(words: &[u64; 448], found: &[u64; 15], page: &mut [u8])
 }
 
 // Counts a place down.
-fn lower(words: &mut [u64; 448], place: u64)
-    ensures { (tail : List ℕ) → state_of words.new tail ≡ with_places (state_of words.old tail) (lower_by place (places_of words.old)) }
+fn lower(state: &mut State, place: u64)
+    ensures { state.new ≡ with_places state.old (lower_by place state.old.places) }
 {
     if place < 64 {
         live::places::lower(words, place as usize);
@@ -138,8 +136,8 @@ fn lower(words: &mut [u64; 448], place: u64)
 }
 
 // Counts the places of the versions that are stamped down.
-fn settle(words: &mut [u64; 448], found: &[u64; 15])
-    ensures { (tail : List ℕ) → state_of words.new tail ≡ with_places (state_of words.old tail) (settle_by found.now (places_of words.old) 0 15) }
+fn settle(state: &mut State, found: &[u64; 15])
+    ensures { state.new ≡ with_places state.old (settle_by found.now state.old.places 0 15) }
 {
     let mut i: usize = 0;
     while i < 15 {
@@ -149,12 +147,12 @@ fn settle(words: &mut [u64; 448], found: &[u64; 15])
 }
 
 // Stamps the cached page, copies it to its block and counts its transactions down, unless the block holds it already.
-pub fn store(words: &mut [u64; 448], page: &mut [u8], block: &mut [u8]) -> bool
+pub fn store(state: &mut State, page: &mut [u8], block: &mut [u8]) -> bool
     requires { (length page.old ≡ 512) × (length block.old ≡ 512) }
     ensures value { result ≡ not (eq_list block.old (stamped_under words.old page.old)) }
     ensures page_after { page.new ≡ cond result (stamped_under words.old page.old) page.old }
     ensures block_after { block.new ≡ cond result (stamped_under words.old page.old) block.old }
-    ensures by_index { (tail : List ℕ) → state_of words.new tail ≡ cond result (with_places (state_of words.old tail) (settled_under words.old page.old)) (state_of words.old tail) }
+    ensures by_index { state.new ≡ cond result (with_places state.old (settled_under words.old page.old)) state.old }
 {
     let found = places_for(words, page);
     if is_stored(words, &found, page, block) {

@@ -2,14 +2,12 @@
 ghost use Rattle.std.specs.Prelude.{◌≡◌, suc, ◌+◌, length, Ok};
 ghost use Rattle.store.specs.Chain.{cell_at};
 ghost use Rattle.store.specs.CurrentRead.{reads, current_of};
-ghost use Rattle.memory.specs.Memory.{state_of};
 ghost use Rattle.cached.specs.Room.{Room};
 ghost use Rattle.fields.specs.Block.{zeros};
 ghost use Rattle.store.specs.declared.Answer.TheVariants.{Missing};
 ghost use Rattle.reads.specs.Said.{reading_of};
 
-use memory::SLOTS;
-use store::{Answer, RECORDS, Reading, Refusal};
+use store::{Answer, RECORDS, Reading, Refusal, State};
 
 // What the version in a slot says.
 pub(crate) fn read_slot(cache: &[u8], n: u64) -> Reading
@@ -43,16 +41,15 @@ pub(crate) fn missing() -> Reading
 }
 
 pub fn current_read(
-    words: &[u64; 448],
-    tail: &[u8; 512],
+    state: &State,
     medium: &[u8],
     cache: &[u8],
     number: u64,
     key: u16,
 ) -> Reading
-    ensures { reads result.answer result.value (state_of words.now tail.now) medium.now cache.now ≡ current_of (state_of words.now tail.now) medium.now cache.now number key }
+    ensures { reads result.answer result.value state.now medium.now cache.now ≡ current_of state.now medium.now cache.now number key }
 {
-    if !memory::fit::is_fit(words, tail, medium.len(), cache.len()) {
+    if !memory::fit::is_fit(state, medium.len(), cache.len()) {
         return questions::refuse::reading(Refusal::Unfit);
     }
     if RECORDS <= key {
@@ -62,7 +59,7 @@ pub fn current_read(
     let Some(_) = f else {
         return questions::refuse::reading(Refusal::NotActive);
     };
-    let newest = chain::newest::find(cache, key, words[SLOTS]);
+    let newest = chain::newest::find(cache, key, state.slots);
     if chain::newest::is_held(newest, cache, words, number) {
         return questions::refuse::reading(Refusal::Held);
     }

@@ -6,6 +6,7 @@ ghost use Rattle.relief.specs.Form.{sizes_of, words_in, tail_in, room_bytes};
 
 use fields::{block, field};
 use script::print;
+use store::State;
 
 // How long medium and cache are, and whether the program takes such a room.
 #[derive(Clone, Copy)]
@@ -45,7 +46,7 @@ pub fn read_sizes(head: &[u8]) -> Sizes
 }
 
 // Takes the words of the state from the bytes in front of the medium.
-fn take_words(words: &mut [u64], head: &[u8])
+fn take_words(state: &mut State, head: &[u8])
     requires { (length words.old ≡ 448) × (length head.now ≡ 4112) }
     ensures { words.new ≡ words_in head.now }
 {
@@ -57,7 +58,7 @@ fn take_words(words: &mut [u64], head: &[u8])
 }
 
 // Takes the state of a room from there.
-pub fn take_state(words: &mut [u64; 448], tail: &mut [u8; 512], head: &[u8])
+pub fn take_state(state: &mut State, head: &[u8])
     requires { length head.now ≡ 4112 }
     ensures { (words.new ≡ words_in head.now) × (tail.new ≡ tail_in head.now) }
 {
@@ -76,7 +77,7 @@ fn put_number(out: &mut [u8], n: usize, x: u64) -> usize
 }
 
 // Puts the words of a state behind the first n bytes.
-fn put_words(out: &mut [u8], n: usize, words: &[u64]) -> usize
+fn put_words(out: &mut [u8], n: usize, state: &State) -> usize
     requires { n + 8 * length words.now ≤ length out.old }
     ensures value { result ≡ n + 8 * length words.now }
     ensures out_after { take result out.new ≡ take n out.old ++ flat (enc 8) words.now }
@@ -95,8 +96,7 @@ fn put_words(out: &mut [u8], n: usize, words: &[u64]) -> usize
 pub fn put_room(
     out: &mut [u8],
     n: usize,
-    words: &[u64; 448],
-    tail: &[u8; 512],
+    state: &State,
     medium: &[u8],
     cache: &[u8],
 ) -> usize

@@ -1,29 +1,27 @@
 // Frees the log of a room: asks which call comes next, and makes it.
 ghost use Rattle.std.specs.Prelude.{◌≡◌, ◌++◌, ◌+◌, ◌≤◌, length, take};
 ghost use Rattle.store.specs.Answer.{leaves, answer_number};
-ghost use Rattle.memory.specs.Memory.{state_of};
 ghost use Rattle.relief.specs.Free.{made_of, is_left, line_text, page_text, call_text, end_text, freed, freed_from, LeftAs};
 ghost use Rattle.relief.specs.Form.{room_bytes};
 
 use crate::form;
 use answers::text;
 use script::print;
-use store::{Answer, Relief};
+use store::{Answer, Relief, State};
 
 // Makes the call that is named.
 fn make(
     next: Relief,
-    words: &mut [u64; 448],
-    tail: &[u8; 512],
+    state: &mut State,
     medium: &mut [u8],
     cache: &mut [u8],
 ) -> Answer
-    ensures { leaves result (state_of words.new tail.now) medium.new cache.new ≡ made_of next (state_of words.old tail.now) medium.old cache.old }
+    ensures { leaves result state.new medium.new cache.new ≡ made_of next state.old medium.old cache.old }
 {
     match next {
-        Relief::StoreLog => stores::store_log::store_log(words, tail, medium, cache),
-        Relief::StorePage(page) => stores::store_page::store_page(words, tail, medium, cache, page),
-        Relief::Checkpoint => stores::checkpoint::checkpoint(words, tail, medium, cache),
+        Relief::StoreLog => stores::store_log::store_log(state, medium, cache),
+        Relief::StorePage(page) => stores::store_page::store_page(state, medium, cache, page),
+        Relief::Checkpoint => stores::checkpoint::checkpoint(state, medium, cache),
         Relief::NothingLeft => Answer::Done,
     }
 }
@@ -95,36 +93,34 @@ fn put_end(out: &mut [u8], n: usize, next: Relief) -> usize
 
 // Makes the calls that are named, at most 70, and prints their lines from the front of the output on.
 fn free(
-    words: &mut [u64; 448],
-    tail: &[u8; 512],
+    state: &mut State,
     medium: &mut [u8],
     cache: &mut [u8],
     out: &mut [u8],
 ) -> usize
     requires { 4096 ≤ length out.old }
     ensures upper_bound { result ≤ 4096 }
-    ensures cache_after { freed (take result out.new) (state_of words.new tail.now) medium.new cache.new ≡ freed_from 70 (state_of words.old tail.now) medium.old cache.old }
+    ensures cache_after { freed (take result out.new) state.new medium.new cache.new ≡ freed_from 70 state.old medium.old cache.old }
 {
     let mut n: usize = 0;
     let mut i: usize = 0;
     while i < 70 {
-        let next = stores::relief::relief(words, tail, medium, cache);
+        let next = stores::relief::relief(state, medium, cache);
         if !is_left(next) {
             return put_end(out, n, next);
         }
-        let answer = make(next, words, tail, medium, cache);
+        let answer = make(next, state, medium, cache);
         let end = put_call(out, n, next, answer);
         n = end;
         i += 1;
     }
-    let last = stores::relief::relief(words, tail, medium, cache);
+    let last = stores::relief::relief(state, medium, cache);
     put_end(out, n, last)
 }
 
 // Frees the log of a room and prints the room behind the lines of its calls.
 pub fn freed_room(
-    words: &mut [u64; 448],
-    tail: &[u8; 512],
+    state: &mut State,
     medium: &mut [u8],
     cache: &mut [u8],
     out: &mut [u8],
@@ -133,9 +129,9 @@ pub fn freed_room(
     requires cache_len_bound { length cache.old ≤ 32768 }
     requires out_len { length out.old ≡ 91664 }
     ensures upper_bound { result ≤ 91664 }
-    ensures left_as { LeftAs (freed_from 70 (state_of words.old tail.now) medium.old cache.old) (state_of words.new tail.now) medium.new cache.new }
-    ensures out_after { take result out.new ≡ (freed_from 70 (state_of words.old tail.now) medium.old cache.old).text ++ room_bytes words.new tail.now medium.new cache.new }
+    ensures left_as { LeftAs (freed_from 70 state.old medium.old cache.old) state.new medium.new cache.new }
+    ensures out_after { take result out.new ≡ (freed_from 70 state.old medium.old cache.old).text ++ room_bytes words.new tail.now medium.new cache.new }
 {
-    let n = free(words, tail, medium, cache, out);
-    form::put_room(out, n, words, tail, medium, cache)
+    let n = free(state, medium, cache, out);
+    form::put_room(out, n, state, medium, cache)
 }

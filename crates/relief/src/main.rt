@@ -8,6 +8,7 @@ mod free;
 ghost use Rattle.std.specs.Prelude.{◌≡◌, length};
 
 use std::io::{Print, Read};
+use store::State;
 
 // Reads as many bytes as the buffer has; false where the input ends before.
 fn read_all(input: &mut impl Read, bytes: &mut [u8]) -> bool {
@@ -18,8 +19,7 @@ fn read_all(input: &mut impl Read, bytes: &mut [u8]) -> bool {
 fn play(
     input: &mut impl Read,
     output: &impl Print,
-    words: &mut [u64; 448],
-    tail: &mut [u8; 512],
+    state: &mut State,
     medium: &mut [u8],
     cache: &mut [u8],
     out: &mut [u8],
@@ -36,7 +36,7 @@ fn play(
     if !sizes.taken {
         return false;
     }
-    form::take_state(words, tail, &head);
+    form::take_state(state, &head);
     let m = sizes.medium;
     let c = sizes.cache;
     if !read_all(input, &mut medium[..m]) {
@@ -45,7 +45,7 @@ fn play(
     if !read_all(input, &mut cache[..c]) {
         return false;
     }
-    let n = free::freed_room(words, tail, &mut medium[..m], &mut cache[..c], out);
+    let n = free::freed_room(state, &mut medium[..m], &mut cache[..c], out);
     output.write_all(&out[..n]).is_ok()
 }
 
@@ -63,8 +63,7 @@ fn main(rt: HostRuntime) {
         if !play(
             &mut input,
             &rt,
-            &mut words,
-            &mut tail,
+            &mut state,
             &mut medium,
             &mut cache,
             &mut out,

@@ -6,7 +6,6 @@ mod play;
 
 ghost use Rattle.std.specs.Prelude.{◌≡◌, true, false, [], ◌≤◌, ◌<◌, length, take};
 ghost use Rattle.script.specs.Run.{stand, play_of, finished};
-ghost use Rattle.memory.specs.Memory.{state_of};
 ghost use Rattle.rooms.specs.Parts.{room_of};
 ghost use Rattle.rooms.specs.Steps.{does};
 
@@ -14,14 +13,14 @@ use crate::play::Run;
 use rooms::parts::Standing;
 use script::line;
 use std::io::{Print, Read};
+use store::State;
 
 // Plays bytes and writes out what they print; not all of them where they print much. A write that fails changes nothing.
 fn play_out(
     output: &impl Print,
     run: Run,
     bytes: &[u8],
-    words: &mut [u64; 448],
-    tail: &mut [u8; 512],
+    state: &mut State,
     medium: &mut [u8],
     cache: &mut [u8],
     buffer: &mut [u8],
@@ -33,12 +32,12 @@ fn play_out(
     requires out_len { length out.old ≡ 200000 }
     requires bytes_nonzero { 0 < length bytes.now }
     ensures next_nonzero { (0 < result.next) × (result.next ≤ length bytes.now) }
-    ensures out_after { stand result.line (room_of result.standing medium.new cache.new (state_of words.new tail.new)) result.on (take result.n out.new) ≡ play_of does (stand run.line (room_of run.standing medium.old cache.old (state_of words.old tail.old)) true []) (take result.next bytes.now) }
+    ensures out_after { stand result.line (room_of result.standing medium.new cache.new state.new) result.on (take result.n out.new) ≡ play_of does (stand run.line (room_of run.standing medium.old cache.old state.old) true []) (take result.next bytes.now) }
 {
     let line = run.line;
     let standing = run.standing;
     let next = play::play(
-        line, standing, words, tail, bytes, medium, cache, buffer, out,
+        line, standing, state, bytes, medium, cache, buffer, out,
     );
     let n = next.n;
     let _ = output.write_all(&out[..n]);
@@ -50,8 +49,7 @@ fn play_all(
     output: &impl Print,
     run: Run,
     bytes: &[u8],
-    words: &mut [u64; 448],
-    tail: &mut [u8; 512],
+    state: &mut State,
     medium: &mut [u8],
     cache: &mut [u8],
     buffer: &mut [u8],
@@ -72,8 +70,7 @@ fn play_all(
             output,
             r,
             &bytes[i..],
-            words,
-            tail,
+            state,
             medium,
             cache,
             buffer,
@@ -89,8 +86,7 @@ fn play_all(
 fn finish(
     output: &impl Print,
     run: Run,
-    words: &mut [u64; 448],
-    tail: &mut [u8; 512],
+    state: &mut State,
     medium: &mut [u8],
     cache: &mut [u8],
     buffer: &mut [u8],
@@ -101,7 +97,7 @@ fn finish(
     requires buffer_len { length buffer.old ≡ 40000 }
     requires out_len { length out.old ≡ 200000 }
     ensures on_value { result.on ≡ false }
-    ensures out_after { take result.n out.new ≡ finished does (stand run.line (room_of run.standing medium.old cache.old (state_of words.old tail.old)) true []) }
+    ensures out_after { take result.n out.new ≡ finished does (stand run.line (room_of run.standing medium.old cache.old state.old) true []) }
 {
     let line = run.line;
     if line.letter == 0 {
@@ -110,7 +106,7 @@ fn finish(
         same.n = 0;
         return same;
     }
-    let mut last = play_out(output, run, b"\n", words, tail, medium, cache, buffer, out);
+    let mut last = play_out(output, run, b"\n", state, medium, cache, buffer, out);
     last.on = false;
     last
 }
@@ -120,8 +116,7 @@ fn read_some(
     input: &mut impl Read,
     output: &impl Print,
     run: Run,
-    words: &mut [u64; 448],
-    tail: &mut [u8; 512],
+    state: &mut State,
     medium: &mut [u8],
     cache: &mut [u8],
     buffer: &mut [u8],
@@ -134,13 +129,12 @@ fn read_some(
 {
     let mut bytes = [0u8; 65536];
     match input.read(&mut bytes) {
-        Ok(0) | Err(_) => finish(output, run, words, tail, medium, cache, buffer, out),
+        Ok(0) | Err(_) => finish(output, run, state, medium, cache, buffer, out),
         Ok(n) => play_all(
             output,
             run,
             &bytes[..n],
-            words,
-            tail,
+            state,
             medium,
             cache,
             buffer,
@@ -181,8 +175,7 @@ fn main(rt: HostRuntime) {
             &mut input,
             &rt,
             run,
-            &mut words,
-            &mut tail,
+            &mut state,
             &mut medium,
             &mut cache,
             &mut buffer,

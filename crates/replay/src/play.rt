@@ -2,7 +2,6 @@
 // the output.
 ghost use Rattle.std.specs.Prelude.{◌≡◌, true, [], ◌≤◌, ◌<◌, length, take};
 ghost use Rattle.script.specs.Run.{stand, play_of};
-ghost use Rattle.memory.specs.Memory.{state_of};
 ghost use Rattle.rooms.specs.Parts.{room_of};
 ghost use Rattle.rooms.specs.Steps.{does};
 
@@ -11,6 +10,7 @@ use rooms::{parts, plan};
 use script::line::Line;
 use script::{call, line};
 use turns::step;
+use store::State;
 
 // Where a run stands: the line begun, the room, whether the run goes on, how many bytes of the output are
 // to be written, and how many bytes were taken.
@@ -40,8 +40,7 @@ fn stands(line: Line, standing: Standing, on: bool, n: usize, next: usize) -> Ru
 pub fn play(
     begun: Line,
     standing: Standing,
-    words: &mut [u64; 448],
-    tail: &mut [u8; 512],
+    state: &mut State,
     bytes: &[u8],
     medium: &mut [u8],
     cache: &mut [u8],
@@ -55,7 +54,7 @@ pub fn play(
     requires bytes_nonzero { 0 < length bytes.now }
     ensures n_bound { result.n ≤ 200000 }
     ensures next_nonzero { (0 < result.next) × (result.next ≤ length bytes.now) }
-    ensures out_after { stand result.line (room_of result.standing medium.new cache.new (state_of words.new tail.new)) result.on (take result.n out.new) ≡ play_of does (stand begun (room_of standing medium.old cache.old (state_of words.old tail.old)) true []) (take result.next bytes.now) }
+    ensures out_after { stand result.line (room_of result.standing medium.new cache.new state.new) result.on (take result.n out.new) ≡ play_of does (stand begun (room_of standing medium.old cache.old state.old) true []) (take result.next bytes.now) }
 {
     let mut line = begun;
     let mut t = standing;
@@ -78,7 +77,7 @@ pub fn play(
         if parts::reached(t) < p.stage {
             return stands(line, t, false, n, i);
         }
-        let stepped = step::step(asked, p, t, words, tail, medium, cache, buffer, out, n);
+        let stepped = step::step(asked, p, t, state, medium, cache, buffer, out, n);
         n = stepped.n;
         let moved = stepped.standing;
         t = moved;

@@ -3,7 +3,6 @@ ghost use Rattle.std.specs.Prelude.{◌≡◌, true, ℕ, ◌+◌, ◌≤◌, le
 ghost use Rattle.store.specs.CurrentRead.{current_of};
 ghost use Rattle.store.specs.AsOf.{as_of_of};
 ghost use Rattle.store.specs.Changes.{changes_of};
-ghost use Rattle.memory.specs.Memory.{state_of};
 ghost use Rattle.rooms.specs.Room.{ready, plan_of, called, turn_of};
 ghost use Rattle.rooms.specs.Parts.{stage_of, room_of, Prints};
 
@@ -11,11 +10,11 @@ use crate::parts;
 use crate::parts::Standing;
 use answers::text;
 use script::call::{Asked, Call};
+use store::State;
 
 // `R`.
 fn current(
-    words: &[u64; 448],
-    tail: &[u8; 512],
+    state: &State,
     medium: &[u8],
     cache: &[u8],
     number: u64,
@@ -26,10 +25,10 @@ fn current(
     requires { n + 56 ≤ length out.old }
     ensures upper_bound { result ≤ n + 56 }
     ensures by_index { (l d : ℕ) → Prints (take n out.old) (take result out.new)
-        (ready l d medium.now cache.now (state_of words.now tail.now))
-        (called 82 l d (current_of (state_of words.now tail.now) medium.now cache.now number key)) }
+        (ready l d medium.now cache.now state.now)
+        (called 82 l d (current_of state.now medium.now cache.now number key)) }
 {
-    let r = reads::current_read::current_read(words, tail, medium, cache, number, key);
+    let r = reads::current_read::current_read(state, medium, cache, number, key);
     let answer = r.answer;
     let value = r.value;
     text::put_answer(out, n, b'R', answer, value)
@@ -37,8 +36,7 @@ fn current(
 
 // `Q`.
 fn as_of(
-    words: &[u64; 448],
-    tail: &[u8; 512],
+    state: &State,
     medium: &[u8],
     cache: &[u8],
     key: u16,
@@ -49,10 +47,10 @@ fn as_of(
     requires { n + 56 ≤ length out.old }
     ensures upper_bound { result ≤ n + 56 }
     ensures by_index { (l d : ℕ) → Prints (take n out.old) (take result out.new)
-        (ready l d medium.now cache.now (state_of words.now tail.now))
-        (called 81 l d (as_of_of (state_of words.now tail.now) medium.now cache.now key time)) }
+        (ready l d medium.now cache.now state.now)
+        (called 81 l d (as_of_of state.now medium.now cache.now key time)) }
 {
-    let r = reads::as_of::as_of(words, tail, medium, cache, key, time);
+    let r = reads::as_of::as_of(state, medium, cache, key, time);
     let answer = r.answer;
     let value = r.value;
     text::put_answer(out, n, b'Q', answer, value)
@@ -60,8 +58,7 @@ fn as_of(
 
 // `L`, into an answer buffer.
 fn list(
-    words: &[u64; 448],
-    tail: &[u8; 512],
+    state: &State,
     medium: &[u8],
     cache: &[u8],
     key: u16,
@@ -75,12 +72,12 @@ fn list(
     requires n_in_bounds { n + 94000 ≤ length out.old }
     ensures upper_bound { result ≤ n + 94000 }
     ensures by_index { (l d : ℕ) → Prints (take n out.old) (take result out.new)
-        (ready l d medium.now cache.now (state_of words.now tail.now))
+        (ready l d medium.now cache.now state.now)
         (called 76 l d
-        (changes_of (state_of words.now tail.now) medium.now cache.now (replicate (length buffer.old) 170) key t1 t2)) }
+        (changes_of state.now medium.now cache.now (replicate (length buffer.old) 170) key t1 t2)) }
 {
     parts::fill(buffer, 170);
-    let answer = reads::changes::changes(words, tail, medium, cache, key, t1, t2, buffer);
+    let answer = reads::changes::changes(state, medium, cache, key, t1, t2, buffer);
     let a = text::put_answer(out, n, b'L', answer, [0u8; 16]);
     text::put_list(out, a, answer, buffer)
 }
@@ -89,8 +86,7 @@ fn list(
 pub fn look(
     asked: Asked,
     t: Standing,
-    words: &[u64; 448],
-    tail: &[u8; 512],
+    state: &State,
     medium: &[u8],
     cache: &[u8],
     buffer: &mut [u8],
@@ -105,16 +101,15 @@ pub fn look(
     requires call_bound { (plan_of asked.call).stage ≤ stage_of t }
     ensures upper_bound { result ≤ n + 94000 }
     ensures prints { Prints (take n out.old) (take result out.new)
-        (room_of t medium.now cache.now (state_of words.now tail.now))
-        (turn_of asked (room_of t medium.now cache.now (state_of words.now tail.now))) }
+        (room_of t medium.now cache.now state.now)
+        (turn_of asked (room_of t medium.now cache.now state.now)) }
 {
     let m = parts::medium_part(t);
     let c = parts::cache_part(t);
     let call = asked.call;
     match call {
         Call::Read(number, key) => current(
-            words,
-            tail,
+            state,
             &medium[..m],
             &cache[..c],
             number,
@@ -122,12 +117,11 @@ pub fn look(
             out,
             n,
         ),
-        Call::AsOf(key, time) => as_of(words, tail, &medium[..m], &cache[..c], key, time, out, n),
+        Call::AsOf(key, time) => as_of(state, &medium[..m], &cache[..c], key, time, out, n),
         Call::Changes(key, t1, t2, bytes) => {
             let k = bytes as usize;
             list(
-                words,
-                tail,
+                state,
                 &medium[..m],
                 &cache[..c],
                 key,

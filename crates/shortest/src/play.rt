@@ -1,6 +1,5 @@
 // Playing chosen lines on a store of their own.
 ghost use Rattle.std.specs.Prelude.{◌≡◌, cond};
-ghost use Rattle.memory.specs.Memory.{state_of};
 ghost use Rattle.book.specs.Steps.{world};
 ghost use Rattle.shortest.specs.Script.{end_of};
 ghost use Rattle.shortest.specs.Choice.{picked};
@@ -10,25 +9,25 @@ ghost use Rattle.shortest.specs.Kept.{calls_in};
 use crate::keep::Kept;
 use book::call::Call;
 use book::room;
+use store::State;
 
 // Makes a call; answers 0 or its refusal.
 fn make(
     call: Call,
-    words: &mut [u64; 448],
-    tail: &mut [u8; 512],
+    state: &mut State,
     medium: &mut [u8],
     cache: &mut [u8],
 ) -> u64
-    ensures { made (world (state_of words.new tail.new) medium.new cache.new) result
-        ≡ made_of (world (state_of words.old tail.old) medium.old cache.old) call }
+    ensures { made (world state.new medium.new cache.new) result
+        ≡ made_of (world state.old medium.old cache.old) call }
 {
     if room::letter(call) == b'Q' {
-        let reading = room::query(call, words, tail, medium, cache);
+        let reading = room::query(call, state, medium, cache);
         let read = reading.answer;
         let shown = room::show(read, 0);
         return shown.refusal;
     }
-    let answer = room::change(call, words, tail, medium, cache);
+    let answer = room::change(call, state, medium, cache);
     let shown = room::show(answer, 0);
     shown.refusal
 }
@@ -38,19 +37,18 @@ fn make_if(
     chosen: bool,
     call: Call,
     last: u64,
-    words: &mut [u64; 448],
-    tail: &mut [u8; 512],
+    state: &mut State,
     medium: &mut [u8],
     cache: &mut [u8],
 ) -> u64
-    ensures { made (world (state_of words.new tail.new) medium.new cache.new) result
-        ≡ cond chosen (made_of (world (state_of words.old tail.old) medium.old cache.old) call)
-        (made (world (state_of words.old tail.old) medium.old cache.old) last) }
+    ensures { made (world state.new medium.new cache.new) result
+        ≡ cond chosen (made_of (world state.old medium.old cache.old) call)
+        (made (world state.old medium.old cache.old) last) }
 {
     if !chosen {
         return last;
     }
-    make(call, words, tail, medium, cache)
+    make(call, state, medium, cache)
 }
 
 // Plays the chosen lines on a store with 4 log blocks and 2 pages that is formatted and opened for them; answers 0 or
@@ -63,7 +61,7 @@ pub fn play(flags: [bool; 12], lines: [Kept; 12]) -> u64
     let mut medium = [0u8; 4608];
     let mut cache = [0u8; 1024];
     media::format::format(&mut medium, 4, 2);
-    media::open::open(&medium, &mut cache, &mut words, &mut tail, 4, 2);
+    media::open::open(&medium, &mut cache, &mut state, 4, 2);
     let mut last: u64 = 0;
     let mut i: usize = 0;
     while i < 12 {
@@ -73,8 +71,7 @@ pub fn play(flags: [bool; 12], lines: [Kept; 12]) -> u64
             flags[i],
             call,
             last,
-            &mut words,
-            &mut tail,
+            &mut state,
             &mut medium,
             &mut cache,
         );

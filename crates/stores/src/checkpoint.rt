@@ -2,21 +2,19 @@
 ghost use Rattle.std.specs.Prelude.{◌≡◌};
 ghost use Rattle.store.specs.Answer.{leaves};
 ghost use Rattle.store.specs.Checkpoint.{checkpoint_of};
-ghost use Rattle.memory.specs.Memory.{state_of};
 
-use store::{Answer, Refusal};
+use store::{Answer, Refusal, State};
 
 pub fn checkpoint(
-    words: &mut [u64; 448],
-    tail: &[u8; 512],
+    state: &mut State,
     medium: &mut [u8],
     cache: &[u8],
 ) -> Answer
-    ensures { leaves result (state_of words.new tail.now) medium.new cache.now ≡ checkpoint_of (state_of words.old tail.now) medium.old cache.now }
+    ensures { leaves result state.new medium.new cache.now ≡ checkpoint_of state.old medium.old cache.now }
 {
-    if !memory::fit::is_fit(words, tail, medium.len(), cache.len()) {
+    if !memory::fit::is_fit(state, medium.len(), cache.len()) {
         return Answer::Refused(Refusal::Unfit);
     }
-    checkpoints::step(words, tail, medium);
+    checkpoints::step(state, medium);
     Answer::Done
 }

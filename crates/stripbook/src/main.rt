@@ -3,29 +3,28 @@
 
 ghost use Rattle.std.specs.Prelude.{◌≡◌, true, false, [], ◌*◌, ◌≤◌, length, take};
 ghost use Rattle.script.specs.Run.{stand, play_of, finished};
-ghost use Rattle.memory.specs.Memory.{state_of};
 ghost use Rattle.book.specs.Steps.{world, does};
 
 use book::play;
 use book::play::Run;
 use std::io::{Print, Read};
+use store::State;
 
 // Plays the bytes and writes out what they print.
 fn play_out(
     output: &impl Print,
     run: Run,
     bytes: &[u8],
-    words: &mut [u64; 448],
-    tail: &mut [u8; 512],
+    state: &mut State,
     medium: &mut [u8],
     cache: &mut [u8],
     out: &mut [u8],
 ) -> Run
     requires { 44 * length bytes.now ≤ length out.old }
-    ensures { stand result.line (world (state_of words.new tail.new) medium.new cache.new) result.on (take result.n out.new) ≡ play_of does (stand run.line (world (state_of words.old tail.old) medium.old cache.old) true []) bytes.now }
+    ensures { stand result.line (world state.new medium.new cache.new) result.on (take result.n out.new) ≡ play_of does (stand run.line (world state.old medium.old cache.old) true []) bytes.now }
 {
     let line = run.line;
-    let next = play::play(line, words, tail, bytes, medium, cache, out);
+    let next = play::play(line, state, bytes, medium, cache, out);
     let n = next.n;
     let _ = output.write_all(&out[..n]);
     next
@@ -35,15 +34,14 @@ fn play_out(
 fn finish(
     output: &impl Print,
     run: Run,
-    words: &mut [u64; 448],
-    tail: &mut [u8; 512],
+    state: &mut State,
     medium: &mut [u8],
     cache: &mut [u8],
     out: &mut [u8],
 ) -> Run
     requires { length out.old ≡ 180224 }
     ensures on_value { result.on ≡ false }
-    ensures out_after { take result.n out.new ≡ finished does (stand run.line (world (state_of words.old tail.old) medium.old cache.old) true []) }
+    ensures out_after { take result.n out.new ≡ finished does (stand run.line (world state.old medium.old cache.old) true []) }
 {
     let line = run.line;
     if line.letter == 0 {
@@ -52,7 +50,7 @@ fn finish(
         same.n = 0;
         return same;
     }
-    let mut last = play_out(output, run, b"\n", words, tail, medium, cache, out);
+    let mut last = play_out(output, run, b"\n", state, medium, cache, out);
     last.on = false;
     last
 }
@@ -62,8 +60,7 @@ fn read_some(
     input: &mut impl Read,
     output: &impl Print,
     run: Run,
-    words: &mut [u64; 448],
-    tail: &mut [u8; 512],
+    state: &mut State,
     medium: &mut [u8],
     cache: &mut [u8],
     out: &mut [u8],
@@ -72,8 +69,8 @@ fn read_some(
 {
     let mut bytes = [0u8; 4096];
     match input.read(&mut bytes) {
-        Ok(0) | Err(_) => finish(output, run, words, tail, medium, cache, out),
-        Ok(n) => play_out(output, run, &bytes[..n], words, tail, medium, cache, out),
+        Ok(0) | Err(_) => finish(output, run, state, medium, cache, out),
+        Ok(n) => play_out(output, run, &bytes[..n], state, medium, cache, out),
     }
 }
 
@@ -86,7 +83,7 @@ fn main(rt: HostRuntime) {
     let mut cache = [0u8; 1024];
     let mut out = [0u8; 180224];
     media::format::format(&mut medium, 4, 2);
-    media::open::open(&medium, &mut cache, &mut words, &mut tail, 4, 2);
+    media::open::open(&medium, &mut cache, &mut state, 4, 2);
     let mut run = Run {
         line: script::line::empty(),
         on: true,
@@ -102,8 +99,7 @@ fn main(rt: HostRuntime) {
             &mut input,
             &rt,
             run,
-            &mut words,
-            &mut tail,
+            &mut state,
             &mut medium,
             &mut cache,
             &mut out,

@@ -16,6 +16,7 @@ use std::env::{Env, FillError};
 use std::fs::File;
 use std::io::{Print, Read};
 use std::rt::Files;
+use store::State;
 
 // Plays all the bytes.
 fn play_all(
@@ -24,8 +25,7 @@ fn play_all(
     name: &[u8],
     to: u8,
     bytes: &[u8],
-    words: &mut [u64; 448],
-    tail: &mut [u8; 512],
+    state: &mut State,
     medium: &mut [u8],
     cache: &mut [u8],
     buffer: &mut [u8],
@@ -48,8 +48,7 @@ fn play_all(
             name,
             to,
             &bytes[i..],
-            words,
-            tail,
+            state,
             medium,
             cache,
             buffer,
@@ -67,8 +66,7 @@ fn finish(
     run: Run,
     name: &[u8],
     to: u8,
-    words: &mut [u64; 448],
-    tail: &mut [u8; 512],
+    state: &mut State,
     medium: &mut [u8],
     cache: &mut [u8],
     buffer: &mut [u8],
@@ -87,7 +85,7 @@ fn finish(
         return same;
     }
     let mut last = play::play(
-        rt, run, name, to, b"\n", words, tail, medium, cache, buffer, out,
+        rt, run, name, to, b"\n", state, medium, cache, buffer, out,
     );
     last.on = false;
     last
@@ -100,8 +98,7 @@ fn read_some(
     run: Run,
     name: &[u8],
     to: u8,
-    words: &mut [u64; 448],
-    tail: &mut [u8; 512],
+    state: &mut State,
     medium: &mut [u8],
     cache: &mut [u8],
     buffer: &mut [u8],
@@ -114,15 +111,14 @@ fn read_some(
 {
     let mut bytes = [0u8; 65536];
     match input.read(&mut bytes) {
-        Ok(0) | Err(_) => finish(rt, run, name, to, words, tail, medium, cache, buffer, out),
+        Ok(0) | Err(_) => finish(rt, run, name, to, state, medium, cache, buffer, out),
         Ok(n) => play_all(
             rt,
             run,
             name,
             to,
             &bytes[..n],
-            words,
-            tail,
+            state,
             medium,
             cache,
             buffer,
@@ -174,8 +170,7 @@ fn run(input: &mut impl Read, rt: &(impl Files<File = File> + Print), name: &[u8
             r,
             name,
             to,
-            &mut words,
-            &mut tail,
+            &mut state,
             &mut medium,
             &mut cache,
             &mut buffer,

@@ -1,6 +1,5 @@
 // One line of the script: played, stored in the file, and only then answered.
 ghost use Rattle.std.specs.Prelude.{◌≡◌, true, false, [], ◌+◌, ◌≤◌, ◌<◌, length, take};
-ghost use Rattle.memory.specs.Memory.{state_of};
 ghost use Rattle.script.specs.Run.{stand, play_of};
 ghost use Rattle.rooms.specs.Room.{plan_of, turn_of};
 ghost use Rattle.rooms.specs.Parts.{stage_of, room_of};
@@ -23,6 +22,7 @@ use script::{call, line};
 use std::fs::File;
 use std::io::Print;
 use std::rt::Files;
+use store::State;
 
 // Where a run stands: the line begun, the room, the file (none: it is missing), whether the run goes on, the exit code,
 // and how many bytes were taken.
@@ -170,8 +170,7 @@ fn turn(
     p: Plan,
     name: &[u8],
     to: u8,
-    words: &mut [u64; 448],
-    tail: &mut [u8; 512],
+    state: &mut State,
     medium: &mut [u8],
     cache: &mut [u8],
     buffer: &mut [u8],
@@ -184,7 +183,7 @@ fn turn(
     requires p_value { p ≡ plan_of asked.call }
     requires stage_bound { p.stage ≤ stage_of run.standing }
     ensures next_value { result.next ≡ run.next }
-    ensures line_value { result.code ≡ 0 → (result.line ≡ run.line) × (result.on ≡ run.on) × Answered (turn_of asked (room_of run.standing medium.old cache.old (state_of words.old tail.old))) (room_of result.standing medium.new cache.new (state_of words.new tail.new)) out.new }
+    ensures line_value { result.code ≡ 0 → (result.line ≡ run.line) × (result.on ≡ run.on) × Answered (turn_of asked (room_of run.standing medium.old cache.old state.old)) (room_of result.standing medium.new cache.new state.new) out.new }
     ensures apart { Apart (descriptor run.file) to → result.code ≡ 0 → Apart (descriptor result.file) to }
 {
     let Run {
@@ -195,7 +194,7 @@ fn turn(
         code,
         next,
     } = run;
-    let played = step::play(asked, p, before, words, tail, medium, cache, buffer, out, 0);
+    let played = step::play(asked, p, before, state, medium, cache, buffer, out, 0);
     let kept = keep(rt, asked.call, played, name, to, file, medium);
     let stored = kept.code;
     let mut r = Run {
@@ -224,8 +223,7 @@ pub fn play(
     name: &[u8],
     to: u8,
     bytes: &[u8],
-    words: &mut [u64; 448],
-    tail: &mut [u8; 512],
+    state: &mut State,
     medium: &mut [u8],
     cache: &mut [u8],
     buffer: &mut [u8],
@@ -237,7 +235,7 @@ pub fn play(
     requires out_len { length out.old ≡ 94000 }
     requires bytes_nonzero { 0 < length bytes.now }
     ensures next_nonzero { (0 < result.next) × (result.next ≤ length bytes.now) }
-    ensures leads { run.on ≡ true → result.code ≡ 0 → Leads (play_of does (stand run.line (room_of run.standing medium.old cache.old (state_of words.old tail.old)) true []) (take result.next bytes.now)) result.line (room_of result.standing medium.new cache.new (state_of words.new tail.new)) result.on out.new }
+    ensures leads { run.on ≡ true → result.code ≡ 0 → Leads (play_of does (stand run.line (room_of run.standing medium.old cache.old state.old) true []) (take result.next bytes.now)) result.line (room_of result.standing medium.new cache.new state.new) result.on out.new }
     ensures apart { Apart (descriptor run.file) to → result.code ≡ 0 → Apart (descriptor result.file) to }
 {
     let mut r = run;
@@ -258,6 +256,6 @@ pub fn play(
         return stops(r, code);
     }
     turn(
-        rt, r, asked, p, name, to, words, tail, medium, cache, buffer, out,
+        rt, r, asked, p, name, to, state, medium, cache, buffer, out,
     )
 }

@@ -2,20 +2,18 @@
 ghost use Rattle.std.specs.Prelude.{◌≡◌};
 ghost use Rattle.store.specs.Answer.{leaves};
 ghost use Rattle.store.specs.Abort.{abort_of};
-ghost use Rattle.memory.specs.Memory.{state_of};
 
-use store::{Answer, Refusal};
+use store::{Answer, Refusal, State};
 
 pub fn abort(
-    words: &mut [u64; 448],
-    tail: &[u8; 512],
+    state: &mut State,
     medium: &[u8],
     cache: &[u8],
     number: u64,
 ) -> Answer
-    ensures { leaves result (state_of words.new tail.now) medium.now cache.now ≡ abort_of (state_of words.old tail.now) medium.now cache.now number }
+    ensures { leaves result state.new medium.now cache.now ≡ abort_of state.old medium.now cache.now number }
 {
-    if !memory::fit::is_fit(words, tail, medium.len(), cache.len()) {
+    if !memory::fit::is_fit(state, medium.len(), cache.len()) {
         return Answer::Refused(Refusal::Unfit);
     }
     let f = live::places::find_active(words, number);

@@ -1,6 +1,5 @@
 // One line of a script, whatever it does.
 ghost use Rattle.std.specs.Prelude.{◌≡◌, ◌++◌, ◌+◌, ◌≤◌, length, take};
-ghost use Rattle.memory.specs.Memory.{state_of};
 ghost use Rattle.rooms.specs.Room.{plan_of, turn_of};
 ghost use Rattle.rooms.specs.Parts.{stage_of, room_of};
 
@@ -11,6 +10,7 @@ use rooms::look;
 use rooms::parts::Standing;
 use rooms::plan::Plan;
 use script::call::{Asked, Call};
+use store::State;
 
 // How the room stands then, and how many bytes of the output are taken.
 #[derive(Clone, Copy)]
@@ -24,8 +24,7 @@ pub fn step(
     asked: Asked,
     p: Plan,
     t: Standing,
-    words: &mut [u64; 448],
-    tail: &mut [u8; 512],
+    state: &mut State,
     medium: &mut [u8],
     cache: &mut [u8],
     buffer: &mut [u8],
@@ -40,12 +39,12 @@ pub fn step(
     requires stage_bound { p.stage ≤ stage_of t }
     ensures n_bound { result.n ≤ n + 94000 }
     ensures out_after { take result.n out.new ≡ take n out.old
-        ++ (turn_of asked (room_of t medium.old cache.old (state_of words.old tail.old))).text }
-    ensures tail_after { room_of result.standing medium.new cache.new (state_of words.new tail.new)
-        ≡ (turn_of asked (room_of t medium.old cache.old (state_of words.old tail.old))).room }
+        ++ (turn_of asked (room_of t medium.old cache.old state.old)).text }
+    ensures tail_after { room_of result.standing medium.new cache.new state.new
+        ≡ (turn_of asked (room_of t medium.old cache.old state.old)).room }
 {
     if p.looks {
-        let end = look::look(asked, t, words, tail, medium, cache, buffer, out, n);
+        let end = look::look(asked, t, state, medium, cache, buffer, out, n);
         return Stepped {
             standing: t,
             n: end,
@@ -60,14 +59,14 @@ pub fn step(
             began: began,
             ended: ended,
         };
-        let answer = turn::hand(transfer, t, words, tail, medium, cache);
+        let answer = turn::hand(transfer, t, state, medium, cache);
         let end = text::put_handed(out, n, answer);
         return Stepped {
             standing: t,
             n: end,
         };
     }
-    let turned = turn::turn(asked, p, t, words, tail, medium, cache, buffer);
+    let turned = turn::turn(asked, p, t, state, medium, cache, buffer);
     let answer = turned.answer;
     let end = text::put_answer(out, n, p.letter, answer, [0u8; 16]);
     let standing = turned.standing;

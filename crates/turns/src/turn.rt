@@ -5,7 +5,6 @@ ghost use Rattle.store.specs.declared.State.{State};
 ghost use Rattle.store.specs.Answer.{leaves};
 ghost use Rattle.store.specs.Format.{format_of};
 ghost use Rattle.store.specs.Open.{open_of};
-ghost use Rattle.memory.specs.Memory.{state_of};
 ghost use Rattle.answers.specs.Text.{handed_text};
 ghost use Rattle.rooms.specs.Room.{plan_of, fresh_length, formatted, opening, cut as Room·cut, poked, outcome_of};
 ghost use Rattle.rooms.specs.Room.{calling, handing, moves, turn_of};
@@ -17,7 +16,7 @@ use rooms::parts;
 use rooms::parts::Standing;
 use rooms::plan::Plan;
 use script::call::{Asked, Call};
-use store::Answer;
+use store::{Answer, State};
 
 // How the room stands then, and what the line answers.
 #[derive(Clone, Copy)]
@@ -60,21 +59,20 @@ fn format(medium: &mut [u8], blocks: u64, pages: u64) -> Turned
 fn open_with(
     medium: &[u8],
     given: &mut [u8],
-    words: &mut [u64; 448],
-    tail: &mut [u8; 512],
+    state: &mut State,
     byte: u8,
     blocks: u64,
     pages: u64,
 ) -> Answer
-    ensures { leaves result (state_of words.new tail.new) medium.now given.new
+    ensures { leaves result state.new medium.now given.new
         ≡ open_of medium.now (replicate (length given.old) byte) blocks pages }
 {
     parts::fill(given, byte);
-    media::open::open(medium, given, words, tail, blocks, pages)
+    media::open::open(medium, given, state, blocks, pages)
 }
 
 // Copies the words and the tail of an opened state.
-fn take_state(words: &mut [u64; 448], tail: &mut [u8; 512], from: &[u64; 448], block: &[u8; 512])
+fn take_state(state: &mut State, from: &[u64; 448], block: &[u8; 512])
     ensures { (words.new ≡ from.now) × (tail.new ≡ block.now) }
 {
     memory::copy(words, from);
@@ -84,8 +82,7 @@ fn take_state(words: &mut [u64; 448], tail: &mut [u8; 512], from: &[u64; 448], b
 // `O` and `o`: opens with a cache of so many bytes; the room takes cache and state over where the opening is accepted.
 fn open(
     t: Standing,
-    words: &mut [u64; 448],
-    tail: &mut [u8; 512],
+    state: &mut State,
     medium: &[u8],
     cache: &mut [u8],
     buffer: &mut [u8],
@@ -98,8 +95,8 @@ fn open(
     requires bytes_bound { bytes ≤ 40000 }
     requires bound { 2 ≤ stage_of t }
     ensures { (letter : ℕ)
-        → left_by result.standing medium.now cache.new (state_of words.new tail.new) letter result.answer
-        ≡ opening letter (room_of t medium.now cache.old (state_of words.old tail.old)) (replicate bytes byte) }
+        → left_by result.standing medium.now cache.new state.new letter result.answer
+        ≡ opening letter (room_of t medium.now cache.old state.old) (replicate bytes byte) }
 {
     let m = parts::medium_part(t);
     let mut given = [0u64; 448];
@@ -121,7 +118,7 @@ fn open(
     }
     let n = parts::right_length(t.pages);
     fields::block::copy(&mut cache[..n], &buffer[..n]);
-    take_state(words, tail, &given, &block);
+    take_state(state, &given, &block);
     let mut standing = t;
     standing.stage = 3;
     Turned {
@@ -167,32 +164,31 @@ fn poke(t: Standing, medium: &mut [u8], offset: u64, byte: u8) -> Turned
 // The calls that change a store.
 fn change(
     asked: Asked,
-    words: &mut [u64; 448],
-    tail: &mut [u8; 512],
+    state: &mut State,
     medium: &mut [u8],
     cache: &mut [u8],
 ) -> Answer
     requires { (plan_of asked.call).looks ≡ false }
-    ensures { leaves result (state_of words.new tail.new) medium.new cache.new
-        ≡ outcome_of asked.call asked.value (state_of words.old tail.old) medium.old cache.old }
+    ensures { leaves result state.new medium.new cache.new
+        ≡ outcome_of asked.call asked.value state.old medium.old cache.old }
 {
     let call = asked.call;
     match call {
-        Call::Begin(clock) => transactions::begin::begin(words, tail, medium, cache, clock),
+        Call::Begin(clock) => transactions::begin::begin(state, medium, cache, clock),
         Call::Write(number, key) => {
             let value = asked.value;
-            writes::write::write(words, tail, medium, cache, number, key, value)
+            writes::write::write(state, medium, cache, number, key, value)
         }
         Call::Erase(number, key) => {
-            writes::erase::erase(words, tail, medium, cache, number, key)
+            writes::erase::erase(state, medium, cache, number, key)
         }
         Call::Commit(number, clock) => {
-            transactions::commit::commit(words, tail, medium, cache, number, clock)
+            transactions::commit::commit(state, medium, cache, number, clock)
         }
-        Call::Abort(number) => transactions::abort::abort(words, tail, medium, cache, number),
-        Call::StoreLog => stores::store_log::store_log(words, tail, medium, cache),
-        Call::StorePage(page) => stores::store_page::store_page(words, tail, medium, cache, page),
-        Call::Checkpoint => stores::checkpoint::checkpoint(words, tail, medium, cache),
+        Call::Abort(number) => transactions::abort::abort(state, medium, cache, number),
+        Call::StoreLog => stores::store_log::store_log(state, medium, cache),
+        Call::StorePage(page) => stores::store_page::store_page(state, medium, cache, page),
+        Call::Checkpoint => stores::checkpoint::checkpoint(state, medium, cache),
         _ => Answer::Done,
     }
 }
@@ -201,8 +197,7 @@ fn change(
 fn make(
     asked: Asked,
     t: Standing,
-    words: &mut [u64; 448],
-    tail: &mut [u8; 512],
+    state: &mut State,
     medium: &mut [u8],
     cache: &mut [u8],
 ) -> Turned
@@ -210,13 +205,13 @@ fn make(
     requires cache_len { length cache.old ≡ 32768 }
     requires call_value { (plan_of asked.call).looks ≡ false }
     requires bound { 3 ≤ stage_of t }
-    ensures { left_by result.standing medium.new cache.new (state_of words.new tail.new)
+    ensures { left_by result.standing medium.new cache.new state.new
         (plan_of asked.call).letter result.answer
-        ≡ calling asked.call asked.value (room_of t medium.old cache.old (state_of words.old tail.old)) }
+        ≡ calling asked.call asked.value (room_of t medium.old cache.old state.old) }
 {
     let m = parts::medium_part(t);
     let c = parts::cache_part(t);
-    let answer = change(asked, words, tail, &mut medium[..m], &mut cache[..c]);
+    let answer = change(asked, state, &mut medium[..m], &mut cache[..c]);
     Turned {
         standing: t,
         answer: answer,
@@ -227,20 +222,19 @@ fn make(
 pub fn hand(
     asked: Transfer,
     t: Standing,
-    words: &mut [u64; 448],
-    tail: &mut [u8; 512],
+    state: &mut State,
     medium: &mut [u8],
     cache: &mut [u8],
 ) -> HandAnswer
     requires medium_len { length medium.old ≡ 50688 }
     requires cache_len { length cache.old ≡ 32768 }
     requires bound { 3 ≤ stage_of t }
-    ensures { record { room = room_of t medium.new cache.new (state_of words.new tail.new); text = handed_text result }
-        ≡ handing asked (room_of t medium.old cache.old (state_of words.old tail.old)) }
+    ensures { record { room = room_of t medium.new cache.new state.new; text = handed_text result }
+        ≡ handing asked (room_of t medium.old cache.old state.old) }
 {
     let m = parts::medium_part(t);
     let c = parts::cache_part(t);
-    handover::hand::hand(words, tail, &mut medium[..m], &mut cache[..c], asked)
+    handover::hand::hand(state, &mut medium[..m], &mut cache[..c], asked)
 }
 
 // What no line leaves: the match on the lines that change a room has an arm for the others.
@@ -256,8 +250,7 @@ pub fn turn(
     asked: Asked,
     p: Plan,
     t: Standing,
-    words: &mut [u64; 448],
-    tail: &mut [u8; 512],
+    state: &mut State,
     medium: &mut [u8],
     cache: &mut [u8],
     buffer: &mut [u8],
@@ -269,20 +262,20 @@ pub fn turn(
     requires looks_value { p.looks ≡ false }
     requires letter_value { eqb p.letter 72 ≡ false }
     requires stage_bound { p.stage ≤ stage_of t }
-    ensures { left_by result.standing medium.new cache.new (state_of words.new tail.new) p.letter result.answer
-        ≡ turn_of asked (room_of t medium.old cache.old (state_of words.old tail.old)) }
+    ensures { left_by result.standing medium.new cache.new state.new p.letter result.answer
+        ≡ turn_of asked (room_of t medium.old cache.old state.old) }
 {
     if p.stage == 3 {
-        return make(asked, t, words, tail, medium, cache);
+        return make(asked, t, state, medium, cache);
     }
     let call = asked.call;
     match call {
         Call::Format(blocks, pages) => format(medium, blocks, pages),
         Call::Open(byte) => {
             let n = parts::right_length(t.pages);
-            open(t, words, tail, medium, cache, buffer, n, byte)
+            open(t, state, medium, cache, buffer, n, byte)
         }
-        Call::OpenSized(bytes) => { open(t, words, tail, medium, cache, buffer, bytes as usize, 0) }
+        Call::OpenSized(bytes) => { open(t, state, medium, cache, buffer, bytes as usize, 0) }
         Call::Cut => cut(t),
         Call::Poke(offset, byte) => poke(t, medium, offset, byte),
         _ => stay(t),

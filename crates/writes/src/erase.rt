@@ -2,19 +2,17 @@
 ghost use Rattle.std.specs.Prelude.{◌≡◌};
 ghost use Rattle.store.specs.Answer.{leaves};
 ghost use Rattle.store.specs.Erase.{erase_of};
-ghost use Rattle.memory.specs.Memory.{state_of};
 
-use store::Answer;
+use store::{Answer, State};
 
 pub fn erase(
-    words: &mut [u64; 448],
-    tail: &mut [u8; 512],
+    state: &mut State,
     medium: &mut [u8],
     cache: &mut [u8],
     number: u64,
     key: u16,
 ) -> Answer
-    ensures { leaves result (state_of words.new tail.new) medium.new cache.new ≡ erase_of (state_of words.old tail.old) medium.old cache.old number key }
+    ensures { leaves result state.new medium.new cache.new ≡ erase_of state.old medium.old cache.old number key }
 {
-    crate::write::add(words, tail, medium, cache, number, key, 1, [0u8; 16])
+    crate::write::add(state, medium, cache, number, key, 1, [0u8; 16])
 }

@@ -5,13 +5,11 @@ ghost use Rattle.store.specs.Answer.{leaves, ask};
 ghost use Rattle.store.specs.Places.{find_active};
 ghost use Rattle.store.specs.Chain.{newest};
 ghost use Rattle.store.specs.Write.{write_asks, or_none, written, write_step, add_of, write_of};
-ghost use Rattle.memory.specs.Memory.{places_of, state_of};
 ghost use Rattle.writes.specs.Asked.{write_verdict};
 
 use layout::TxNumber;
 use layout::item::{VersionHead, Width};
-use memory::{PAGES, SLOTS};
-use store::{Answer, RECORDS, Refusal};
+use store::{Answer, RECORDS, Refusal, State};
 
 // What the questions put to a write say: why it is refused, or the place of its transaction and the earlier slot.
 #[derive(Clone, Copy)]
@@ -22,16 +20,15 @@ pub enum Passed {
 
 // The questions put to a write or an erase.
 fn asks(
-    words: &[u64; 448],
-    tail: &[u8; 512],
+    state: &State,
     medium: &[u8],
     cache: &[u8],
     number: u64,
     key: u16,
 ) -> Passed
-    ensures { result ≡ write_verdict (ask (write_asks (state_of words.now tail.now) medium.now cache.now number key)) (find_active (places_of words.now) number) (newest cache.now key (get_or words.now 2 0)) }
+    ensures { result ≡ write_verdict (ask (write_asks state.now medium.now cache.now number key)) (find_active state.now.places number) (newest cache.now key state.now.slots) }
 {
-    if !memory::fit::is_fit(words, tail, medium.len(), cache.len()) {
+    if !memory::fit::is_fit(state, medium.len(), cache.len()) {
         return Passed::No(Refusal::Unfit);
     }
     if RECORDS <= key {
@@ -41,14 +38,14 @@ fn asks(
     let Some(i) = f else {
         return Passed::No(Refusal::NotActive);
     };
-    let newest = chain::newest::find(cache, key, words[SLOTS]);
+    let newest = chain::newest::find(cache, key, state.slots);
     if chain::newest::is_held(newest, cache, words, number) {
         return Passed::No(Refusal::Held);
     }
-    if 15 * words[PAGES] <= words[SLOTS] {
+    if 15 * state.pages <= state.slots {
         return Passed::No(Refusal::NoSlot);
     }
-    if !tail::may_log(words, tail, medium, 34) {
+    if !tail::may_log(state, medium, 34) {
         return Passed::No(Refusal::LogFull);
     }
     Passed::Go(i, slot_or_none(newest))
@@ -65,35 +62,34 @@ fn slot_or_none(f: Option<u64>) -> u64
 }
 
 // Counts the new version of the transaction in place i, whose record the tail took.
-fn count_version(words: &mut [u64], tail: &[u8], i: u64)
+fn count_version(state: &mut State, tail: &[u8], i: u64)
     requires words_len { (length words.old ≡ 448) × (length tail.now ≡ 512) }
-    requires i_bound { (i < 64) × (get_or words.old 2 0 < 960) }
-    ensures { state_of words.new tail.now ≡ written (state_of words.old tail.now) i (record { medium = tail.now; tail = tail.now; end = (state_of words.old tail.now).end; saved = (state_of words.old tail.now).saved }) }
+    requires i_bound { (i < 64) × (state.old.slots < 960) }
+    ensures { state.new ≡ written state.old i (record { medium = tail.now; tail = tail.now; end = state.old.end; saved = state.old.saved }) }
 {
-    let slot = words[SLOTS];
+    let slot = state.slots;
     live::places::raise(words, i as usize);
-    memory::touch(words, (slot / 15) as usize, layout::journal::sequence(tail));
-    words[SLOTS] = slot + 1;
+    memory::touch(words, (slot / 15) as usize, layout::journal::sequence(&state.tail));
+    state.slots = slot + 1;
 }
 
 // Logs the version, puts it into its slot and counts it.
 fn step(
-    words: &mut [u64; 448],
-    tail: &mut [u8; 512],
+    state: &mut State,
     medium: &mut [u8],
     cache: &mut [u8],
     i: u64,
     head: VersionHead,
     value: [u8; 16],
 ) -> Answer
-    requires key_value { ask (write_asks (state_of words.old tail.old) medium.old cache.old head.number.0 head.key) ≡ None }
-    requires number_value { find_active (places_of words.old) head.number.0 ≡ Some i }
-    requires slot_value { head.slot ≡ get_or words.old 2 0 }
+    requires key_value { ask (write_asks state.old medium.old cache.old head.number.0 head.key) ≡ None }
+    requires number_value { find_active state.old.places head.number.0 ≡ Some i }
+    requires slot_value { head.slot ≡ state.old.slots }
     requires width_value { head.width ≡ Two }
-    ensures { leaves result (state_of words.new tail.new) medium.new cache.new ≡ write_step (state_of words.old tail.old) medium.old cache.old i head value }
+    ensures { leaves result state.new medium.new cache.new ≡ write_step state.old medium.old cache.old i head value }
 {
-    tail::take_version(words, tail, medium, head, &value);
-    let end = tail::end_of(tail);
+    tail::take_version(state, medium, head, &value);
+    let end = tail::end_of(&state.tail);
     let number = head.number;
     layout::page::put_version(
         cache,
@@ -105,14 +101,13 @@ fn step(
         head.earlier,
         &value,
     );
-    count_version(words, tail, i);
+    count_version(state, i);
     Answer::Written(head.slot)
 }
 
 // Adds a version of either kind.
 pub(crate) fn add(
-    words: &mut [u64; 448],
-    tail: &mut [u8; 512],
+    state: &mut State,
     medium: &mut [u8],
     cache: &mut [u8],
     number: u64,
@@ -120,35 +115,34 @@ pub(crate) fn add(
     kind: u8,
     value: [u8; 16],
 ) -> Answer
-    ensures { leaves result (state_of words.new tail.new) medium.new cache.new ≡ add_of (state_of words.old tail.old) medium.old cache.old number key kind value }
+    ensures { leaves result state.new medium.new cache.new ≡ add_of state.old medium.old cache.old number key kind value }
 {
-    let v = asks(words, tail, medium, cache, number, key);
+    let v = asks(state, medium, cache, number, key);
     match v {
         Passed::No(why) => Answer::Refused(why),
         Passed::Go(i, earlier) => {
             let head = VersionHead {
                 width: Width::Two,
-                slot: words[SLOTS],
+                slot: state.slots,
                 key: key,
                 kind: kind,
                 earlier: earlier,
                 number: TxNumber(number),
             };
-            step(words, tail, medium, cache, i, head, value)
+            step(state, medium, cache, i, head, value)
         }
     }
 }
 
 pub fn write(
-    words: &mut [u64; 448],
-    tail: &mut [u8; 512],
+    state: &mut State,
     medium: &mut [u8],
     cache: &mut [u8],
     number: u64,
     key: u16,
     value: [u8; 16],
 ) -> Answer
-    ensures { leaves result (state_of words.new tail.new) medium.new cache.new ≡ write_of (state_of words.old tail.old) medium.old cache.old number key value }
+    ensures { leaves result state.new medium.new cache.new ≡ write_of state.old medium.old cache.old number key value }
 {
-    add(words, tail, medium, cache, number, key, 0, value)
+    add(state, medium, cache, number, key, 0, value)
 }

@@ -8,7 +8,7 @@ use Rattle.checkpoints.proofs.PairsLaws.{row}
 use Rattle.checkpoints.proofs.lay_pairs.Given as goal
 
 abbrev pub invariant-loop-i : goal.invariant-loop-i
-invariant-loop-i l = (l.from + l.at ≡ l.i) × (l.i ≤ l.to) × (length l.block ≡ length l.initial.block) × (l.block ≡ splice l.initial.block 0 (row (places_of l.words) l.oldest l.from l.at))
+invariant-loop-i l = (l.from + l.at ≡ l.i) × (l.i ≤ l.to) × (length l.block ≡ length l.initial.block) × (l.block ≡ splice l.initial.block 0 (row l.state.places l.oldest l.from l.at))
 
 abbrev pub decreases-loop-i : goal.decreases-loop-i
 decreases-loop-i l = l.to - l.i

@@ -17,7 +17,7 @@ full c = sym c.has_room.ensures ∙ c.if-not-has_room.true
 pub begin_block-requires : goal.begin_block-requires
 unfolding state_of state_by
 begin_block-requires c =
-    may_begin (state_of c.args.words.now c.args.tail.now) c.args.medium.now 19 c.requires.medium_value (full c)
+    may_begin c.args.state.now c.args.medium.now 19 c.requires.medium_value (full c)
 
 pub add_commit-requires : goal.add_commit-requires
 add_commit-requires c =

@@ -41,7 +41,7 @@ full c =
 pub begin_block-requires : goal.begin_block-requires
 unfolding state_of state_by
 begin_block-requires c =
-    may_begin (state_of c.args.words.now c.args.tail.now) c.args.medium.now _ c.requires.width_value (full c)
+    may_begin c.args.state.now c.args.medium.now _ c.requires.width_value (full c)
 
 pub add_version-requires : goal.add_version-requires
 add_version-requires c =

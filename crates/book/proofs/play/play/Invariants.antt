@@ -17,9 +17,9 @@ invariant-loop-i l =
     × (length l.cache ≡ length l.initial.cache)
     × (length l.out ≡ length l.initial.out)
     × (l.n + 44 * (length l.bytes - l.i) ≤ length l.out)
-    × (play_of does (stand l.line (world (state_of l.words l.tail) l.medium l.cache) true (take l.n l.out))
+    × (play_of does (stand l.line (world l.state l.medium l.cache) true (take l.n l.out))
     (drop l.i l.bytes) ≡ play_of does (stand l.initial.line
-    (world (state_of l.initial.words l.initial.tail) l.initial.medium l.initial.cache) true []) l.bytes)
+    (world l.initial.state l.initial.medium l.initial.cache) true []) l.bytes)
 
 abbrev pub decreases-loop-i : goal.decreases-loop-i
 decreases-loop-i l = length l.bytes - l.i

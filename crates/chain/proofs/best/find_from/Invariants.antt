@@ -8,7 +8,7 @@ use Rattle.chain.specs.Later.{or_later}
 use Rattle.chain.proofs.best.find_from.Given as goal
 
 abbrev pub invariant-loop-state : goal.invariant-loop-state
-invariant-loop-state l = (l.at ≤ l.s) × (or_later l.best (best_from l.cache (time_under (places_of l.words)) l.t (suc l.at) l.at) ≡ best_from l.cache (time_under (places_of l.words)) l.t (suc l.s) l.s)
+invariant-loop-state l = (l.at ≤ l.s) × (or_later l.best (best_from l.cache (time_under l.state.places) l.t (suc l.at) l.at) ≡ best_from l.cache (time_under l.state.places) l.t (suc l.s) l.s)
 
 abbrev pub decreases-loop-state : goal.decreases-loop-state
 decreases-loop-state l = l.at

@@ -7,7 +7,7 @@ use Rattle.memory.specs.Memory.{places_of}
 use Rattle.chain.proofs.visible.find_from.Given as goal
 
 abbrev pub invariant-loop-state : goal.invariant-loop-state
-invariant-loop-state l = (l.at ≤ l.s) × (visible_from l.cache (time_under (places_of l.words)) l.n (suc l.at) l.at ≡ visible_from l.cache (time_under (places_of l.words)) l.n (suc l.s) l.s)
+invariant-loop-state l = (l.at ≤ l.s) × (visible_from l.cache (time_under l.state.places) l.n (suc l.at) l.at ≡ visible_from l.cache (time_under l.state.places) l.n (suc l.s) l.s)
 
 abbrev pub decreases-loop-state : goal.decreases-loop-state
 decreases-loop-state l = l.at

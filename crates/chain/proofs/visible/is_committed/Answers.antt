@@ -19,7 +19,7 @@ timed (Committed m t p) n e = refl
 pub returns-in-Some : goal.returns-in-Some
 unfolding time_under find_committed
 returns-in-Some c =
-    let ps = places_of c.args.words.now in
+    let ps = c.args.state.now.places in
     let f = sym c.find_committed-f.ensures ∙ c.in-Some.is in
     let l = (place_at ps c.in-Some.field-0).life in
     sym (ap (λ (f : Option ℕ). is_timed (at_found f (λ i. time_of (place_at ps i).life))) f ∙ timed l c.args.n (first_found _ 64 0 _ f).2)

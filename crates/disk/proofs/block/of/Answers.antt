@@ -39,5 +39,5 @@ returns-in-Poke c = simp c.in-Poke.is
 pub returns-in_default : goal.returns-in_default
 returns-in_default c =
     let k = c.in_default in
-    block_rest (state_of c.args.words.now c.args.tail.now) c.args.call k.not-Write k.not-Erase k.not-Commit k.not-Hand
+    block_rest c.args.state.now c.args.call k.not-Write k.not-Erase k.not-Commit k.not-Hand
     k.not-StoreLog k.not-StorePage k.not-Checkpoint k.not-Poke

@@ -25,7 +25,7 @@ tested : (c : goal.Then-is_free) → c.is_free.result ≡ passes c.args.words.no
 unfolding ring_place
 tested c =
     let e : (c.args.ring % 64 + c.loop-k.k) % 64 ≡ (c.args.ring + c.loop-k.k) % 64 = omega arith in
-    c.is_free.ensures ∙ ap (λ (i : ℕ). is_free (place_at (places_of c.args.words.now) i).life) e
+    c.is_free.ensures ∙ ap (λ (i : ℕ). is_free (place_at c.args.state.now.places i).life) e
 
 pub returns-then-is_free : goal.returns-then-is_free
 unfolding find_free
@@ -37,7 +37,7 @@ tested_at_loop_k_preserved : (c : goal.Else-is_free) → c.is_free.result ≡ pa
 unfolding ring_place
 tested_at_loop_k_preserved c =
     let e : (c.args.ring % 64 + c.loop-k.k) % 64 ≡ (c.args.ring + c.loop-k.k) % 64 = omega arith in
-    c.is_free.ensures ∙ ap (λ (i : ℕ). is_free (place_at (places_of c.args.words.now) i).life) e
+    c.is_free.ensures ∙ ap (λ (i : ℕ). is_free (place_at c.args.state.now.places i).life) e
 
 pub loop-k-preserved : goal.loop-k-preserved
 loop-k-preserved c =

@@ -14,7 +14,7 @@ use Rattle.opening.proofs.places.lay.Given as goal
 abbrev pub invariant-loop-i : goal.invariant-loop-i
 invariant-loop-i l =
     (l.i ≤ l.total) × Gathered l.cache (is_paired l.medium (read_log l.medium l.blocks)) l.slots l.list l.total × Laid l.initial.words l.words
-    × (take_all l.medium (read_log l.medium l.blocks) l.cache l.slots (places_of l.words) (slice l.i l.total l.list) ≡ open_places l.medium (read_log l.medium l.blocks) l.cache l.slots)
+    × (take_all l.medium (read_log l.medium l.blocks) l.cache l.slots l.state.places (slice l.i l.total l.list) ≡ open_places l.medium (read_log l.medium l.blocks) l.cache l.slots)
 
 abbrev pub decreases-loop-i : goal.decreases-loop-i
 decreases-loop-i l = l.total - l.i

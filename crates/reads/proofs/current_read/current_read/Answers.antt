@@ -79,7 +79,7 @@ held_is : (c : goal.After-reading-then-is_held) → let a = c.args in
     c.is_held.result ≡ held a.cache.now (places_of a.words.now) (get_or a.words.now 2 0) a.key a.number
 unfolding held
 held_is c =
-    c.is_held.ensures ∙ ap (λ (f : Option ℕ). held_at f c.args.cache.now (places_of c.args.words.now) c.args.number) c.find-newest.ensures
+    c.is_held.ensures ∙ ap (λ (f : Option ℕ). held_at f c.args.cache.now c.args.state.now.places c.args.number) c.find-newest.ensures
 
 pub returns-then-is_held : goal.returns-then-is_held
 unfolding current_of current_if state_of state_by
@@ -129,7 +129,7 @@ held_is_at_returns_in_Some_found : (c : goal.After-read_slot) → let a = c.args
     c.is_held.result ≡ held a.cache.now (places_of a.words.now) (get_or a.words.now 2 0) a.key a.number
 unfolding held
 held_is_at_returns_in_Some_found c =
-    c.is_held.ensures ∙ ap (λ (f : Option ℕ). held_at f c.args.cache.now (places_of c.args.words.now) c.args.number) c.find-newest.ensures
+    c.is_held.ensures ∙ ap (λ (f : Option ℕ). held_at f c.args.cache.now c.args.state.now.places c.args.number) c.find-newest.ensures
 
 seen : (c : goal.After-read_slot) → let a = c.args in
     current_of (state_of a.words.now a.tail.now) a.medium.now a.cache.now a.number a.key
@@ -157,7 +157,7 @@ held_is_at_returns_in_None : (c : goal.After-missing) → let a = c.args in
     c.is_held.result ≡ held a.cache.now (places_of a.words.now) (get_or a.words.now 2 0) a.key a.number
 unfolding held
 held_is_at_returns_in_None c =
-    c.is_held.ensures ∙ ap (λ (f : Option ℕ). held_at f c.args.cache.now (places_of c.args.words.now) c.args.number) c.find-newest.ensures
+    c.is_held.ensures ∙ ap (λ (f : Option ℕ). held_at f c.args.cache.now c.args.state.now.places c.args.number) c.find-newest.ensures
 
 seen_at_returns_in_None : (c : goal.After-missing) → let a = c.args in
     current_of (state_of a.words.now a.tail.now) a.medium.now a.cache.now a.number a.key

@@ -13,7 +13,7 @@ loop-i-init c = (
   refl,
   refl,
   refl,
-  free_start (state_of c.args.words.now c.args.tail.now) c.args.medium.now c.args.cache.now _ refl,
+  free_start c.args.state.now c.args.medium.now c.args.cache.now _ refl,
 )
 
 pub put_end-requires : goal.put_end-requires

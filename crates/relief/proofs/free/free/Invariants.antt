@@ -7,7 +7,7 @@ use Rattle.relief.specs.Free.{behind, freed_from}
 use Rattle.relief.proofs.free.free.Given as goal
 
 abbrev pub invariant-loop-i : goal.invariant-loop-i
-invariant-loop-i l = (l.i ≤ 70) × (l.n ≤ 44 * l.i) × (length l.medium ≡ length l.initial.medium) × (length l.cache ≡ length l.initial.cache) × (length l.out ≡ length l.initial.out) × (behind (take l.n l.out) (freed_from (70 - l.i) (state_of l.words l.tail) l.medium l.cache) ≡ freed_from 70 (state_of l.initial.words l.tail) l.initial.medium l.initial.cache)
+invariant-loop-i l = (l.i ≤ 70) × (l.n ≤ 44 * l.i) × (length l.medium ≡ length l.initial.medium) × (length l.cache ≡ length l.initial.cache) × (length l.out ≡ length l.initial.out) × (behind (take l.n l.out) (freed_from (70 - l.i) l.state l.medium l.cache) ≡ freed_from 70 (state_of l.initial.words l.tail) l.initial.medium l.initial.cache)
 
 abbrev pub decreases-loop-i : goal.decreases-loop-i
 decreases-loop-i l = 100 - l.i

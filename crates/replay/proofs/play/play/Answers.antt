@@ -56,7 +56,7 @@ returns-then-not-taken c =
     record {
       n_bound = rw c.stands-then-not-taken.ensures (omega (arith, c.loop-i.invariant.5));
       next_nonzero = rw c.stands-then-not-taken.ensures (c.requires.bytes_nonzero, omega arith);
-      out_after = rw c.stands-then-not-taken.ensures (play_stop (stand c.args.begun (room_of c.args.standing c.args.medium.now c.args.cache.now ((state_of c.args.words.now c.args.tail.now))) true []) c.args.bytes.now _ _ _ c.loop-i.i c.take-taken.result c.loop-i-test.true c.take-taken.ensures c.loop-i.invariant.7 (not-true c.take-taken.result.ended c.if-not-taken.true));
+      out_after = rw c.stands-then-not-taken.ensures (play_stop (stand c.args.begun (room_of c.args.standing c.args.medium.now c.args.cache.now (c.args.state.now)) true []) c.args.bytes.now _ _ _ c.loop-i.i c.take-taken.result c.loop-i-test.true c.take-taken.ensures c.loop-i.invariant.7 (not-true c.take-taken.result.ended c.if-not-taken.true));
     }
 
 pub shape_of-medium-then-reached-p : goal.shape_of-medium-then-reached-p
@@ -77,7 +77,7 @@ returns-then-reached-p c =
     record {
       n_bound = rw c.stands-then-reached-p.ensures (omega (arith, c.loop-i.invariant.5));
       next_nonzero = rw c.stands-then-reached-p.ensures (omega (arith, w.0), w.1);
-      out_after = rw c.stands-then-reached-p.ensures (play_over (stand c.args.begun (room_of c.args.standing c.args.medium.now c.args.cache.now ((state_of c.args.words.now c.args.tail.now))) true []) c.args.bytes.now _ _ _ c.loop-i.i c.take-taken.result c.loop-i-test.true c.take-taken.ensures c.loop-i.invariant.7 (not-false c.take-taken.result.ended c.if-not-taken.false) c.meaning-asked.result c.empty-line.result c.meaning-asked.ensures c.empty-line.ensures (not_played c.meaning-asked.result c.of-p.result _ _ _ _ c.of-p.ensures (rw c.reached.ensures at c.if-reached-p.true)));
+      out_after = rw c.stands-then-reached-p.ensures (play_over (stand c.args.begun (room_of c.args.standing c.args.medium.now c.args.cache.now (c.args.state.now)) true []) c.args.bytes.now _ _ _ c.loop-i.i c.take-taken.result c.loop-i-test.true c.take-taken.ensures c.loop-i.invariant.7 (not-false c.take-taken.result.ended c.if-not-taken.false) c.meaning-asked.result c.empty-line.result c.meaning-asked.ensures c.empty-line.ensures (not_played c.meaning-asked.result c.of-p.result _ _ _ _ c.of-p.ensures (rw c.reached.ensures at c.if-reached-p.true)));
     }
 
 pub step-stepped-requires : goal.step-stepped-requires

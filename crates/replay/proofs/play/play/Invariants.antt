@@ -11,7 +11,7 @@ use Rattle.memory.specs.Memory.{state_of}
 use Rattle.replay.proofs.play.play.Given as goal
 
 abbrev pub invariant-loop-i : goal.invariant-loop-i
-invariant-loop-i l = (l.i ≤ length l.bytes) × (length l.medium ≡ 50688) × (length l.cache ≡ 32768) × (length l.buffer ≡ 40000) × (length l.out ≡ 200000) × (l.n ≤ 194000) × (l.n ≤ 194000 * l.i) × (stand l.line (room_of l.t l.medium l.cache (state_of l.words l.tail)) true (take l.n l.out) ≡ play_of does (stand l.initial.line (room_of l.initial.t l.initial.medium l.initial.cache (state_of l.initial.words l.initial.tail)) true []) (take l.i l.bytes))
+invariant-loop-i l = (l.i ≤ length l.bytes) × (length l.medium ≡ 50688) × (length l.cache ≡ 32768) × (length l.buffer ≡ 40000) × (length l.out ≡ 200000) × (l.n ≤ 194000) × (l.n ≤ 194000 * l.i) × (stand l.line (room_of l.t l.medium l.cache l.state) true (take l.n l.out) ≡ play_of does (stand l.initial.line (room_of l.initial.t l.initial.medium l.initial.cache l.initial.state) true []) (take l.i l.bytes))
 
 abbrev pub decreases-loop-i : goal.decreases-loop-i
 decreases-loop-i l = length l.bytes - l.i

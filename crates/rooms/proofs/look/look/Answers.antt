@@ -60,7 +60,7 @@ returns-in-Read c =
       upper_bound = omega arith;
       prints =
           simp c.in-Read.is (look_call c.args.t c.args.medium.now c.args.cache.now
-          (state_of c.args.words.now c.args.tail.now) _ _ (take c.args.n c.args.out.now) _ _ _
+          c.args.state.now _ _ (take c.args.n c.args.out.now) _ _ _
           (plan_stage _ _ _ _ refl c.in-Read.is c.requires.call_bound) c.medium_part-m.ensures.value
           c.cache_part-c.ensures.value (c.current.ensures.by_index _ _));
     }
@@ -72,7 +72,7 @@ returns-in-AsOf c =
       upper_bound = omega arith;
       prints =
           simp c.in-AsOf.is (look_call c.args.t c.args.medium.now c.args.cache.now
-          (state_of c.args.words.now c.args.tail.now) _ _ (take c.args.n c.args.out.now) _ _ _
+          c.args.state.now _ _ (take c.args.n c.args.out.now) _ _ _
           (plan_stage _ _ _ _ refl c.in-AsOf.is c.requires.call_bound) c.medium_part-m.ensures.value
           c.cache_part-c.ensures.value (c.as_of.ensures.by_index _ _));
     }
@@ -85,7 +85,7 @@ returns-in-Changes c =
       upper_bound = c.list.ensures.upper_bound;
       prints =
           simp c.in-Changes.is (look_call c.args.t c.args.medium.now c.args.cache.now
-          (state_of c.args.words.now c.args.tail.now) _ _ (take c.args.n c.args.out.now) _ _ _ f.1
+          c.args.state.now _ _ (take c.args.n c.args.out.now) _ _ _ f.1
           c.medium_part-m.ensures.value c.cache_part-c.ensures.value
           (look_list c.args.buffer.now (take c.args.n c.args.out.now) _ _ _ _ _ _ _ _ _ _ c.requires.buffer_len f.0
           (c.list.ensures.by_index _ _)));

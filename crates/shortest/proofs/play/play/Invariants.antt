@@ -17,7 +17,7 @@ invariant-loop-i l =
     × (length l.lines ≡ 12)
     × (length l.medium ≡ 4608)
     × (length l.cache ≡ 1024)
-    × (end_at (world (state_of l.words l.tail) l.medium l.cache) l.last l.flags l.lines l.i
+    × (end_at (world l.state l.medium l.cache) l.last l.flags l.lines l.i
     ≡ end_of (picked l.flags (calls_in l.lines)))
 
 abbrev pub decreases-loop-i : goal.decreases-loop-i

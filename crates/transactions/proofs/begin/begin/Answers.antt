@@ -28,7 +28,7 @@ q1 c = sym c.is_fit.ensures ∙ c.if-not-is_fit.false
 pub returns-then-number-ge18446744073709551615 : goal.returns-then-number-ge18446744073709551615
 unfolding begin_of begin_if state_of state_by
 returns-then-number-ge18446744073709551615 c =
-    simp (q1 c, le-ltb (get_or c.args.words.now 3 0) (2 ^ 64 - 1) c.if-number-ge18446744073709551615.true)
+    simp (q1 c, le-ltb c.args.state.now.next.0 (2 ^ 64 - 1) c.if-number-ge18446744073709551615.true)
 
 below : (c : goal.After-take_place-arg-1) → c.in-Some.k < 64
 below c = free_below _ _ _ (sym c.find_free-f.ensures ∙ c.in-Some.is)
@@ -50,7 +50,7 @@ q1_at_returns_in_None c = sym c.is_fit.ensures ∙ c.if-not-is_fit.false
 pub returns-in-None : goal.returns-in-None
 unfolding begin_of begin_if state_of state_by
 returns-in-None c =
-    simp (q1_at_returns_in_None c, lt-ltb (get_or c.args.words.now 3 0) (2 ^ 64 - 1) c.if-number-ge18446744073709551615.false, ← c.find_free-f.ensures, c.in-None.is)
+    simp (q1_at_returns_in_None c, lt-ltb c.args.state.now.next.0 (2 ^ 64 - 1) c.if-number-ge18446744073709551615.false, ← c.find_free-f.ensures, c.in-None.is)
 
 q1_at_returns_in_Some : (c : goal.After-take_place) → let a = c.args in fits (state_of a.words.now a.tail.now) (length a.medium.now) (length a.cache.now) ≡ true
 q1_at_returns_in_Some c = sym c.is_fit.ensures ∙ c.if-not-is_fit.false
@@ -58,4 +58,4 @@ q1_at_returns_in_Some c = sym c.is_fit.ensures ∙ c.if-not-is_fit.false
 pub returns-in-Some : goal.returns-in-Some
 unfolding begin_of begin_if state_of state_by
 returns-in-Some c =
-    simp (q1_at_returns_in_Some c, lt-ltb (get_or c.args.words.now 3 0) (2 ^ 64 - 1) c.if-number-ge18446744073709551615.false, ← c.find_free-f.ensures, c.in-Some.is, c.take_place.ensures c.args.tail.now, ring-place)
+    simp (q1_at_returns_in_Some c, lt-ltb c.args.state.now.next.0 (2 ^ 64 - 1) c.if-number-ge18446744073709551615.false, ← c.find_free-f.ensures, c.in-Some.is, c.take_place.ensures c.args.tail.now, ring-place)

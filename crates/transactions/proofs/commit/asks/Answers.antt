@@ -55,7 +55,7 @@ q2_at_returns_then_words_ge18446744073709551615 c = sym c.find_active-f.ensures 
 pub returns-then-words-ge18446744073709551615 : goal.returns-then-words-ge18446744073709551615
 unfolding state_of state_by
 returns-then-words-ge18446744073709551615 c =
-    simp (q1_at_returns_then_words_ge18446744073709551615 c, q2_at_returns_then_words_ge18446744073709551615 c, ← c.waiting_at.ensures, ne_eqb _ _ c.if-waiting_at-eq0.false, le-ltb (get_or c.args.words.now 4 0) (2 ^ 64 - 1) c.if-words-ge18446744073709551615.true)
+    simp (q1_at_returns_then_words_ge18446744073709551615 c, q2_at_returns_then_words_ge18446744073709551615 c, ← c.waiting_at.ensures, ne_eqb _ _ c.if-waiting_at-eq0.false, le-ltb c.args.state.now.last.0 (2 ^ 64 - 1) c.if-words-ge18446744073709551615.true)
 
 q1_at_may_log_requires : (c : goal.Else-words-ge18446744073709551615) → let a = c.args in fits (state_of a.words.now a.tail.now) (length a.medium.now) (length a.cache.now) ≡ true
 q1_at_may_log_requires c = sym c.is_fit.ensures ∙ c.if-not-is_fit.false
@@ -76,7 +76,7 @@ q2_at_returns_then_not_may_log c = sym c.find_active-f.ensures ∙ c.in-Some.is
 pub returns-then-not-may_log : goal.returns-then-not-may_log
 unfolding state_of state_by
 returns-then-not-may_log c =
-    simp (q1_at_returns_then_not_may_log c, q2_at_returns_then_not_may_log c, ← c.waiting_at.ensures, ne_eqb _ _ c.if-waiting_at-eq0.false, lt-ltb (get_or c.args.words.now 4 0) (2 ^ 64 - 1) c.if-words-ge18446744073709551615.false, ← c.may_log.ensures, c.if-not-may_log.true)
+    simp (q1_at_returns_then_not_may_log c, q2_at_returns_then_not_may_log c, ← c.waiting_at.ensures, ne_eqb _ _ c.if-waiting_at-eq0.false, lt-ltb c.args.state.now.last.0 (2 ^ 64 - 1) c.if-words-ge18446744073709551615.false, ← c.may_log.ensures, c.if-not-may_log.true)
 
 q1_at_returns : (c : goal.Else-not-may_log) → let a = c.args in fits (state_of a.words.now a.tail.now) (length a.medium.now) (length a.cache.now) ≡ true
 q1_at_returns c = sym c.is_fit.ensures ∙ c.if-not-is_fit.false
@@ -87,4 +87,4 @@ q2_at_returns c = sym c.find_active-f.ensures ∙ c.in-Some.is
 pub returns : goal.returns
 unfolding state_of state_by
 returns c =
-    simp (q1_at_returns c, q2_at_returns c, ← c.waiting_at.ensures, ne_eqb _ _ c.if-waiting_at-eq0.false, lt-ltb (get_or c.args.words.now 4 0) (2 ^ 64 - 1) c.if-words-ge18446744073709551615.false, ← c.may_log.ensures, c.if-not-may_log.false)
+    simp (q1_at_returns c, q2_at_returns c, ← c.waiting_at.ensures, ne_eqb _ _ c.if-waiting_at-eq0.false, lt-ltb c.args.state.now.last.0 (2 ^ 64 - 1) c.if-words-ge18446744073709551615.false, ← c.may_log.ensures, c.if-not-may_log.false)

@@ -8,10 +8,10 @@ use Rattle.transactions.proofs.CommitLaws.{CommitAsked, commit_asked, commit_don
 use borrow.Author.Rules.{rules}
 use Rattle.transactions.proofs.commit.step.Goals as goal
 
-asked : (c : goal.After-take_commit-arg-3-1) → CommitAsked (state_of c.args.words.now c.args.tail.now) c.args.medium.now c.args.cache.now
+asked : (c : goal.After-take_commit-arg-3-1) → CommitAsked c.args.state.now c.args.medium.now c.args.cache.now
 unfolding state_of state_by
 asked c =
-    commit_asked (state_of c.args.words.now c.args.tail.now) _ _ _ _ c.requires.number_value c.requires.number_value_2 c.requires.fact
+    commit_asked c.args.state.now _ _ _ _ c.requires.number_value c.requires.number_value_2 c.requires.fact
 
 pub take_commit-requires : goal.take_commit-requires
 take_commit-requires c =
@@ -21,10 +21,10 @@ take_commit-requires c =
       medium_value = y.log;
     }
 
-asked_at_end_of_end_requires : (c : goal.After-end_of-arg-2-1) → CommitAsked (state_of c.args.words.now c.args.tail.now) c.args.medium.now c.args.cache.now
+asked_at_end_of_end_requires : (c : goal.After-end_of-arg-2-1) → CommitAsked c.args.state.now c.args.medium.now c.args.cache.now
 unfolding state_of state_by
 asked_at_end_of_end_requires c =
-    commit_asked (state_of c.args.words.now c.args.tail.now) _ _ _ _ c.requires.number_value c.requires.number_value_2 c.requires.fact
+    commit_asked c.args.state.now _ _ _ _ c.requires.number_value c.requires.number_value_2 c.requires.fact
 
 pub end_of-end-requires : goal.end_of-end-requires
 unfolding record_size state_of state_by
@@ -32,7 +32,7 @@ end_of-end-requires c =
     let y = asked_at_end_of_end_requires c in
     record {
       tail_len = search rules;
-      tail_bound = sequence_logged _ (state_of c.take_commit.new.words c.take_commit.new.tail) _ _ _ _ y.fit y.log c.take_commit.ensures.0;
+      tail_bound = sequence_logged _ c.take_commit.new.state _ _ _ _ y.fit y.log c.take_commit.ensures.0;
     }
 
 pub settle-requires : goal.settle-requires
@@ -45,4 +45,4 @@ settle-requires c =
 pub returns : goal.returns
 unfolding state_of state_by
 returns c =
-    commit_done _ (state_of c.take_commit.new.words c.take_commit.new.tail) _ _ _ _ _ _ _ c.take_commit.ensures.0 c.take_commit.ensures.1 (c.settle.ensures c.take_commit.new.tail c.end_of-end.ensures)
+    commit_done _ c.take_commit.new.state _ _ _ _ _ _ _ c.take_commit.ensures.0 c.take_commit.ensures.1 (c.settle.ensures c.take_commit.new.tail c.end_of-end.ensures)

@@ -39,6 +39,6 @@ returns-in-Checkpoint c = simp c.in-Checkpoint.is c.checkpoint.ensures
 pub returns-in_default : goal.returns-in_default
 returns-in_default c =
     let k = c.in_default in
-    no_call c.args.asked.call c.args.asked.value (state_of c.args.words.now c.args.tail.now) c.args.medium.now
+    no_call c.args.asked.call c.args.asked.value c.args.state.now c.args.medium.now
     c.args.cache.now k.not-Begin k.not-Write k.not-Erase k.not-Commit k.not-Abort k.not-StoreLog k.not-StorePage
     k.not-Checkpoint c.requires

@@ -13,6 +13,6 @@ slice_bounds-hand-end-4 c = first_length c.args.cache.now c.cache_part-c.result 
 
 pub returns : goal.returns
 returns c =
-    hand_left c.args.t c.args.medium.now c.args.cache.now (state_of c.args.words.now c.args.tail.now) c.args.asked _ _ _
+    hand_left c.args.t c.args.medium.now c.args.cache.now c.args.state.now c.args.asked _ _ _
     _ _ _ c.requires.bound c.medium_part-m.ensures.value c.cache_part-c.ensures.value (omega arith) (omega arith)
     c.hand.auto.medium c.hand.auto.cache c.hand.ensures

@@ -16,7 +16,7 @@ change-answer-requires c = c.requires.call_value
 
 pub returns : goal.returns
 returns c =
-    make_left c.args.t c.args.medium.now c.args.cache.now (state_of c.args.words.now c.args.tail.now)
+    make_left c.args.t c.args.medium.now c.args.cache.now c.args.state.now
     c.args.asked.call _ _ _ _ _ _ _ c.requires.bound c.requires.call_value c.medium_part-m.ensures.value
     c.cache_part-c.ensures.value (omega arith) (omega arith) c.change-answer.auto.medium c.change-answer.auto.cache
     c.change-answer.ensures

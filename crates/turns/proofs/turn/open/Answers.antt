@@ -16,7 +16,7 @@ slice_bounds-open_with-end-3 c = first_length c.args.buffer.now c.args.bytes (om
 pub returns-then-refusal-ne0 : goal.returns-then-refusal-ne0
 returns-then-refusal-ne0 c =
     λ letter. open_refused c.args.t c.args.medium.now c.args.cache.now c.args.buffer.now
-    (state_of c.args.words.now c.args.tail.now) letter c.args.byte c.medium_part-m.result c.args.bytes
+    c.args.state.now letter c.args.byte c.medium_part-m.result c.args.bytes
     c.requires.bound c.medium_part-m.ensures.value (omega arith) _ _ _ c.open_with-answer.ensures
     (λ z. c.if-refusal-ne0.true (c.refusal.ensures ∙ z))
 
@@ -37,7 +37,7 @@ pub returns : goal.returns
 returns c =
     λ letter. rw (c.take_state.ensures.0, c.take_state.ensures.1)
     (open_taken c.args.t c.args.medium.now c.args.cache.now c.args.buffer.now
-    (state_of c.args.words.now c.args.tail.now) letter c.args.byte c.medium_part-m.result c.args.bytes
+    c.args.state.now letter c.args.byte c.medium_part-m.result c.args.bytes
     c.requires.bound c.medium_part-m.ensures.value (omega arith) _ _ _ c.open_with-answer.ensures _ _
     (sym c.refusal.ensures ∙ c.if-refusal-ne0.false) c.right_length-n.ensures.value c.copy.ensures
     c.open_with-answer.auto.given)

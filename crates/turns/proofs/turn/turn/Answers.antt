@@ -59,13 +59,13 @@ pub returns-in-Format : goal.returns-in-Format
 unfolding turn_of turn_by plan_of
 returns-in-Format c =
     simp (c.requires.p_value, c.in-Format.is)
-    (c.format.ensures c.args.cache.now (state_of c.args.words.now c.args.tail.now))
+    (c.format.ensures c.args.cache.now c.args.state.now)
 
 pub returns-in-Open : goal.returns-in-Open
 unfolding turn_of turn_by plan_of
 returns-in-Open c =
     simp (c.requires.p_value, c.in-Open.is)
-    (open_right c.args.t c.args.medium.now c.args.cache.now (state_of c.args.words.now c.args.tail.now) _ _ _
+    (open_right c.args.t c.args.medium.now c.args.cache.now c.args.state.now _ _ _
     (plan_stage _ _ _ _ c.requires.p_value c.in-Open.is c.requires.stage_bound) c.right_length-n.ensures.value
     (c.open.ensures 79))
 
@@ -77,13 +77,13 @@ pub returns-in-Cut : goal.returns-in-Cut
 unfolding turn_of turn_by plan_of
 returns-in-Cut c =
     simp (c.requires.p_value, c.in-Cut.is)
-    (c.cut.ensures c.args.medium.now c.args.cache.now (state_of c.args.words.now c.args.tail.now))
+    (c.cut.ensures c.args.medium.now c.args.cache.now c.args.state.now)
 
 pub returns-in-Poke : goal.returns-in-Poke
 unfolding turn_of turn_by plan_of
 returns-in-Poke c =
     simp (c.requires.p_value, c.in-Poke.is)
-    (c.poke.ensures c.args.cache.now (state_of c.args.words.now c.args.tail.now))
+    (c.poke.ensures c.args.cache.now c.args.state.now)
 
 pub returns-in_default : goal.returns-in_default
 returns-in_default c =

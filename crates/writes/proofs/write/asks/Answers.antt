@@ -67,7 +67,7 @@ held_is : (c : goal.Then-is_held) → let a = c.args in
     c.is_held.result ≡ held a.cache.now (places_of a.words.now) (get_or a.words.now 2 0) a.key a.number
 unfolding held
 held_is c =
-    c.is_held.ensures ∙ ap (λ (f : Option ℕ). held_at f c.args.cache.now (places_of c.args.words.now) c.args.number) c.find-newest.ensures
+    c.is_held.ensures ∙ ap (λ (f : Option ℕ). held_at f c.args.cache.now c.args.state.now.places c.args.number) c.find-newest.ensures
 
 pub returns-then-is_held : goal.returns-then-is_held
 unfolding state_of state_by
@@ -96,7 +96,7 @@ held_is_at_returns_then_words : (c : goal.Then-words) → let a = c.args in
     c.is_held.result ≡ held a.cache.now (places_of a.words.now) (get_or a.words.now 2 0) a.key a.number
 unfolding held
 held_is_at_returns_then_words c =
-    c.is_held.ensures ∙ ap (λ (f : Option ℕ). held_at f c.args.cache.now (places_of c.args.words.now) c.args.number) c.find-newest.ensures
+    c.is_held.ensures ∙ ap (λ (f : Option ℕ). held_at f c.args.cache.now c.args.state.now.places c.args.number) c.find-newest.ensures
 
 pub returns-then-words : goal.returns-then-words
 unfolding state_of state_by
@@ -128,7 +128,7 @@ held_is_at_returns_then_not_may_log : (c : goal.Then-not-may_log) → let a = c.
     c.is_held.result ≡ held a.cache.now (places_of a.words.now) (get_or a.words.now 2 0) a.key a.number
 unfolding held
 held_is_at_returns_then_not_may_log c =
-    c.is_held.ensures ∙ ap (λ (f : Option ℕ). held_at f c.args.cache.now (places_of c.args.words.now) c.args.number) c.find-newest.ensures
+    c.is_held.ensures ∙ ap (λ (f : Option ℕ). held_at f c.args.cache.now c.args.state.now.places c.args.number) c.find-newest.ensures
 
 pub returns-then-not-may_log : goal.returns-then-not-may_log
 unfolding state_of state_by
@@ -150,7 +150,7 @@ held_is_at_returns : (c : goal.After-slot_or_none) → let a = c.args in
     c.is_held.result ≡ held a.cache.now (places_of a.words.now) (get_or a.words.now 2 0) a.key a.number
 unfolding held
 held_is_at_returns c =
-    c.is_held.ensures ∙ ap (λ (f : Option ℕ). held_at f c.args.cache.now (places_of c.args.words.now) c.args.number) c.find-newest.ensures
+    c.is_held.ensures ∙ ap (λ (f : Option ℕ). held_at f c.args.cache.now c.args.state.now.places c.args.number) c.find-newest.ensures
 
 pub returns : goal.returns
 unfolding state_of state_by

@@ -14,7 +14,7 @@ shape_of-words c = simp length-set (c.touch.auto.words ∙ c.raise.auto.words)
 pub returns : goal.returns
 unfolding state_of state_by page_of
 returns c =
-    let n = get_or c.args.words.now 2 0 + 1 in
+    let n = c.args.state.now.slots + 1 in
     let t = c.args.tail.now in
     set_slots c.touch.new.words t n (c.touch.auto.words ∙ c.raise.auto.words ∙ c.requires.words_len.0)
     ∙ counted (state_of c.args.words.now t) _ _ c.args.i _ _ n (c.raise.ensures t) (c.touch.ensures t) refl c.sequence.ensures refl

@@ -16,7 +16,7 @@ use Rattle.writes.proofs.WriteLaws.{WriteAsked, write_asked, slot_in_cache, slot
 use borrow.Author.Rules.{rules}
 use Rattle.writes.proofs.write.step.Goals as goal
 
-asked : (c : goal.After-value-1) → WriteAsked (state_of c.args.words.now c.args.tail.now) c.args.medium.now c.args.cache.now
+asked : (c : goal.After-value-1) → WriteAsked c.args.state.now c.args.medium.now c.args.cache.now
 asked c = write_asked _ _ _ _ _ c.requires.key_value
 
 -- the log may take the record
@@ -33,7 +33,7 @@ take_version-requires c =
       value_len = search rules;
     }
 
-asked_at_end_of_end_requires : (c : goal.After-end_of-arg-2-1) → WriteAsked (state_of c.args.words.now c.args.tail.now) c.args.medium.now c.args.cache.now
+asked_at_end_of_end_requires : (c : goal.After-end_of-arg-2-1) → WriteAsked c.args.state.now c.args.medium.now c.args.cache.now
 asked_at_end_of_end_requires c = write_asked _ _ _ _ _ c.requires.key_value
 
 -- the log may take the record
@@ -47,10 +47,10 @@ unfolding record_size state_of state_by
 end_of-end-requires c =
     record {
       tail_len = search rules;
-      tail_bound = sequence_logged _ (state_of c.take_version.new.words c.take_version.new.tail) _ _ _ _ (asked_at_end_of_end_requires c).fit (logs_at_end_of_end_requires c) c.take_version.ensures.0;
+      tail_bound = sequence_logged _ c.take_version.new.state _ _ _ _ (asked_at_end_of_end_requires c).fit (logs_at_end_of_end_requires c) c.take_version.ensures.0;
     }
 
-asked_at_put_version_requires : (c : goal.After-value-2-1) → WriteAsked (state_of c.args.words.now c.args.tail.now) c.args.medium.now c.args.cache.now
+asked_at_put_version_requires : (c : goal.After-value-2-1) → WriteAsked c.args.state.now c.args.medium.now c.args.cache.now
 asked_at_put_version_requires c = write_asked _ _ _ _ _ c.requires.key_value
 
 -- the slot lies in the cache
@@ -70,7 +70,7 @@ put_version-requires c =
       value_len = search rules;
     }
 
-asked_at_count_version_requires : (c : goal.After-count_version-arg-3-1) → WriteAsked (state_of c.args.words.now c.args.tail.now) c.args.medium.now c.args.cache.now
+asked_at_count_version_requires : (c : goal.After-count_version-arg-3-1) → WriteAsked c.args.state.now c.args.medium.now c.args.cache.now
 asked_at_count_version_requires c = write_asked _ _ _ _ _ c.requires.key_value
 
 -- the slot lies in the cache
@@ -85,7 +85,7 @@ pub count_version-requires : goal.count_version-requires
 unfolding state_of state_by
 count_version-requires c =
     let h = in-cache_at_count_version_requires c in
-    let e = slots_taken _ (state_of c.take_version.new.words c.take_version.new.tail) _ _ _ c.take_version.ensures.0 in
+    let e = slots_taken _ c.take_version.new.state _ _ _ c.take_version.ensures.0 in
     record {
       words_len = (search rules, search rules);
       i_bound = (active_below _ _ _ c.requires.number_value, omega (arith, e, c.requires.slot_value, h.0));
@@ -94,5 +94,5 @@ count_version-requires c =
 pub returns : goal.returns
 unfolding state_of state_by
 returns c =
-    write_done (state_of c.args.words.now c.args.tail.now) (state_of c.take_version.new.words c.take_version.new.tail) _ _ _ _ _ c.args.i c.args.head _ _ c.requires.slot_value c.take_version.ensures.0 c.take_version.ensures.1
+    write_done c.args.state.now c.take_version.new.state _ _ _ _ _ c.args.i c.args.head _ _ c.requires.slot_value c.take_version.ensures.0 c.take_version.ensures.1
     c.end_of-end.ensures c.put_version.ensures c.count_version.ensures
