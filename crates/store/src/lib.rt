@@ -1,6 +1,8 @@
 // The types of the store: its state, its answers and its refusals. The definitions in specs/ say what each call does.
 #![tactic(auto)]
 
+ghost use Rattle.std.specs.Prelude.{◌≡◌};
+
 use layout::{CommitTime, EndPlace, TxNumber};
 
 // Record numbers are below this.
@@ -15,11 +17,74 @@ pub enum Life {
     Committed(TxNumber, CommitTime, EndPlace),
 }
 
+impl Life {
+    ghost use Rattle.store.specs.Places.{is_free, active_as, committed_as, clock_of};
+
+    pub fn is_free(self) -> bool
+        ensures { result ≡ is_free self }
+    {
+        matches!(self, Life::Free)
+    }
+
+    pub fn is_active_as(self, number: u64) -> bool
+        ensures { result ≡ active_as self number }
+    {
+        matches!(self, Life::Active(n, _) if n.0 == number)
+    }
+
+    pub fn is_committed_as(self, number: u64) -> bool
+        ensures { result ≡ committed_as self number }
+    {
+        matches!(self, Life::Committed(n, _, _) if n.0 == number)
+    }
+
+    // The clock at begin; 0 if it is not active.
+    pub fn clock(self) -> u64
+        ensures { result ≡ clock_of self }
+    {
+        match self {
+            Life::Active(_, clock) => clock,
+            Life::Free | Life::Committed(_, _, _) => 0,
+        }
+    }
+}
+
 // A place, and how many versions of its transaction are not stamped on the medium.
 #[derive(Clone, Copy)]
 pub struct Place {
     pub life: Life,
     pub waiting: u64,
+}
+
+impl Place {
+    ghost use Rattle.store.specs.Places.{free_place, raised, lowered};
+
+    pub fn free() -> Place
+        ensures { result ≡ free_place }
+    {
+        Place {
+            life: Life::Free,
+            waiting: 0,
+        }
+    }
+
+    // One waiting version more; a count that a foreign state could overflow stays at the highest.
+    pub fn raise(&mut self)
+        ensures { self.new ≡ raised self.old }
+    {
+        self.waiting = self.waiting.saturating_add(1);
+    }
+
+    // One waiting version less; at none the place is free.
+    pub fn lower(&mut self)
+        ensures { self.new ≡ lowered self.old }
+    {
+        if self.waiting <= 1 {
+            *self = Place::free();
+        } else {
+            self.waiting -= 1;
+        }
+    }
 }
 
 // The checkpoint under way: none; or its table block 1 is stored; or block 2 too. With it the new oldest sequence and
@@ -53,6 +118,30 @@ pub struct State {
     // For each page the sequence of the block that first changed it since it was stored; 0: none.
     pub first: [u64; 64],
     pub phase: Phase,
+}
+
+impl State {
+    ghost use Rattle.store.specs.State.{no_state};
+
+    // No state: what a caller has before an opening, and what a refused one leaves.
+    pub fn none() -> State
+        ensures { result ≡ no_state }
+    {
+        State {
+            blocks: 0,
+            pages: 0,
+            slots: 0,
+            next: TxNumber(0),
+            last: CommitTime(0),
+            saved: CommitTime(0),
+            end: EndPlace(0),
+            tail: [0; 512],
+            places: [Place::free(); 64],
+            ring: 0,
+            first: [0; 64],
+            phase: Phase::Idle,
+        }
+    }
 }
 
 // Why a call is refused; `refusal_number` of specs/ gives the number of each.
