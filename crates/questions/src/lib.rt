@@ -22,6 +22,7 @@ pub fn fit(state: &State, medium: &[u8], cache: &[u8]) -> Result<(), Refusal>
 }
 
 // Is it the number of a record?
+#[tactic(auto, unfolding(layout::specs::Slot::key_form))]
 pub fn record(key: u16) -> Result<(), Refusal>
     ensures yes { OnOk result (key_form key ≡ true) }
     ensures no { IfErr result (λ why. (why ≡ NoRecord) × (key_form key ≡ false)) }

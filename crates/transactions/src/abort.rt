@@ -5,12 +5,8 @@ ghost use Rattle.store.specs.Abort.{abort_of};
 
 use store::{Answer, Place, Refusal, State};
 
-pub fn abort(
-    state: &mut State,
-    medium: &[u8],
-    cache: &[u8],
-    number: u64,
-) -> Result<Answer, Refusal>
+#[tactic(auto, using(live::proofs::FirstLaws::active_below), unfolding(store::specs::Abort::abort_of, store::specs::Abort::abort_if, store::specs::State::with_place))]
+pub fn abort(state: &mut State, medium: &[u8], cache: &[u8], number: u64) -> Result<Answer, Refusal>
     ensures { leaves result state.new medium.now cache.now ≡ abort_of state.old medium.now cache.now number }
 {
     questions::fit(state, medium, cache)?;

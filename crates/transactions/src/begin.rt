@@ -6,12 +6,8 @@ ghost use Rattle.store.specs.Begin.{begin_of};
 use layout::TxNumber;
 use store::{Answer, Life, Place, Refusal, State};
 
-pub fn begin(
-    state: &mut State,
-    medium: &[u8],
-    cache: &[u8],
-    clock: u64,
-) -> Result<Answer, Refusal>
+#[tactic(auto, using(live::proofs::FirstLaws::free_below), unfolding(store::specs::Begin::begin_of, store::specs::Begin::begin_if, store::specs::Begin::begun, store::specs::Places::ring_place))]
+pub fn begin(state: &mut State, medium: &[u8], cache: &[u8], clock: u64) -> Result<Answer, Refusal>
     ensures { leaves result state.new medium.now cache.now ≡ begin_of state.old medium.now cache.now clock }
 {
     questions::fit(state, medium, cache)?;

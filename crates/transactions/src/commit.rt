@@ -1,17 +1,18 @@
 // Commit.
-ghost use Rattle.std.specs.Prelude.{◌≡◌, ◌<◌, ◌-◌, ◌^◌, Ok, Some, None};
+ghost use Rattle.std.specs.Prelude.{◌≡◌, ◌<◌, ◌-◌, ◌^◌, Ok, Some, None, IfOk, IfErr};
 ghost use Rattle.store.specs.Answer.{leaves, ask};
 ghost use Rattle.store.specs.Places.{find_active, place_at};
 ghost use Rattle.store.specs.Commit.{commit_asks, commit_time, commit_step, commit_of};
-ghost use Rattle.questions.specs.Asked.{verdict};
 
 use layout::item::Pair;
 use layout::{CommitTime, TxNumber};
 use store::{Answer, Life, Place, Refusal, State};
 
 // The questions put to a commit: one without versions is asked only the first two.
+#[tactic(auto, using(live::proofs::FirstLaws::active_below, tail::proofs::TailLaws::ready))]
 fn asks(state: &State, medium: &[u8], cache: &[u8], number: u64) -> Result<usize, Refusal>
-    ensures { result ≡ verdict (ask (commit_asks state.now medium.now cache.now number)) (find_active state.now.places number) }
+    ensures yes { IfOk result (λ place. (ask (commit_asks state.now medium.now cache.now number) ≡ None) × (find_active state.now.places number ≡ Some place)) }
+    ensures no { IfErr result (λ why. ask (commit_asks state.now medium.now cache.now number) ≡ Some why) }
 {
     questions::fit(state, medium, cache)?;
     let place = questions::active(&state.places, number)?;
@@ -28,6 +29,7 @@ fn asks(state: &State, medium: &[u8], cache: &[u8], number: u64) -> Result<usize
 }
 
 // The largest of the two clocks and the last commit time plus 1.
+#[tactic(auto, unfolding(store::specs::Commit::commit_time, store::specs::Places::place_at))]
 fn time_for(state: &State, place: usize, clock: u64) -> CommitTime
     requires place_bound { place < 64 }
     requires last_bound { state.now.last.0 < 2 ^ 64 - 1 }

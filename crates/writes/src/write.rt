@@ -1,11 +1,10 @@
 // Write, and what it shares with erase.
-ghost use Rattle.std.specs.Prelude.{◌≡◌, ◌<◌, None, Some, Ok};
+ghost use Rattle.std.specs.Prelude.{◌≡◌, ◌<◌, None, Some, Ok, IfOk, IfErr};
 ghost use Rattle.layout.specs.declared.item.Width.TheVariants.{Two};
 ghost use Rattle.store.specs.Answer.{leaves, ask};
 ghost use Rattle.store.specs.Places.{find_active};
 ghost use Rattle.store.specs.Chain.{newest};
-ghost use Rattle.store.specs.Write.{write_asks, written, write_step, add_of, write_of};
-ghost use Rattle.writes.specs.Asked.{write_verdict};
+ghost use Rattle.store.specs.Write.{write_asks, or_none, written, write_step, add_of, write_of};
 
 use layout::TxNumber;
 use layout::item::{VersionHead, Width};
@@ -19,7 +18,8 @@ fn asks(
     number: u64,
     key: u16,
 ) -> Result<(usize, u64), Refusal>
-    ensures { result ≡ write_verdict (ask (write_asks state.now medium.now cache.now number key)) (find_active state.now.places number) (newest cache.now key state.now.slots) }
+    ensures yes { IfOk result (λ found. (ask (write_asks state.now medium.now cache.now number key) ≡ None) × (find_active state.now.places number ≡ Some found.0) × (found.1 ≡ or_none (newest cache.now key state.now.slots))) }
+    ensures no { IfErr result (λ why. ask (write_asks state.now medium.now cache.now number key) ≡ Some why) }
 {
     questions::fit(state, medium, cache)?;
     questions::record(key)?;
