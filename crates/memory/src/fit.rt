@@ -1,5 +1,5 @@
 // Do the state and its buffers fit?
-ghost use Rattle.std.specs.Prelude.{◌≡◌, length};
+ghost use Rattle.std.specs.Prelude.{◌≡◌};
 ghost use Rattle.store.specs.State.{in_range, fits};
 ghost use Rattle.memory.specs.Tail.{tail_in_range};
 
@@ -9,7 +9,16 @@ use store::State;
 pub fn in_range(blocks: u64, pages: u64) -> bool
     ensures { result ≡ in_range blocks pages }
 {
-    2 <= blocks && blocks <= 32 && 1 <= pages && pages <= 64
+    if blocks < 2 {
+        return false;
+    }
+    if 32 < blocks {
+        return false;
+    }
+    if pages < 1 {
+        return false;
+    }
+    pages <= 64
 }
 
 // Are the tail's used bytes and its sequence in range?
@@ -17,17 +26,34 @@ fn tail_fits(tail: &[u8; 512]) -> bool
     ensures { result ≡ tail_in_range tail.now }
 {
     let used = layout::journal::used(tail);
+    if used < 10 {
+        return false;
+    }
+    if 512 < used {
+        return false;
+    }
     let sequence = layout::journal::sequence(tail);
-    10 <= used && used <= 512 && 1 <= sequence && sequence < 1 << 48
+    if sequence < 1 {
+        return false;
+    }
+    sequence < 1 << 48
 }
 
 // Do the state and the buffers fit?
 pub fn is_fit(state: &State, medium: usize, cache: usize) -> bool
     ensures { result ≡ fits state.now medium cache }
 {
-    in_range(state.blocks, state.pages)
-        && medium == layout::place::medium_length(state.blocks, state.pages)
-        && cache == layout::place::cache_length(state.pages)
-        && state.slots <= 15 * state.pages
-        && tail_fits(&state.tail)
+    if !in_range(state.blocks, state.pages) {
+        return false;
+    }
+    if medium != layout::place::medium_length(state.blocks, state.pages) {
+        return false;
+    }
+    if cache != layout::place::cache_length(state.pages) {
+        return false;
+    }
+    if 15 * state.pages < state.slots {
+        return false;
+    }
+    tail_fits(&state.tail)
 }
