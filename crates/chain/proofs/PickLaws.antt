@@ -14,7 +14,7 @@ use Rattle.fields.proofs.WriteLaws.{splice_none}
 use Rattle.fields.proofs.CellLaws.{each_append, Cells, length_flat, flat_snoc}
 use Rattle.store.specs.Chain.{cell_at}
 use Rattle.store.specs.Changes.{Line, line_bytes, differs, differs_from, line_of}
-use Rattle.memory.specs.Memory.{listed}
+use Rattle.chain.specs.Ranked.{listed}
 use Rattle.cached.specs.Room.{Room}
 use Rattle.cached.proofs.RoomLaws.{slot_room}
 use Rattle.chain.specs.Ranked.{Dated, dated_at, pairs, with_pair, Slots, latest, if_differs, changed, lines_of}

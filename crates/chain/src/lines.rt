@@ -9,7 +9,7 @@ ghost use Rattle.cached.specs.Room.{Room, Head};
 ghost use Rattle.chain.specs.Ranked.{dated_at, pairs, Slots, latest, if_differs, changed, lines_of};
 
 use layout::CommitTime;
-use store::State;
+use store::Place;
 
 // Do two slots differ in kind or value?
 fn differ(cache: &[u8], a: u64, b: u64) -> bool
@@ -126,17 +126,17 @@ fn write(cache: &[u8], ranked: &[u64], n: usize, out: &mut [u8])
 pub fn list(
     head: Option<u64>,
     cache: &[u8],
-    state: &State,
+    places: &[Place; 64],
     t1: u64,
     t2: u64,
     buffer: &mut [u8],
 ) -> Option<u64>
     requires { Head head (length cache.now) }
-    ensures result_value { let ls = lines_below cache.now (time_under state.now.places) head t1 (suc (suc t2)) (suc t2) in result ≡ cond (leb (32 * length ls) (length buffer.old)) (Some (length ls)) None }
-    ensures buffer_after { let ls = lines_below cache.now (time_under state.now.places) head t1 (suc (suc t2)) (suc t2) in buffer.new ≡ cond (leb (32 * length ls) (length buffer.old)) (splice buffer.old 0 (flat line_bytes ls)) buffer.old }
+    ensures result_value { let ls = lines_below cache.now (time_under places.now) head t1 (suc (suc t2)) (suc t2) in result ≡ cond (leb (32 * length ls) (length buffer.old)) (Some (length ls)) None }
+    ensures buffer_after { let ls = lines_below cache.now (time_under places.now) head t1 (suc (suc t2)) (suc t2) in buffer.new ≡ cond (leb (32 * length ls) (length buffer.old)) (splice buffer.old 0 (flat line_bytes ls)) buffer.old }
 {
     let mut ranked = [0u64; 1920];
-    let n = crate::ranked::gather(head, cache, words, t2, &mut ranked);
+    let n = crate::ranked::gather(head, cache, places, t2, &mut ranked);
     let k = pick(cache, &mut ranked, n, t1);
     if buffer.len() < 32 * k {
         return None;

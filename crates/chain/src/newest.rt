@@ -4,21 +4,17 @@ ghost use Rattle.store.specs.Chain.{version_of, newest, held_as, held_at};
 ghost use Rattle.cached.specs.Room.{Room, Head};
 
 use layout::slot::Slot;
-use store::State;
+use store::Place;
 
-// Does a slot hold a version of the record?
+// Does a slot hold a version of the record? The low byte alone tells most other records apart.
+#[tactic(auto, unfolding(store::specs::Chain::version_of))]
 pub fn holds(cache: &[u8], key: u16, n: u64) -> bool
     requires { Room (length cache.now) (suc n) }
     ensures { result ≡ version_of cache.now key n }
 {
-    // The low byte alone tells most other records apart.
-    if cached::low_at(cache, n) != (key % 256) as u8 {
-        return false;
-    }
-    if cached::key_at(cache, n) != key {
-        return false;
-    }
-    cached::is_version(cached::state_at(cache, n))
+    cached::low_at(cache, n) == (key % 256) as u8
+        && cached::key_at(cache, n) == key
+        && cached::is_version(cached::state_at(cache, n))
 }
 
 // The highest slot below n that holds a version of the record.
@@ -26,43 +22,31 @@ pub fn find(cache: &[u8], key: u16, n: u64) -> Option<u64>
     requires { Room (length cache.now) n }
     ensures { result ≡ newest cache.now key n }
 {
-    let mut i = n;
-    while 0 < i {
-        if holds(cache, key, i - 1) {
-            return Some(i - 1);
+    for i in (0..n).rev() {
+        if holds(cache, key, i) {
+            return Some(i);
         }
-        i = i - 1;
     }
     None
 }
 
 // Does a slot wait under another active number?
-fn holds_against(slot: Slot, state: &State, n: u64) -> bool
-    ensures { result ≡ held_as slot state.now.places n }
+fn holds_against(slot: Slot, places: &[Place; 64], number: u64) -> bool
+    ensures { result ≡ held_as slot places.now number }
 {
     match slot {
-        Slot::Empty => false,
-        Slot::Waiting(m) => {
-            if m.0 == n {
-                return false;
-            }
-            let f = live::places::find_active(words, m.0);
-            match f {
-                Some(_) => true,
-                None => false,
-            }
-        }
-        Slot::Stamped(_) => false,
+        Slot::Waiting(own) => own.0 != number && live::places::find_active(places, own.0).is_some(),
+        Slot::Empty | Slot::Stamped(_) => false,
     }
 }
 
-// Does a record's newest version hold it against transaction n?
-pub fn is_held(newest: Option<u64>, cache: &[u8], state: &State, n: u64) -> bool
+// Does a record's newest version hold it against a transaction?
+pub fn is_held(newest: Option<u64>, cache: &[u8], places: &[Place; 64], number: u64) -> bool
     requires { Head newest (length cache.now) }
-    ensures { result ≡ held_at newest cache.now state.now.places n }
+    ensures { result ≡ held_at newest cache.now places.now number }
 {
     match newest {
-        Some(s) => holds_against(cached::state_at(cache, s), words, n),
+        Some(n) => holds_against(cached::state_at(cache, n), places, number),
         None => false,
     }
 }

@@ -1,51 +1,35 @@
 // The newest version that a transaction sees: a committed one, or its own.
-ghost use Rattle.std.specs.Prelude.{◌≡◌, suc, length};
+ghost use Rattle.std.specs.Prelude.{◌≡◌, length};
 ghost use Rattle.store.specs.Places.{time_under};
-ghost use Rattle.store.specs.Chain.{is_timed, visible, visible_from, visible_of};
-ghost use Rattle.cached.specs.Room.{Room, Head};
+ghost use Rattle.store.specs.Chain.{visible, visible_of};
+ghost use Rattle.cached.specs.Room.{Head};
 
 use layout::slot::Slot;
-use store::State;
+use store::Place;
 
-// Is a number committed? Then its pair has a time.
-fn is_committed(state: &State, n: u64) -> bool
-    ensures { result ≡ is_timed (time_under state.now.places n) }
-{
-    let f = live::places::find_committed(words, n);
-    match f {
-        Some(_) => true,
-        None => false,
-    }
-}
-
-// Does transaction n see what the slot says?
-fn sees(slot: Slot, state: &State, n: u64) -> bool
-    ensures { result ≡ visible slot (time_under state.now.places) n }
+// Does a transaction see what the slot says? A number with a time is committed.
+fn sees(slot: Slot, places: &[Place; 64], number: u64) -> bool
+    ensures { result ≡ visible slot (time_under places.now) number }
 {
     match slot {
         Slot::Empty => false,
-        Slot::Waiting(m) => {
-            if m.0 == n {
-                return true;
-            }
-            is_committed(words, m.0)
-        }
+        Slot::Waiting(own) => own.0 == number || live::times::time_under(places, own.0).is_some(),
         Slot::Stamped(_) => true,
     }
 }
 
-// The first version that n sees, following earlier slots from s.
-fn find_from(cache: &[u8], state: &State, n: u64, s: u64) -> Option<u64>
-    requires { Room (length cache.now) (suc s) }
-    ensures { result ≡ visible_from cache.now (time_under state.now.places) n (suc s) s }
+// The first version that a transaction sees, following earlier slots from the head.
+pub fn find(head: Option<u64>, cache: &[u8], places: &[Place; 64], number: u64) -> Option<u64>
+    requires { Head head (length cache.now) }
+    ensures { result ≡ visible_of head cache.now (time_under places.now) number }
 {
-    let mut at = s;
+    let mut at = head?;
     loop {
-        let state = cached::state_at(cache, at);
-        if !cached::is_version(state) {
+        let slot = cached::state_at(cache, at);
+        if !cached::is_version(slot) {
             return None;
         }
-        if sees(state, words, n) {
+        if sees(slot, places, number) {
             return Some(at);
         }
         let earlier = cached::earlier_at(cache, at);
@@ -53,15 +37,5 @@ fn find_from(cache: &[u8], state: &State, n: u64, s: u64) -> Option<u64>
             return None;
         }
         at = earlier;
-    }
-}
-
-pub fn find(head: Option<u64>, cache: &[u8], state: &State, n: u64) -> Option<u64>
-    requires { Head head (length cache.now) }
-    ensures { result ≡ visible_of head cache.now (time_under state.now.places) n }
-{
-    match head {
-        Some(s) => find_from(cache, words, n, s),
-        None => None,
     }
 }

@@ -1,3 +1,1 @@
 pub mod FirstLaws
-pub mod PlaceLaws
-pub mod SetLaws

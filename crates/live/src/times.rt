@@ -1,28 +1,18 @@
 // The commit times that the places know.
-ghost use Rattle.std.specs.Prelude.{◌≡◌, max, length};
+ghost use Rattle.std.specs.Prelude.{◌≡◌};
 ghost use Rattle.store.specs.Places.{time_under};
 
 use layout::CommitTime;
-use memory::{TIMES};
-use store::State;
+use store::{Life, Place};
 
 // The commit time of a number by its place.
-pub fn time_under(state: &State, n: u64) -> Option<CommitTime>
-    ensures { result ≡ time_under state.now.places n }
+#[tactic(auto, using(crate::proofs::FirstLaws::committed_below))]
+pub fn time_under(places: &[Place; 64], number: u64) -> Option<CommitTime>
+    ensures { result ≡ time_under places.now number }
 {
-    let f = crate::places::find_committed(words, n);
-    match f {
-        Some(i) => Some(CommitTime(words[TIMES + (i as usize)])),
-        None => None,
+    let i = crate::places::find_committed(places, number)?;
+    match places[i].life {
+        Life::Committed(_, time, _) => Some(time),
+        Life::Free | Life::Active(_, _) => None,
     }
-}
-
-// The larger of two numbers.
-pub fn larger(a: u64, b: u64) -> u64
-    ensures { result ≡ max a b }
-{
-    if a < b {
-        return b;
-    }
-    a
 }

@@ -12,10 +12,7 @@ use store::{Answer, Refusal};
 pub(crate) fn sizes_fit(medium: usize, blocks: u64, pages: u64) -> bool
     ensures { result ≡ (in_range blocks pages && eqb medium (medium_length blocks pages)) }
 {
-    if !memory::fit::in_range(blocks, pages) {
-        return false;
-    }
-    medium == layout::place::medium_length(blocks, pages)
+    memory::fit::in_range(blocks, pages) && medium == layout::place::medium_length(blocks, pages)
 }
 
 // A fresh master, and zeros in all other blocks.
@@ -23,9 +20,9 @@ fn lay(medium: &mut [u8], blocks: u64, pages: u64)
     requires { length medium.old ≡ medium_length blocks pages }
     ensures { medium.new ≡ fresh_medium blocks pages }
 {
-    fields::block::clear(medium);
+    medium.fill(0);
     layout::master::write(
-        &mut medium[0..512],
+        &mut medium[..512],
         Fields {
             blocks: blocks,
             pages: pages,
@@ -36,12 +33,12 @@ fn lay(medium: &mut [u8], blocks: u64, pages: u64)
     );
 }
 
-pub fn format(medium: &mut [u8], blocks: u64, pages: u64) -> Answer
+pub fn format(medium: &mut [u8], blocks: u64, pages: u64) -> Result<Answer, Refusal>
     ensures { record { answer = result; medium = medium.new } ≡ format_of medium.old blocks pages }
 {
     if !sizes_fit(medium.len(), blocks, pages) {
-        return Answer::Refused(Refusal::BadSizes);
+        return Err(Refusal::BadSizes);
     }
     lay(medium, blocks, pages);
-    Answer::Done
+    Ok(Answer::Done)
 }

@@ -2,33 +2,30 @@
 ghost use Rattle.std.specs.Prelude.{◌≡◌};
 ghost use Rattle.store.specs.CurrentRead.{reads};
 ghost use Rattle.store.specs.AsOf.{as_of_of};
+ghost use Rattle.store.specs.Reading.{answer_in, value_in};
 
-use layout::CommitTime;
-use store::{RECORDS, Reading, Refusal, State};
+use crate::current_read::read_slot;
+use store::{Reading, Refusal, State};
 
+#[tactic(auto, unfolding(store::specs::AsOf::as_of_of, store::specs::AsOf::as_of_if, store::specs::Chain::held))]
 pub fn as_of(
     state: &State,
     medium: &[u8],
     cache: &[u8],
     key: u16,
     time: u64,
-) -> Reading
-    ensures { reads result.answer result.value state.now medium.now cache.now ≡ as_of_of state.now medium.now cache.now key time }
+) -> Result<Reading, Refusal>
+    ensures { reads (answer_in result) (value_in result) state.now medium.now cache.now ≡ as_of_of state.now medium.now cache.now key time }
 {
-    if !memory::fit::is_fit(state, medium.len(), cache.len()) {
-        return questions::refuse::reading(Refusal::Unfit);
-    }
-    if RECORDS <= key {
-        return questions::refuse::reading(Refusal::NoRecord);
-    }
+    questions::fit(state, medium, cache)?;
+    questions::record(key)?;
     // A cut could take what is not stored, and with it the answer.
     if state.saved.0 < time {
-        return questions::refuse::reading(Refusal::NotYet);
+        return Err(Refusal::NotYet);
     }
-    let head = chain::newest::find(cache, key, state.slots);
-    let best = chain::best::find(head, cache, words, time);
-    match best {
-        Some((n, _)) => crate::current_read::read_slot(cache, n),
-        None => crate::current_read::missing(),
+    let newest = chain::newest::find(cache, key, state.slots);
+    match chain::best::find(newest, cache, &state.places, time) {
+        Some((n, _)) => Ok(read_slot(cache, n)),
+        None => Ok(Reading::Missing),
     }
 }

@@ -1,4 +1,5 @@
 pub mod Answer
+pub mod Reading
 pub mod Places
 pub mod State
 pub mod Tail

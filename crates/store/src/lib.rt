@@ -180,11 +180,36 @@ pub enum Answer {
     Listed(u64),
 }
 
-// What a read answers, with the value beside it: zeros where there is none.
+// What a read finds: no version, an erased one, or a strip.
 #[derive(Clone, Copy)]
-pub struct Reading {
-    pub answer: Result<Answer, Refusal>,
-    pub value: [u8; 16],
+pub enum Reading {
+    Missing,
+    Erased,
+    Present([u8; 16]),
+}
+
+impl Reading {
+    ghost use Rattle.store.specs.Reading.{answer_of, value_of};
+
+    pub fn answer(self) -> Answer
+        ensures { result ≡ answer_of self }
+    {
+        match self {
+            Reading::Missing => Answer::Missing,
+            Reading::Erased => Answer::Erased,
+            Reading::Present(_) => Answer::Present,
+        }
+    }
+
+    // The strip; zeros where there is none.
+    pub fn value(self) -> [u8; 16]
+        ensures { result ≡ value_of self }
+    {
+        match self {
+            Reading::Missing | Reading::Erased => [0; 16],
+            Reading::Present(value) => value,
+        }
+    }
 }
 
 // The next call out of a full log, if one is left.

@@ -10,25 +10,14 @@ use borrow.Author.Tests.{ltb-true, eq-eqb, ne_eqb}
 use Rattle.layout.specs.Journal.{commit}
 use Rattle.layout.specs.declared.CommitTime.{CommitTime}
 use Rattle.store.specs.declared.Answer.TheVariants.{Done, Committed}
-use Rattle.store.specs.declared.Refusal.{Refusal}
 use Rattle.store.specs.declared.State.{State}
-use Rattle.store.specs.Answer.{Outcome, leaves, refuses, ask}
+use Rattle.store.specs.Answer.{Outcome, leaves, ask}
 use Rattle.store.specs.Places.{find_active, place_at, free_place}
 use Rattle.store.specs.State.{fits, with_place}
 use Rattle.store.specs.Tail.{may_log, logged}
 use Rattle.store.specs.Commit.{commit_asks, commit_time, committed, commit_step, commit_if, commit_of}
 use Rattle.tail.specs.Taken.{taken}
-use Rattle.questions.specs.Asked.{verdict}
-use Rattle.questions.specs.declared.refuse.Verdict.{Verdict}
-use Rattle.questions.specs.declared.refuse.Verdict.TheVariants.{No}
 use Rattle.store.proofs.AskLaws.{passed}
-use Rattle.questions.proofs.AskLaws.{verdict_no}
-
-pub commit_refused : (v : Verdict) (r : Refusal) (s : State) (m c : List ℕ) (n clock : ℕ)
-    → v ≡ verdict (ask (commit_asks s m c n)) (find_active s.places n) → v ≡ No r → refuses r s m c ≡ commit_of s m c n clock
-unfolding commit_of commit_if
-commit_refused v r s m c n clock e g =
-    verdict_no v (ask (commit_asks s m c n)) (find_active s.places n) r e g (λ k. rw k) (λ k f q. rw (k, f, q))
 
 -- ---- all questions passed
 

@@ -1,44 +1,27 @@
 // Begin.
-ghost use Rattle.std.specs.Prelude.{◌≡◌, List, ℕ, ◌+◌, ◌-◌, ◌<◌, ◌^◌, length, get_or};
+ghost use Rattle.std.specs.Prelude.{◌≡◌};
 ghost use Rattle.store.specs.Answer.{leaves};
-ghost use Rattle.store.specs.Begin.{begun, begin_of};
+ghost use Rattle.store.specs.Begin.{begin_of};
 
 use layout::TxNumber;
-use store::{Answer, Refusal, State};
+use store::{Answer, Life, Place, Refusal, State};
 
-// Puts a new transaction into place i.
-fn take_place(state: &mut State, i: u64, clock: u64)
-    requires i_bound { (i < 64) × (state.old.next.0 < 2 ^ 64 - 1) }
-    ensures { state.new ≡ begun state.old i clock }
-{
-    let number = state.next.0;
-    live::places::put_active(words, i as usize, TxNumber(number), clock);
-    state.next.0 = number + 1;
-    state.ring = (i + 1) % 64;
-}
-
-pub fn begin(
-    state: &mut State,
-    medium: &[u8],
-    cache: &[u8],
-    clock: u64,
-) -> Answer
+#[tactic(auto, using(live::proofs::FirstLaws::free_below), unfolding(store::specs::Begin::begin_of, store::specs::Begin::begin_if, store::specs::Begin::begun, store::specs::Places::ring_place))]
+pub fn begin(state: &mut State, medium: &[u8], cache: &[u8], clock: u64) -> Result<Answer, Refusal>
     ensures { leaves result state.new medium.now cache.now ≡ begin_of state.old medium.now cache.now clock }
 {
-    if !memory::fit::is_fit(state, medium.len(), cache.len()) {
-        return Answer::Refused(Refusal::Unfit);
+    questions::fit(state, medium, cache)?;
+    let number = state.next;
+    if number.0 == u64::MAX {
+        return Err(Refusal::NoNumber);
     }
-    let number = state.next.0;
-    if 18446744073709551615 <= number {
-        return Answer::Refused(Refusal::NoNumber);
-    }
-    let ring = state.ring;
-    let f = live::places::find_free(words, ring);
-    match f {
-        None => Answer::Refused(Refusal::NoPlace),
-        Some(k) => {
-            take_place(words, (ring % 64 + k) % 64, clock);
-            Answer::Begun(TxNumber(number))
-        }
-    }
+    let ahead = live::places::find_free(&state.places, state.ring).ok_or(Refusal::NoPlace)?;
+    let place = ((state.ring % 64) as usize + ahead) % 64;
+    state.places[place] = Place {
+        life: Life::Active(number, clock),
+        waiting: 0,
+    };
+    state.next = TxNumber(number.0 + 1);
+    state.ring = (place as u64 + 1) % 64;
+    Ok(Answer::Begun(number))
 }

@@ -5,7 +5,7 @@ use Rattle.tail.proofs.TailLaws.{used_below}
 use Rattle.tail.proofs.has_room.Goals as goal
 
 pub overflow_add-result : goal.overflow_add-result
-overflow_add-result c = omega (arith, used_below c.args.tail.now c.shared_slice_known-1.given)
+overflow_add-result c = omega (arith, used_below c.args.tail.now c.fits-tail)
 
 pub returns : goal.returns
 unfolding tail_fits

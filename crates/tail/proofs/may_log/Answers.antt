@@ -1,41 +1,34 @@
--- The code asks in differences what `may_log` asks in sums. Assumes nothing.
-use mathlib.Core.Path.{◌≡◌, sym, ◌∙◌}
-use mathlib.Core.Bool.{false}
+-- The tests are those of `may_log`, and a sum that stays at the highest number is above every sequence. Assumes nothing.
+use mathlib.Core.Path.{◌≡◌}
+use mathlib.Core.Bool.{true, false}
+use Prim.Native.Nat.{◌+◌}
 use native.Mathlib.Omega.{arith}
+use lib.Dec.{ltb}
+use borrow.Author.Tests.{lt-ltb, le-ltb}
 use Rattle.fields.specs.Block.{medium_length}
-use Rattle.store.specs.Tail.{tail_fits, may_log}
-use Rattle.memory.specs.Memory.{state_by, state_of}
-use Rattle.tail.proofs.TailLaws.{may_not, may_if, ready_words}
+use Rattle.layout.specs.Journal.{sequence_of}
+use Rattle.layout.specs.Master.{oldest_on}
+use Rattle.store.specs.Tail.{may_log}
 use Rattle.tail.proofs.may_log.Goals as goal
-use Rattle.tail.proofs.may_log.Goals.{else-l-next, then-l-next+else-oldest-next}
 
 pub returns-then-has_room : goal.returns-then-has_room
-unfolding may_log state_of state_by
+unfolding may_log
 returns-then-has_room c = simp (← c.has_room.ensures, c.if-has_room.true)
-
-pub overflow_add-next : goal.overflow_add-next
-overflow_add-next c = let h = ready_words _ _ _ c.requires.ready in omega arith
 
 pub oldest-requires : goal.oldest-requires
 unfolding medium_length
-oldest-requires c = let h = ready_words _ _ _ c.requires.ready in omega arith
+oldest-requires c = let h = c.requires.ready in omega arith
 
--- past the first test there is no room
-full : (c : goal.Then-oldest-next) → tail_fits c.args.tail.now c.args.size ≡ false
-full c = sym c.has_room.ensures ∙ c.if-has_room.false
+pub returns-then-next-saturating_add : goal.returns-then-next-saturating_add
+unfolding may_log
+returns-then-next-saturating_add c =
+    let s = c.args.state.now in
+    let low : ltb (sequence_of s.tail + 1) (oldest_on c.args.medium.now + s.blocks) ≡ true = lt-ltb _ _ (omega arith) in
+    simp (← c.has_room.ensures, c.if-has_room.false, low, c.sequence-next.ensures)
 
-pub returns-then-oldest-next : goal.returns-then-oldest-next
-unfolding state_of state_by
-returns-then-oldest-next c =
-    let a = c.args in
-    sym (may_not (state_of a.words.now a.tail.now) a.medium.now a.size _ c.sequence-next.ensures (full c) (omega arith))
-
--- past the first test there is no room
-full_at_returns : (c : goal.Joined-l-next) → tail_fits c.args.tail.now c.args.size ≡ false
-full_at_returns c = sym c.has_room.ensures ∙ c.if-has_room.false
-
-pub returns : goal.returns
-unfolding state_of state_by
-returns c =
-    let a = c.args in
-    sym (may_if (state_of a.words.now a.tail.now) a.medium.now a.size _ c.sequence-next.ensures (full_at_returns c) (elim c.if-l-next.branch [ else-l-next w ↦ omega arith | then-l-next+else-oldest-next w ↦ omega arith ]))
+pub returns-else-next-saturating_add : goal.returns-else-next-saturating_add
+unfolding may_log
+returns-else-next-saturating_add c =
+    let s = c.args.state.now in
+    let high : ltb (sequence_of s.tail + 1) (oldest_on c.args.medium.now + s.blocks) ≡ false = le-ltb _ _ (omega arith) in
+    simp (← c.has_room.ensures, c.if-has_room.false, high, le-ltb _ _ c.if-next-saturating_add.false)

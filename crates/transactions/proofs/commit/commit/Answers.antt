@@ -1,107 +1,49 @@
--- The verdict names the refusal, or says that all questions are passed and where the transaction is; its count then tells
--- whether it ends at once or by the step. Assumes nothing.
-use Rattle.std.specs.Prelude.{None, Some}
-use mathlib.Core.Path.{◌≡◌, sym, ◌∙◌}
-use Prim.Native.Nat.{◌<◌}
-use Rattle.store.specs.Answer.{ask}
-use Rattle.store.specs.Places.{find_active}
-use Rattle.store.specs.Commit.{commit_asks}
-use Rattle.memory.specs.Memory.{places_of, state_by, state_of}
+-- A refusal is that of the questions; else all of them are passed, and the count of versions tells whether the transaction
+-- ends at once or by the step.
+use native.Mathlib.Omega.{arith}
+use Rattle.std.proofs.lemmas.Result.{err_from_is_err_and}
+use mathlib.Core.Path.{refl}
 use Rattle.live.proofs.FirstLaws.{active_below}
-use Rattle.questions.proofs.AskLaws.{verdict_go}
-use Rattle.transactions.proofs.CommitLaws.{commit_refused, commit_empty, commit_asked, commit_passed}
-use borrow.Author.Rules.{rules}
+use Rattle.store.specs.Commit.{commit_of, commit_if}
+use Rattle.store.specs.Places.{place_at}
+use Rattle.store.specs.State.{with_place}
+use Rattle.transactions.proofs.CommitLaws.{commit_empty, commit_asked, commit_passed}
 use Rattle.transactions.proofs.commit.commit.Goals as goal
 
-go : (c : goal.After-waiting_at-arg-in-Go-1) → let a = c.args in
-    (ask (commit_asks (state_of a.words.now a.tail.now) a.medium.now a.cache.now a.number) ≡ None)
-    × (find_active (places_of a.words.now) a.number ≡ Some c.in-Go.i)
-go c = verdict_go _ _ _ _ c.asks-v.ensures c.in-Go.is
+pub returns-in_err-place : goal.returns-in_err-place
+unfolding commit_of commit_if
+returns-in_err-place c = simp (c.in_err-place.ensures.no) (let p = err_from_is_err_and c.from_residual.result c.from_residual.ensures.1 in rw (p.1, p.2) refl)
 
-below : (c : goal.After-waiting_at-arg-in-Go-1) → c.in-Go.i < 64
-below c = active_below _ _ _ (go c).1
+pub offset_bounds-state-place : goal.offset_bounds-state-place
+offset_bounds-state-place c = let h = active_below _ _ _ c.in_ok-place.ensures.yes.1 in omega arith
 
-pub waiting_at-requires : goal.waiting_at-requires
-waiting_at-requires c =
-    record {
-      words_len = search rules;
-      i_bound = below c;
-    }
+pub bounds-state-place : goal.bounds-state-place
+bounds-state-place c = active_below _ _ _ c.in_ok-place.ensures.yes.1
 
-go_at_free_requires : (c : goal.After-free-arg-1) → let a = c.args in
-    (ask (commit_asks (state_of a.words.now a.tail.now) a.medium.now a.cache.now a.number) ≡ None)
-    × (find_active (places_of a.words.now) a.number ≡ Some c.in-Go.i)
-go_at_free_requires c = verdict_go _ _ _ _ c.asks-v.ensures c.in-Go.is
+pub offset_bounds-state-place-then-state-place-eq0 : goal.offset_bounds-state-place-then-state-place-eq0
+offset_bounds-state-place-then-state-place-eq0 c = let h = active_below _ _ _ c.in_ok-place.ensures.yes.1 in omega arith
 
-below_at_free_requires : (c : goal.After-free-arg-1) → c.in-Go.i < 64
-below_at_free_requires c = active_below _ _ _ (go_at_free_requires c).1
+pub bounds-state-place-then-state-place-eq0 : goal.bounds-state-place-then-state-place-eq0
+bounds-state-place-then-state-place-eq0 c = active_below _ _ _ c.in_ok-place.ensures.yes.1
 
-pub free-requires : goal.free-requires
-free-requires c =
-    record {
-      words_len = search rules;
-      i_bound = below_at_free_requires c;
-    }
+pub returns-then-state-place-eq0 : goal.returns-then-state-place-eq0
+unfolding place_at with_place
+returns-then-state-place-eq0 c =
+    let g = c.in_ok-place.ensures.yes in
+    commit_empty c.args.state.now c.args.medium.now c.args.cache.now c.args.number _ g.0 g.1 _ _ c.if-state-place-eq0.true (rw c.free.ensures refl)
 
-go_at_returns_then_waiting_at_eq0 : (c : goal.After-free) → let a = c.args in
-    (ask (commit_asks (state_of a.words.now a.tail.now) a.medium.now a.cache.now a.number) ≡ None)
-    × (find_active (places_of a.words.now) a.number ≡ Some c.in-Go.i)
-go_at_returns_then_waiting_at_eq0 c = verdict_go _ _ _ _ c.asks-v.ensures c.in-Go.is
+pub time_for-time-requires-clause-last_bound : goal.time_for-time-requires-clause-last_bound
+unfolding place_at
+time_for-time-requires-clause-last_bound c =
+    let g = c.in_ok-place.ensures.yes in
+    (commit_asked c.args.state.now c.args.medium.now c.args.cache.now c.args.number _ g.0 g.1 c.if-state-place-eq0.false).last
 
-pub returns-then-waiting_at-eq0 : goal.returns-then-waiting_at-eq0
-unfolding state_of state_by
-returns-then-waiting_at-eq0 c =
-    let a = c.args in
-    let g = go_at_returns_then_waiting_at_eq0 c in
-    commit_empty (state_of a.words.now a.tail.now) a.medium.now a.cache.now a.number _ g.0 g.1 _ _ (sym c.waiting_at.ensures ∙ c.if-waiting_at-eq0.true) (c.free.ensures a.tail.now)
+pub step-requires-clause-waits : goal.step-requires-clause-waits
+unfolding place_at
+step-requires-clause-waits c = c.if-state-place-eq0.false
 
-go_at_time_for_time_requires : (c : goal.After-time_for-arg-in-Go-1) → let a = c.args in
-    (ask (commit_asks (state_of a.words.now a.tail.now) a.medium.now a.cache.now a.number) ≡ None)
-    × (find_active (places_of a.words.now) a.number ≡ Some c.in-Go.i)
-go_at_time_for_time_requires c = verdict_go _ _ _ _ c.asks-v.ensures c.in-Go.is
-
-below_at_time_for_time_requires : (c : goal.After-time_for-arg-in-Go-1) → c.in-Go.i < 64
-below_at_time_for_time_requires c = active_below _ _ _ (go_at_time_for_time_requires c).1
-
-pub time_for-time-requires : goal.time_for-time-requires
-unfolding state_of state_by
-time_for-time-requires c =
-    let a = c.args in
-    let g = go_at_time_for_time_requires c in
-    record {
-      words_len = search rules;
-      i_bound = (below_at_time_for_time_requires c, (commit_asked (state_of a.words.now a.tail.now) a.medium.now a.cache.now a.number _ g.0 g.1 (λ z. c.if-waiting_at-eq0.false (c.waiting_at.ensures ∙ z))).last);
-    }
-
-go_at_step_requires : (c : goal.After-step-arg-in-Go-2-1) → let a = c.args in
-    (ask (commit_asks (state_of a.words.now a.tail.now) a.medium.now a.cache.now a.number) ≡ None)
-    × (find_active (places_of a.words.now) a.number ≡ Some c.in-Go.i)
-go_at_step_requires c = verdict_go _ _ _ _ c.asks-v.ensures c.in-Go.is
-
-pub step-requires : goal.step-requires
-step-requires c =
-    let g = go_at_step_requires c in
-    record {
-      number_value = g.0;
-      number_value_2 = g.1;
-      fact = λ z. c.if-waiting_at-eq0.false (c.waiting_at.ensures ∙ z);
-    }
-
-pub returns-in-No : goal.returns-in-No
-unfolding state_of state_by
-returns-in-No c =
-    let a = c.args in
-    commit_refused _ _ (state_of a.words.now a.tail.now) a.medium.now a.cache.now a.number a.clock c.asks-v.ensures c.in-No.is
-
-go_at_returns_else_waiting_at_eq0 : (c : goal.After-slice_known-in-Go-1) → let a = c.args in
-    (ask (commit_asks (state_of a.words.now a.tail.now) a.medium.now a.cache.now a.number) ≡ None)
-    × (find_active (places_of a.words.now) a.number ≡ Some c.in-Go.i)
-go_at_returns_else_waiting_at_eq0 c = verdict_go _ _ _ _ c.asks-v.ensures c.in-Go.is
-
-pub returns-else-waiting_at-eq0 : goal.returns-else-waiting_at-eq0
-unfolding state_of state_by
-returns-else-waiting_at-eq0 c =
-    let a = c.args in
-    let g = go_at_returns_else_waiting_at_eq0 c in
-    commit_passed (state_of a.words.now a.tail.now) a.medium.now a.cache.now a.number _ g.0 g.1 (λ z. c.if-waiting_at-eq0.false (c.waiting_at.ensures ∙ z)) _ _ _
-    (c.time_for-time.ensures a.tail.now) c.step.ensures
+pub returns : goal.returns
+unfolding place_at
+returns c =
+    let g = c.in_ok-place.ensures.yes in
+    commit_passed c.args.state.now c.args.medium.now c.args.cache.now c.args.number _ g.0 g.1 c.if-state-place-eq0.false _ _ _ c.time_for-time.ensures c.step.ensures
