@@ -30,10 +30,9 @@ fn put_slot(out: &mut [u8], i: usize, cache: &[u8], s: u64, time: CommitTime)
     requires room { Room (length cache.now) (suc s) }
     ensures { out.new ≡ splice out.old (32 * i) (line_bytes (record { time = time.0; kind = (cell_at cache.now s).kind; value = (cell_at cache.now s).value })) }
 {
-    let x = layout::place::slot_at(s);
-    let p = x + 16;
+    let slot = cached::slot(cache, s);
     let a = 32 * i;
-    put_line(&mut out[a..a + 32], time, cache[x + 2], &cache[p..p + 16]);
+    put_line(&mut out[a..a + 32], time, slot[2], &slot[16..]);
 }
 
 // Writes the lines of ranked versions, from the last to the first.
