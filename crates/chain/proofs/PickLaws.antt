@@ -3,10 +3,10 @@
 use mathlib.Core.Path.{◌≡◌, refl, sym, ap, ◌∙◌}
 use mathlib.Core.Bool.{Bool, true, false}
 use mathlib.Core.List.{List, [], ◌∷◌, ◌++◌, append-nil, append_assoc}
-use Prim.Native.Nat.{ℕ, suc, ◌+◌, ◌-◌, ◌*◌, ◌≤◌, ◌<◌}
+use Prim.Native.Nat.{ℕ, ◌+◌, ◌-◌, ◌*◌, ◌≤◌, ◌<◌}
 use native.Mathlib.Numerals.{add-one}
 use native.Mathlib.Omega.{arith}
-use lib.ListN.{length, get_or, take, drop, set, length-append, length-set, length-drop, drop_of_length-le}
+use lib.ListN.{length, get_or, take, drop, set, length-set, length-drop, drop_of_length-le}
 use lib.Seq.{drop-cons, get_or-take, length-take-le, take-set-lt, drop-set-lt, take-suc-set}
 use borrow.Author.Tests.{lt-ltb, le-ltb}
 use Rattle.std.proofs.lemmas.List.{drop-take}
@@ -16,7 +16,6 @@ use Rattle.fields.proofs.WriteLaws.{splice_none}
 use Rattle.fields.proofs.CellLaws.{each_append, Cells, length_flat, flat_snoc}
 use Rattle.store.specs.Chain.{cell_at}
 use Rattle.store.specs.Changes.{Line, line_bytes, differs_from, line_of}
-use Rattle.cached.specs.Room.{Room}
 use Rattle.cached.proofs.RoomLaws.{slot_room}
 use Rattle.chain.specs.declared.ranked.Dated.{Dated}
 use Rattle.chain.specs.Ranked.{Slots, latest, if_differs, changed, lines_of}
@@ -32,9 +31,6 @@ cons_at es i d h = rw add-one (drop-cons es i d h)
 module _ (es : List Dated) (i : ℕ) (d : Dated) (l : ℕ) (h : i < length es) (s : Slots (drop i es) l) where
   both : Slots (get_or es i d ∷ drop (i + 1) es) l
   both = rw (cons_at es i d h) at s
-
-  pub slot_in : Room l (suc (get_or es i d).slot)
-  slot_in = both.0
 
   pub slots_behind : Slots (drop (i + 1) es) l
   slots_behind = both.1

@@ -8,8 +8,8 @@ ghost use Rattle.store.specs.Changes.{line_bytes, lines_below};
 ghost use Rattle.cached.specs.Room.{Room, Head};
 ghost use Rattle.chain.specs.Ranked.{Slots, lines_of};
 
-use layout::CommitTime;
 use crate::ranked::{Dated, Ranked};
+use layout::CommitTime;
 use store::Place;
 
 // Writes a line: time, kind, zeros, value.
@@ -20,8 +20,8 @@ fn put_line(line: &mut [u8], time: CommitTime, kind: u8, value: &[u8])
 {
     fields::field::put8(line, 0, time.0);
     line[8] = kind;
-    fields::block::clear(&mut line[9..16]);
-    fields::block::copy_into(line, 16, value);
+    line[9..16].fill(0);
+    line[16..32].copy_from_slice(value);
 }
 
 // Writes the line of a slot as line i of the list.
