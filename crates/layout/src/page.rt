@@ -7,6 +7,7 @@ ghost use Rattle.layout.specs.declared.slot.Slot.TheVariants.{Waiting};
 use crate::{CommitTime, EndPlace, TxNumber};
 
 // The end place of the last record put into the page.
+#[tactic(auto, unfolding(crate::specs::Page::page_end))]
 pub fn end(page: &[u8]) -> EndPlace
     requires { length page.now ≡ 512 }
     ensures { result.0 ≡ page_end page.now }
@@ -15,6 +16,7 @@ pub fn end(page: &[u8]) -> EndPlace
 }
 
 // How many slots of the page are used.
+#[tactic(auto, unfolding(crate::specs::Page::page_used))]
 pub fn used(page: &[u8]) -> u8
     requires { length page.now ≡ 512 }
     ensures { result ≡ page_used page.now }
@@ -55,6 +57,7 @@ pub fn stamp(page: &mut [u8], i: usize, time: CommitTime)
 }
 
 // Is a slot of the page in form: a version's below the used ones, zeros from there on?
+#[tactic(auto, unfolding(crate::specs::Page::slot_form_at, crate::specs::Page::page_used, crate::specs::Page::page_slot, fields::specs::Block::slot_in))]
 pub fn slot_in_form(page: &[u8], i: usize) -> bool
     requires page_len { length page.now ≡ 512 }
     requires i_bound { i < 15 }
@@ -62,10 +65,11 @@ pub fn slot_in_form(page: &[u8], i: usize) -> bool
 {
     let a = 32 + 32 * i;
     let slot = &page[a..a + 32];
-    if i < page[8] as usize {
-        return crate::slot::in_form(slot);
+    if i < usize::from(page[8]) {
+        crate::slot::in_form(slot)
+    } else {
+        fields::block::all_zero(slot)
     }
-    fields::block::all_zero(slot)
 }
 
 // Is the page in form?
@@ -73,20 +77,7 @@ pub fn in_form(page: &[u8]) -> bool
     requires { length page.now ≡ 512 }
     ensures { result ≡ page_form page.now }
 {
-    if 15 < page[8] {
-        return false;
-    }
-    if !fields::block::all_zero(&page[9..32]) {
-        return false;
-    }
-    let mut i: usize = 0;
-    while i < 15 {
-        if !slot_in_form(page, i) {
-            return false;
-        }
-        i += 1;
-    }
-    true
+    page[8] <= 15 && fields::block::all_zero(&page[9..32]) && (0..15).all(|i| slot_in_form(page, i))
 }
 
 // Puts a version into slot n of the store: its page of the cache, then its slot, lent on.
