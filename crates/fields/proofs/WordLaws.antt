@@ -49,11 +49,3 @@ enc_from i (suc k) n =
 
 pub enc_word : (k n : ℕ) → bytes_low_first 0 k n ≡ enc k n
 enc_word k n = let e : n / 256 ^ 0 ≡ n = omega arith in enc_from 0 k n ∙ ap (enc k) e
-
--- two bytes of a number are those of its rest by 65,536
-pub enc_low : (n : ℕ) → enc 2 (n % 65536) ≡ enc 2 n
-unfolding enc
-enc_low n =
-    let e : n % 65536 % 256 ≡ n % 256 = omega arith in
-    let f : n % 65536 / 256 % 256 ≡ n / 256 % 256 = omega arith in
-    rw (e, f)

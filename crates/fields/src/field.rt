@@ -49,8 +49,7 @@ pub fn put2(s: &mut [u8], at: usize, n: u64)
     requires { at + 2 ≤ length s.old }
     ensures { s.new ≡ splice s.old at (enc 2 n) }
 {
-    let low = (n % 65536) as u16;
-    s[at..at + 2].copy_from_slice(&low.to_le_bytes());
+    s[at..at + 2].copy_from_slice(&n.to_le_bytes()[..2]);
 }
 
 pub fn put8(s: &mut [u8], at: usize, n: u64)

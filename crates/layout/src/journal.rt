@@ -50,8 +50,7 @@ fn write_version(body: &mut [u8], head: VersionHead, value: &[u8])
     requires value_len { length value.now ≡ 16 }
     ensures { body.new ≡ version_body head value.now }
 {
-    let width = head.width;
-    let n = crate::item::bytes(width);
+    let n = crate::item::bytes(head.width);
     fields::field::put2(body, 0, head.slot);
     write_key(body, n, head.key);
     body[2 + n] = head.kind;

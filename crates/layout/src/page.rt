@@ -25,6 +25,7 @@ pub fn used(page: &[u8]) -> u8
 }
 
 // Puts a version that waits under a number into slot i.
+#[tactic(auto, unfolding(fields::specs::Block::slot_in))]
 pub fn put_waiting(
     page: &mut [u8],
     i: usize,
@@ -42,17 +43,18 @@ pub fn put_waiting(
 {
     fields::field::put8(page, 0, end.0);
     page[8] = (i + 1) as u8;
-    let a = 32 + 32 * i;
+    let a = crate::place::slot_in(i);
     crate::slot::write_waiting(&mut page[a..a + 32], number, key, kind, earlier, value);
 }
 
 // Stamps slot i.
+#[tactic(auto, unfolding(fields::specs::Block::slot_in))]
 pub fn stamp(page: &mut [u8], i: usize, time: CommitTime)
     requires page_len { length page.old ≡ 512 }
     requires i_bound { i < 15 }
     ensures { page.new ≡ stamp_cell page.old i time.0 }
 {
-    let a = 32 + 32 * i;
+    let a = crate::place::slot_in(i);
     crate::slot::stamp(&mut page[a..a + 32], time);
 }
 
@@ -63,7 +65,7 @@ pub fn slot_in_form(page: &[u8], i: usize) -> bool
     requires i_bound { i < 15 }
     ensures { result ≡ slot_form_at page.now i }
 {
-    let a = 32 + 32 * i;
+    let a = crate::place::slot_in(i);
     let slot = &page[a..a + 32];
     if i < usize::from(page[8]) {
         crate::slot::in_form(slot)

@@ -1,14 +1,14 @@
 -- Opening: 01's "well formed?", ten conditions from semicolon to semicolon. Each is a list of items in the order master,
 -- table, log by sequence, pages by slot: whether the item keeps it, and the item's block.
 use Rattle.std.specs.Prelude.{ℕ, zero, suc, ◌+◌, ◌-◌, ◌*◌, ◌/◌, ◌^◌, Bool, true, false, cond, not, ◌&&◌, ◌||◌, List, [], ◌∷◌, ◌++◌, length, eqb, leb, ltb}
+use Rattle.std.specs.Prelude.{Option as RustOption, Some, None}
 use Rattle.std.proofs.Math.Option.{Option, none, some}
 use Rattle.fields.specs.Block.{blk, log_block_at, page_block_at}
 use Rattle.layout.specs.Page.{page_form, page_end, page_used}
 use Rattle.layout.specs.Journal.{Record, version, commit, used_form, record_form, parsed}
 use Rattle.layout.specs.Table.{table_pair, pair_form}
 use Rattle.layout.specs.Master.{master_of, oldest_on}
-use Rattle.layout.specs.declared.master.Found.{Found as MasterFound}
-use Rattle.layout.specs.declared.master.Found.TheVariants.{Whole, Broken}
+use Rattle.layout.specs.declared.master.Fields.{Fields}
 use Rattle.layout.specs.declared.slot.Slot.{Slot}
 use Rattle.layout.specs.declared.slot.Slot.TheVariants.{Empty, Waiting, Stamped}
 use Rattle.store.specs.declared.Found.{Found}
@@ -60,9 +60,9 @@ unfoldable pub table_checks : (ℕ → Bool) → Checks
 table_checks f = each (λ i. (f i, table_block_of i)) 0 64
 
 -- 01: "L and D as given": is the master whole, with these sizes?
-abbrev pub sizes_are : MasterFound → ℕ → ℕ → Bool
-sizes_are (Whole f) l d = eqb f.blocks l && eqb f.pages d
-sizes_are Broken l d = false
+abbrev pub sizes_are : RustOption Fields → ℕ → ℕ → Bool
+sizes_are (Some f) l d = eqb f.blocks l && eqb f.pages d
+sizes_are None l d = false
 
 -- 01: "Fields as above": is every record in form (kind 0 or 1, an erased value zeros; 02, #104: a record number of "0 to 1,023")?
 unfoldable pub forms_of : List Record → Bool
