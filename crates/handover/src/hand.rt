@@ -1,5 +1,5 @@
-// Handing a flight over: begin, read, check, write, commit, each by the store's public call. Once a number is given, a refusal
-// aborts it and is answered.
+// Handing a flight over: begin, read, check, write, commit, each by the store's public call. Once a number is given, a
+// refusal aborts it and is answered.
 ghost use Rattle.std.specs.Prelude.{◌≡◌, None, Ok};
 ghost use Rattle.store.specs.declared.Answer.TheVariants.{Done, Begun, Present};
 ghost use Rattle.store.specs.Answer.{leaves};
