@@ -2,9 +2,8 @@ pub mod PartLaws
 pub mod FieldLaws
 pub mod Choose
 pub mod EqualLaws
-pub mod PrefixLaws
 pub mod WriteLaws
 pub mod ReadLaws
 pub mod CellLaws
 pub mod BlockLaws
-pub mod HalfLaws
+pub mod WordLaws
