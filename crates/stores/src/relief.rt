@@ -15,7 +15,7 @@ fn is_left(state: &State, medium: &[u8], cache: &[u8], page: u64) -> bool
 {
     let cached = crate::block(cache, page as usize);
     let block = crate::block(medium, layout::place::page_block(state.blocks, page));
-    layout::page::end(cached).0 <= state.end.0 && !pages::holds(state, cached, block)
+    layout::page::end(cached) <= state.end && !pages::holds(state, cached, block)
 }
 
 // The first page that is left.
@@ -26,22 +26,19 @@ fn page_left(state: &State, medium: &[u8], cache: &[u8]) -> Option<u64>
     (0..state.pages).find(|&page| is_left(state, medium, cache, page))
 }
 
-// The next call of these: store the log, store each page, finish a checkpoint under way and make one more.
+// The next call of these, if one is left: store the log, store each page, finish a checkpoint under way and make one more.
 #[tactic(auto, using(crate::proofs::StoreLaws::sized, tail::proofs::TailLaws::ready), unfolding(store::specs::Relief::relief_of))]
-pub fn relief(state: &State, medium: &[u8], cache: &[u8]) -> Relief
+pub fn relief(state: &State, medium: &[u8], cache: &[u8]) -> Option<Relief>
     ensures { result ≡ relief_of state.now medium.now cache.now }
 {
     if !memory::fit::is_fit(state, medium.len(), cache.len()) {
-        return Relief::NothingLeft;
+        return None;
     }
     if !crate::store_log::is_stored(state, medium) {
-        return Relief::StoreLog;
+        return Some(Relief::StoreLog);
     }
     if let Some(page) = page_left(state, medium, cache) {
-        return Relief::StorePage(page);
+        return Some(Relief::StorePage(page));
     }
-    if checkpoints::is_left(state, medium) {
-        return Relief::Checkpoint;
-    }
-    Relief::NothingLeft
+    checkpoints::is_left(state, medium).then_some(Relief::Checkpoint)
 }

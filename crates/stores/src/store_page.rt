@@ -18,14 +18,13 @@ fn lay(state: &mut State, medium: &mut [u8], cache: &mut [u8], page: u64) -> boo
     ensures medium_after { medium.new ≡ cond result (put medium.old (page_block_at state.old.blocks page) (stamped_page state.old (blk cache.old page))) medium.old }
     ensures cache_after { cache.new ≡ cond result (put cache.old page (stamped_page state.old (blk cache.old page))) cache.old }
 {
-    let a = 512 * page as usize;
-    let b = 512 * layout::place::page_block(state.blocks, page);
-    let end = state.end;
+    let page_at = 512 * page as usize;
+    let block_at = 512 * layout::place::page_block(state.blocks, page);
     if !pages::store(
         &mut state.places,
-        end,
-        &mut cache[a..a + 512],
-        &mut medium[b..b + 512],
+        state.end,
+        &mut cache[page_at..page_at + 512],
+        &mut medium[block_at..block_at + 512],
     ) {
         return false;
     }
@@ -46,7 +45,7 @@ pub fn store_page(
     if state.pages <= page {
         return Err(Refusal::NoPage);
     }
-    if state.end.0 < layout::page::end(crate::block(cache, page as usize)).0 {
+    if state.end < layout::page::end(crate::block(cache, page as usize)) {
         return Err(Refusal::NotLogged);
     }
     if !lay(state, medium, cache, page) {
