@@ -1,5 +1,4 @@
 -- Each arm names the block of its call; the other lines change none.
-use Rattle.memory.specs.Memory.{state_of}
 use Rattle.disk.specs.Block.{block_of}
 use Rattle.disk.proofs.BlockLaws.{block_rest}
 use Rattle.disk.proofs.block.of.Goals as goal

@@ -1,6 +1,5 @@
 -- By the phase's kind.
 use borrow.Author.Tests.{eq-eqb, ne_eqb}
-use Rattle.memory.specs.Memory.{state_of, state_by, phase_by}
 use Rattle.disk.specs.Block.{phase_block}
 use Rattle.disk.proofs.block.of_phase.Goals as goal
 
