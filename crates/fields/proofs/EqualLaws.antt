@@ -35,6 +35,11 @@ pub noted_end : (b rest : Bool) → rest ≡ true → cond b rest false ≡ b
 noted_end true rest e = e
 noted_end false rest e = refl
 
+-- nothing is left
+pub eq_end : (a b : List ℕ) (i : ℕ) → length a ≤ i → length b ≤ i → eq_list (drop i a) (drop i b) ≡ true
+unfolding eq_list
+eq_end a b i h g = rw (drop_of_length-le a h, drop_of_length-le b g)
+
 -- what the test is for
 pub eq_true : (a b : List ℕ) → eq_list a b ≡ true → a ≡ b
 unfolding eq_list

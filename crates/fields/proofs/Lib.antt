@@ -2,6 +2,7 @@ pub mod PartLaws
 pub mod FieldLaws
 pub mod Choose
 pub mod EqualLaws
+pub mod PrefixLaws
 pub mod WriteLaws
 pub mod ReadLaws
 pub mod CellLaws

@@ -39,7 +39,7 @@ pub fn all_zero(s: &[u8]) -> bool
 {
     let mut zero = true;
     for &b in s {
-        zero = zero & (b == 0);
+        zero &= b == 0;
     }
     zero
 }

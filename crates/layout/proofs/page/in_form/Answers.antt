@@ -1,6 +1,5 @@
 -- `page::in_form` meets its contract: `all` asks of the slots from 0 on what `slots_form` asks.
 use mathlib.Core.Path.{◌≡◌, sym, refl, ◌∙◌}
-use mathlib.Core.Bool.{true}
 use borrow.Author.Rules.{rules}
 use borrow.Author.Tests.{le-leb, lt-leb}
 use Rattle.std.proofs.lemmas.Iterator.{YieldsList-from_range}

@@ -1,5 +1,4 @@
 -- `page::stamp` meets its contract: the slot is stamped in the lent part.
-use mathlib.Core.Path.{◌∙◌}
 use native.Mathlib.Omega.{arith}
 use Rattle.fields.specs.Block.{slot_in}
 use Rattle.fields.proofs.PartLaws.{lent_copy, lent_part}
