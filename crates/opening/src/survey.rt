@@ -14,7 +14,6 @@ ghost use Rattle.opening.specs.Surveyed.{ReadAs, Applied};
 use conditions::cursor::Cursor;
 use conditions::log::Commit;
 use conditions::pairs::Pairs;
-use layout::master::Found;
 use layout::{CommitTime, EndPlace, TxNumber};
 use store::{Phase, State};
 
@@ -23,7 +22,7 @@ fn master_ok(medium: &[u8], blocks: u64, pages: u64) -> bool
     requires { 1536 ≤ length medium.now }
     ensures { result ≡ master_ok medium.now blocks pages }
 {
-    let Found::Whole(fields) = layout::master::read(&medium[..512]) else {
+    let Some(fields) = layout::master::read(&medium[..512]) else {
         return false;
     };
     fields.blocks == blocks

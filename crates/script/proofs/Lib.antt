@@ -1,5 +1,5 @@
-pub mod WordLaws
 pub mod ReaderLaws
+pub mod WideLaws
 pub mod HexLaws
 pub mod LastWord
 pub mod Meaning

@@ -1,38 +1,18 @@
 -- Printing puts bytes behind the first n, one after the other: what a loop has put is what it took of the text. The
 -- digits of a number are the fewest that hold it, and for a number below 2^64 these are at most 20.
-use mathlib.Core.Path.{◌≡◌, refl, sym, ap, ◌∙◌}
-use mathlib.Core.List.{List, [], ◌∷◌, ◌++◌, append-nil, append_assoc}
+use mathlib.Core.Path.{◌≡◌, refl, ap, ◌∙◌}
+use mathlib.Core.List.{List, [], ◌∷◌, ◌++◌, append_assoc}
 use Prim.Native.Nat.{ℕ, zero, suc, ◌+◌, ◌-◌, ◌*◌, ◌/◌, ◌%◌, ◌^◌, ◌≤◌, ◌<◌}
 use native.Mathlib.Omega.{arith}
 use native.Mathlib.Numerals.{add-one}
 use native.Mathlib.Nat.{pow-suc, one-le-pow}
-use lib.ListN.{length, take, get_or, set}
-use lib.Seq.{take-suc, take-suc-set, take_all}
+use lib.ListN.{length, take, get_or}
+use lib.Seq.{take-suc}
 use lib.Dec.{leb}
 use borrow.Author.Tests.{lt-ltb, le-ltb, leb-true, leb-false}
 use Rattle.io.specs.Digits.{last_digits, hex_digit_ascii, IsDigitCount}
 use Rattle.script.specs.Print.{decimal_from, decimal, hex_of}
 use Rattle.fields.proofs.Choose.{bool_case}
-
-pub put_byte : (l : List ℕ) (n b : ℕ) → n < length l → take (n + 1) (set l n b) ≡ take n l ++ (b ∷ [])
-put_byte l n b h = rw add-one (take-suc-set l n b h)
-
-pub bytes_start : (l : List ℕ) (n : ℕ) → take (n + 0) l ≡ take n l ++ []
-bytes_start l n = let e : n + 0 ≡ n = omega arith in ap (λ (k : ℕ). take k l) e ∙ sym (append-nil (take n l))
-
-pub bytes_turn : (l o t : List ℕ) (n i : ℕ) → n + i < length l → i < length t → take (n + i) l ≡ take n o ++ take i t
-    → take (n + (i + 1)) (set l (n + i) (get_or t i 0)) ≡ take n o ++ take (i + 1) t
-bytes_turn l o t n i h g e =
-    let m : n + (i + 1) ≡ suc (n + i) = omega arith in
-    ap (λ (k : ℕ). take k (set l (n + i) (get_or t i 0))) m
-    ∙ take-suc-set l (n + i) (get_or t i 0) h
-    ∙ ap (λ (k : List ℕ). k ++ (get_or t i 0 ∷ [])) e
-    ∙ append_assoc (take n o) (take i t) (get_or t i 0 ∷ [])
-    ∙ ap (λ (k : List ℕ). take n o ++ k) (sym (ap (λ (k : ℕ). take k t) (add-one i) ∙ take-suc t i 0 g))
-
-pub bytes_end : (l o t : List ℕ) (n i : ℕ) → length t ≤ i → take (n + i) l ≡ take n o ++ take i t
-    → take (n + i) l ≡ take n o ++ t
-bytes_end l o t n i h e = e ∙ ap (λ (k : List ℕ). take n o ++ k) (take_all i t h)
 
 -- the fewest digits are the decimal ones
 pub digits_from : (k f n : ℕ) → IsDigitCount 10 1 n k → k ≤ f → last_digits 10 k n ≡ decimal_from f n
@@ -94,6 +74,3 @@ hex_turn x y z o t i h l g e f k p q =
     let m : take (i + 1) t ≡ take i t ++ (get_or t i 0 ∷ []) =
     ap (λ (n : ℕ). take n t) (add-one i) ∙ take-suc t i 0 g in
     simp (m, hex_append, k, f, e, p, q, append_assoc)
-
-pub hex_end : (x o t : List ℕ) (i : ℕ) → length t ≤ i → x ≡ o ++ hex_of (take i t) → x ≡ o ++ hex_of t
-hex_end x o t i h e = e ∙ ap (λ (k : List ℕ). o ++ hex_of k) (take_all i t h)

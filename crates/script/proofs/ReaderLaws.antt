@@ -51,3 +51,6 @@ module _ (l : Line) where
       → seen_of l ≡ ending l.letter (done_of l []) (last_word l)
   unfolding seen_of
   seen_words b h e = simp (b, ne_eqb _ _ h, ne_eqb _ _ e)
+
+-- what the form of a begun line is, by its count
+pub ruleset seen = (seen_bad, seen_none, seen_bare, seen_words, done_1, done_2, done_3, done_4, done_5)

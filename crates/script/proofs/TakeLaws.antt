@@ -27,9 +27,11 @@ module _ (bs : List ℕ) (l : Line) (i : ℕ) where
   unfolding take_of
   take_on g h n e = ap (λ (t : List ℕ). take_of l t i) (drop-cons bs i 0 h) ∙ simp (ne_eqb _ _ n, ← e, add-one)
 
-  pub take_end : length bs ≤ i → take_of l (drop i bs) i ≡ record { line = l; next = i; ended = false }
+  pub take_end : i ≡ length bs → take_of l (drop i bs) i ≡ record { line = l; next = length bs; ended = false }
   unfolding take_of
-  take_end h = ap (λ (t : List ℕ). take_of l t i) (drop_of_length-le bs h)
+  take_end e =
+      ap (λ (t : List ℕ). take_of l t i) (drop_of_length-le bs (omega arith))
+      ∙ ap (λ (n : ℕ). record { line = l; next = n; ended = false }) e
 
 -- the place behind what was taken
 pub take_next : (l : Line) (bs : List ℕ) (i : ℕ) → i ≤ (take_of l bs i).next

@@ -8,7 +8,7 @@ use Rattle.script.specs.declared.call.Call.TheVariants.{Block, Page, Poke, Other
 use Rattle.script.specs.declared.call.Asked.{Asked}
 use Rattle.script.specs.declared.line.Line.{Line}
 use Rattle.script.specs.Form.{Word, Form, other, bare, ending, form_of}
-use Rattle.script.specs.Reader.{done_of, last_word, seen_of}
+use Rattle.script.specs.Reader.{seen_of}
 
 -- replay: "One call to a line": a call with no value
 unfoldable pub plain : Call → Asked
@@ -81,10 +81,6 @@ replay_of (ending k (a ∷ (b ∷ (c ∷ (d ∷ (e ∷ ns))))) w) = plain Other
 -- replay: "One call to a line": what a line means, given by its bytes without the newline
 unfoldable pub line_of : List ℕ → Asked
 line_of bs = replay_of (form_of bs)
-
--- replay: "One call to a line": what a line of three words or more means that ends here
-unfoldable pub many_words : Line → Asked
-many_words l = replay_of (ending l.letter (done_of l []) (last_word l))
 
 -- replay: "One call to a line": what a line means that was taken byte by byte and ends here
 unfoldable pub meaning_of : Line → Asked

@@ -1,11 +1,13 @@
 // What a line of `replay` asks for.
-ghost use Rattle.std.specs.Prelude.{◌≡◌, ◌++◌, ◌≤◌};
-ghost use Rattle.script.specs.Reader.{wide, last_word};
-ghost use Rattle.script.specs.Replay.{plain as Replay·plain, wordless as Replay·wordless, one_number, two_numbers};
-ghost use Rattle.script.specs.Replay.{two_words, write_by, four_numbers, five_numbers, many_words, meaning_of};
+ghost use Rattle.std.specs.Prelude.{◌≡◌, unwrap_or};
+ghost use Rattle.script.specs.Reader.{last_word};
+ghost use Rattle.script.specs.Replay.{plain, wordless, one_number, two_numbers, two_words, write_by, four_numbers};
+ghost use Rattle.script.specs.Replay.{five_numbers, meaning_of};
 
-use crate::line;
 use crate::line::Line;
+
+// The most bytes that a buffer or a cache of a script has.
+const MOST_BYTES: u64 = 40000;
 
 // A call, a handover, a cut, or one of the lines that look at the bytes or put one; a write's value stands beside it.
 #[derive(Clone, Copy)]
@@ -39,234 +41,135 @@ pub struct Asked {
     pub value: [u8; 16],
 }
 
+#[tactic(auto, unfolding(crate::specs::Replay::plain))]
 fn plain(call: Call) -> Asked
-    ensures { result ≡ Replay·plain call }
+    ensures { result ≡ plain call }
 {
     Asked {
-        call: call,
-        value: [0u8; 16],
+        call,
+        value: [0; 16],
     }
 }
 
-// A letter alone.
-fn wordless(letter: u8) -> Call
-    ensures { result ≡ Replay·wordless letter }
+// What a letter alone asks for.
+#[tactic(auto, unfolding(crate::specs::Replay::wordless))]
+fn wordless(letter: u8) -> Option<Call>
+    ensures { unwrap_or result Call.Other ≡ wordless letter }
 {
     match letter {
-        b'X' => Call::Cut,
-        b'S' => Call::StoreLog,
-        b'K' => Call::Checkpoint,
-        _ => Call::Other,
+        b'X' => Some(Call::Cut),
+        b'S' => Some(Call::StoreLog),
+        b'K' => Some(Call::Checkpoint),
+        _ => None,
     }
 }
 
 // A letter and a number.
-fn one_number(letter: u8, n: u64) -> Call
-    ensures { result ≡ one_number letter n }
+#[tactic(auto, unfolding(crate::specs::Replay::one_number, crate::specs::Replay::at_most))]
+fn one_number(letter: u8, n: u64) -> Option<Call>
+    ensures { unwrap_or result Call.Other ≡ one_number letter n }
 {
-    match letter {
-        b'O' => {
-            if 255 < n {
-                return Call::Other;
-            }
-            Call::Open(n as u8)
-        }
-        b'o' => {
-            if 40000 < n {
-                return Call::Other;
-            }
-            Call::OpenSized(n)
-        }
+    Some(match letter {
+        b'O' => Call::Open(u8::try_from(n).ok()?),
+        b'o' if n <= MOST_BYTES => Call::OpenSized(n),
         b'B' => Call::Begin(n),
         b'A' => Call::Abort(n),
         b'P' => Call::StorePage(n),
         b'M' => Call::Block(n),
         b'V' => Call::Page(n),
-        _ => Call::Other,
-    }
+        _ => return None,
+    })
 }
 
-// A letter and two numbers; a record is at most 65535.
-fn two_numbers(letter: u8, a: u64, n: u64) -> Call
-    ensures { result ≡ two_numbers letter a n }
+// A letter and two numbers.
+#[tactic(auto, unfolding(crate::specs::Replay::two_numbers, crate::specs::Replay::at_most))]
+fn two_numbers(letter: u8, a: u64, n: u64) -> Option<Call>
+    ensures { unwrap_or result Call.Other ≡ two_numbers letter a n }
 {
-    match letter {
+    Some(match letter {
         b'F' => Call::Format(a, n),
-        b'E' => {
-            if 65535 < n {
-                return Call::Other;
-            }
-            Call::Erase(a, n as u16)
-        }
-        b'R' => {
-            if 65535 < n {
-                return Call::Other;
-            }
-            Call::Read(a, n as u16)
-        }
+        b'E' => Call::Erase(a, u16::try_from(n).ok()?),
+        b'R' => Call::Read(a, u16::try_from(n).ok()?),
         b'C' => Call::Commit(a, n),
-        b'Q' => {
-            if 65535 < a {
-                return Call::Other;
-            }
-            Call::AsOf(a as u16, n)
-        }
-        _ => Call::Other,
-    }
+        b'Q' => Call::AsOf(u16::try_from(a).ok()?, n),
+        _ => return None,
+    })
 }
 
 // A letter and two words.
-fn two_words(line: Line) -> Call
-    ensures { result ≡ two_words line.letter line.second (last_word line) }
+#[tactic(auto, unfolding(crate::specs::Replay::two_words))]
+fn two_words(line: Line) -> Option<Call>
+    ensures { unwrap_or result Call.Other ≡ two_words line.letter line.second (last_word line) }
 {
     if line.letter == b'Z' {
-        if line.hexes != 2 {
-            return Call::Other;
-        }
-        return Call::Poke(line.second, (line.high % 256) as u8);
+        return Some(Call::Poke(line.second, line.last_byte()?));
     }
-    if !line::is_number(line) {
-        return Call::Other;
-    }
-    two_numbers(line.letter, line.second, line.last)
+    two_numbers(line.letter, line.second, line.last_number()?)
 }
 
-// The sixteen bytes of two numbers, the most significant first.
-fn value_of(high: u64, low: u64) -> [u8; 16]
-    ensures { result ≡ wide 8 high ++ wide 8 low }
+// A write, behind a number and a record.
+fn write_of(line: Line) -> Option<Asked>
+    ensures { unwrap_or result (plain Call.Other) ≡ write_by line.third line.second (last_word line).value }
 {
-    let h1 = high / 256;
-    let h2 = h1 / 256;
-    let h3 = h2 / 256;
-    let h4 = h3 / 256;
-    let h5 = h4 / 256;
-    let h6 = h5 / 256;
-    let h7 = h6 / 256;
-    let l1 = low / 256;
-    let l2 = l1 / 256;
-    let l3 = l2 / 256;
-    let l4 = l3 / 256;
-    let l5 = l4 / 256;
-    let l6 = l5 / 256;
-    let l7 = l6 / 256;
-    [
-        (h7 % 256) as u8,
-        (h6 % 256) as u8,
-        (h5 % 256) as u8,
-        (h4 % 256) as u8,
-        (h3 % 256) as u8,
-        (h2 % 256) as u8,
-        (h1 % 256) as u8,
-        (high % 256) as u8,
-        (l7 % 256) as u8,
-        (l6 % 256) as u8,
-        (l5 % 256) as u8,
-        (l4 % 256) as u8,
-        (l3 % 256) as u8,
-        (l2 % 256) as u8,
-        (l1 % 256) as u8,
-        (low % 256) as u8,
-    ]
+    let value = line.last_value()?;
+    let record = u16::try_from(line.second).ok()?;
+    Some(Asked {
+        call: Call::Write(line.third, record),
+        value,
+    })
 }
 
-// A write, if the record is at most 65535 and the value has 32 digits.
-fn write_of(line: Line) -> Asked
-    ensures { result ≡ write_by line.third line.second (last_word line).value }
+// A list of changes.
+#[tactic(auto, unfolding(crate::specs::Replay::four_numbers, crate::specs::Replay::at_most))]
+fn four_numbers(line: Line, bytes: u64) -> Option<Call>
+    ensures { unwrap_or result Call.Other ≡ four_numbers line.letter line.fourth line.third line.second bytes }
 {
-    if line.hexes != 32 {
-        return plain(Call::Other);
+    if line.letter != b'L' || bytes > MOST_BYTES {
+        return None;
     }
-    if 65535 < line.second {
-        return plain(Call::Other);
-    }
-    Asked {
-        call: Call::Write(line.third, line.second as u16),
-        value: value_of(line.high, line.low),
-    }
+    let record = u16::try_from(line.fourth).ok()?;
+    Some(Call::Changes(record, line.third, line.second, bytes))
 }
 
-// A list of changes, if the record is at most 65535 and the buffer at most 40000.
-fn four_numbers(line: Line) -> Call
-    ensures { result ≡ four_numbers line.letter line.fourth line.third line.second line.last }
-{
-    if line.letter != b'L' {
-        return Call::Other;
-    }
-    if 65535 < line.fourth {
-        return Call::Other;
-    }
-    if 40000 < line.last {
-        return Call::Other;
-    }
-    Call::Changes(line.fourth as u16, line.third, line.second, line.last)
-}
-
-// A handover, if the flight is at most 65535 and both sectors are at most 255.
-fn five_numbers(line: Line) -> Call
-    ensures { result ≡ five_numbers line.letter line.fifth line.fourth line.third line.second line.last }
+// A handover.
+#[tactic(auto, unfolding(crate::specs::Replay::five_numbers, crate::specs::Replay::at_most))]
+fn five_numbers(line: Line, clock: u64) -> Option<Call>
+    ensures { unwrap_or result Call.Other ≡ five_numbers line.letter line.fifth line.fourth line.third line.second clock }
 {
     if line.letter != b'H' {
-        return Call::Other;
+        return None;
     }
-    if 65535 < line.fifth {
-        return Call::Other;
-    }
-    if 255 < line.fourth {
-        return Call::Other;
-    }
-    if 255 < line.third {
-        return Call::Other;
-    }
-    Call::Hand(
-        line.fifth as u16,
-        line.fourth as u8,
-        line.third as u8,
+    Some(Call::Hand(
+        u16::try_from(line.fifth).ok()?,
+        u8::try_from(line.fourth).ok()?,
+        u8::try_from(line.third).ok()?,
         line.second,
-        line.last,
-    )
+        clock,
+    ))
 }
 
-// What a line of three words or more asks for.
-fn many_words(line: Line) -> Asked
-    requires { 3 ≤ line.count }
-    ensures { result ≡ many_words line }
+#[tactic(auto, using(crate::proofs::ReaderLaws::seen), unfolding(crate::specs::Replay::meaning_of, crate::specs::Replay::replay_of))]
+fn request(line: Line) -> Option<Asked>
+    ensures { unwrap_or result (plain Call.Other) ≡ meaning_of line }
 {
-    if line.count == 3 {
-        if line.letter != b'W' {
-            return plain(Call::Other);
-        }
-        return write_of(line);
+    if line.bad || line.letter == 0 {
+        return None;
     }
-    if !line::is_number(line) {
-        return plain(Call::Other);
-    }
-    if line.count == 4 {
-        return plain(four_numbers(line));
-    }
-    plain(five_numbers(line))
+    let call = match line.count {
+        0 => wordless(line.letter)?,
+        1 => one_number(line.letter, line.last_number()?)?,
+        2 => two_words(line)?,
+        3 if line.letter == b'W' => return write_of(line),
+        3 => return None,
+        4 => four_numbers(line, line.last_number()?)?,
+        _ => five_numbers(line, line.last_number()?)?,
+    };
+    Some(plain(call))
 }
 
 // What a line asks for that ends here.
 pub fn meaning(line: Line) -> Asked
     ensures { result ≡ meaning_of line }
 {
-    if line.bad {
-        return plain(Call::Other);
-    }
-    if line.letter == 0 {
-        return plain(Call::Other);
-    }
-    if line.count == 0 {
-        return plain(wordless(line.letter));
-    }
-    if line.count == 1 {
-        if !line::is_number(line) {
-            return plain(Call::Other);
-        }
-        return plain(one_number(line.letter, line.last));
-    }
-    if line.count == 2 {
-        return plain(two_words(line));
-    }
-    many_words(line)
+    request(line).unwrap_or(plain(Call::Other))
 }

@@ -1,10 +1,8 @@
 // A line of a script, taken byte by byte: a letter, then words, each behind one space. All words but the last are
 // decimal numbers; the last is read as a decimal number and as hex digits side by side.
-ghost use Rattle.std.specs.Prelude.{◌≡◌, ◌+◌, ◌*◌, ◌<◌, ◌≤◌, ◌^◌, length, drop, cond, ltb};
-ghost use Rattle.script.specs.Words.{is_in, hex_digit};
-ghost use Rattle.script.specs.Form.{is_letter};
-ghost use Rattle.script.specs.Reader.{no_line, spoilt as Reader·spoilt, with_letter, is_number, next_word, with_space};
-ghost use Rattle.script.specs.Reader.{stays_number, one_more, pushed, with_digit, no_word, grown, take_of};
+ghost use Rattle.std.specs.Prelude.{◌≡◌, [], ◌∷◌, ◌+◌, ◌*◌, ◌<◌, ◌≤◌, length, drop, cond, unwrap_or, option_map, IfSome};
+ghost use Rattle.script.specs.Words.{hex_digit};
+ghost use Rattle.script.specs.Reader.{no_line, pushed, take_of};
 
 // What was taken of a line: its letter (0: none yet), how many words were begun behind it, the four numbers before the
 // last word, the last word's number, whether the word is all digits and below 2^64, its hex digits counted (33: too
@@ -25,6 +23,7 @@ pub struct Line {
     pub bad: bool,
 }
 
+#[tactic(auto, unfolding(crate::specs::Reader::no_line))]
 pub fn empty() -> Line
     ensures { result ≡ no_line }
 {
@@ -44,141 +43,17 @@ pub fn empty() -> Line
     }
 }
 
-fn spoilt(line: Line) -> Line
-    ensures { result ≡ Reader·spoilt line }
+// The number that a hex digit is.
+#[tactic(auto, unfolding(crate::specs::Words::hex_digit, crate::specs::Words::is_digit, crate::specs::Words::is_in))]
+fn hex_digit(b: u8) -> Option<u64>
+    ensures value { unwrap_or result 16 ≡ hex_digit b }
+    ensures bound { IfSome result (λ digit. digit < 16) }
 {
-    let mut l = line;
-    l.bad = true;
-    l
-}
-
-// Is the byte one of those from low to high?
-fn is_in(b: u8, low: u8, high: u8) -> bool
-    ensures { result ≡ is_in low high b }
-{
-    if b < low {
-        return false;
+    match b {
+        b'0'..=b'9' => Some(u64::from(b - b'0')),
+        b'a'..=b'f' => Some(u64::from(b - b'a') + 10),
+        _ => None,
     }
-    b <= high
-}
-
-// Is the byte a letter?
-fn is_letter(b: u8) -> bool
-    ensures { result ≡ is_letter b }
-{
-    if is_in(b, b'A', b'Z') {
-        return true;
-    }
-    is_in(b, b'a', b'z')
-}
-
-// The line with its first byte.
-fn with_letter(line: Line, b: u8) -> Line
-    ensures { result ≡ with_letter line b }
-{
-    if !is_letter(b) {
-        return spoilt(line);
-    }
-    let mut l = line;
-    l.letter = b;
-    l
-}
-
-// Is the last word a number?
-pub fn is_number(line: Line) -> bool
-    ensures { result ≡ is_number line }
-{
-    if line.hexes == 0 {
-        return false;
-    }
-    line.number
-}
-
-// The line with another word begun.
-fn next_word(line: Line) -> Line
-    requires { line.count < 5 }
-    ensures { result ≡ next_word line }
-{
-    let mut l = line;
-    l.count = line.count + 1;
-    l.fifth = line.fourth;
-    l.fourth = line.third;
-    l.third = line.second;
-    l.second = line.last;
-    l.last = 0;
-    l.number = true;
-    l.hexes = 0;
-    l.high = 0;
-    l.low = 0;
-    l
-}
-
-// The line with a space behind it: another word begins.
-fn with_space(line: Line) -> Line
-    ensures { result ≡ with_space line }
-{
-    if line.letter == 0 {
-        return spoilt(line);
-    }
-    if line.count == 0 {
-        return next_word(line);
-    }
-    if 5 <= line.count {
-        return spoilt(line);
-    }
-    if !is_number(line) {
-        return spoilt(line);
-    }
-    next_word(line)
-}
-
-// The hex digit that a byte is; 16 for a byte that is none.
-fn hex_digit(b: u8) -> u64
-    ensures { result ≡ hex_digit b }
-{
-    if is_in(b, b'0', b'9') {
-        return (b - b'0') as u64;
-    }
-    if is_in(b, b'a', b'f') {
-        return (b - 87) as u64;
-    }
-    16
-}
-
-// Does a number stay below 2^64 with a digit behind it?
-fn has_room(n: u64, digit: u64) -> bool
-    requires { digit ≤ 9 }
-    ensures { result ≡ ltb (10 * n + digit) (2 ^ 64) }
-{
-    if n < 1844674407370955161 {
-        return true;
-    }
-    if n == 1844674407370955161 {
-        return digit <= 5;
-    }
-    false
-}
-
-// Is the last word a number with this digit too?
-fn stays_number(line: Line, digit: u64) -> bool
-    ensures { result ≡ stays_number line digit }
-{
-    if !line.number {
-        return false;
-    }
-    if 10 <= digit {
-        return false;
-    }
-    has_room(line.last, digit)
-}
-
-fn one_more(n: u8) -> u8
-    ensures { result ≡ one_more n }
-{
-    if 32 <= n {
-        return 33;
-    }
-    n + 1
 }
 
 // A hex digit behind a number of 64 bits.
@@ -186,76 +61,157 @@ fn push(n: u64, digit: u64) -> u64
     requires { digit < 16 }
     ensures { result ≡ pushed n digit }
 {
-    n % 1152921504606846976 * 16 + digit
+    (n << 4) | digit
 }
 
-// The high half takes the first sixteen digits.
-fn high_with(line: Line, digit: u64) -> u64
-    requires { digit < 16 }
-    ensures { result ≡ cond (ltb line.hexes 16) (pushed line.high digit) line.high }
-{
-    if line.hexes < 16 {
-        return push(line.high, digit);
-    }
-    line.high
-}
+impl Line {
+    ghost use Rattle.script.specs.Reader.{spoilt, with_letter, is_number, next_word, with_space, stays_number, with_digit};
+    ghost use Rattle.script.specs.Reader.{no_word, grown, last_word};
 
-// The low half takes the others.
-fn low_with(line: Line, digit: u64) -> u64
-    requires { digit < 16 }
-    ensures { result ≡ cond (ltb line.hexes 16) line.low (pushed line.low digit) }
-{
-    if line.hexes < 16 {
-        return line.low;
+    // It is of another form, whatever comes.
+    #[tactic(auto, unfolding(crate::specs::Reader::spoilt))]
+    fn spoilt(self) -> Line
+        ensures { result ≡ spoilt self }
+    {
+        Line { bad: true, ..self }
     }
-    push(line.low, digit)
-}
 
-// The line with a digit behind its last word.
-fn with_digit(line: Line, digit: u64) -> Line
-    requires { digit < 16 }
-    ensures { result ≡ with_digit line digit }
-{
-    let mut l = line;
-    l.hexes = one_more(line.hexes);
-    l.high = high_with(line, digit);
-    l.low = low_with(line, digit);
-    if !stays_number(line, digit) {
-        l.number = false;
-        return l;
+    // With its first byte.
+    #[tactic(auto, unfolding(crate::specs::Reader::with_letter, crate::specs::Reader::lettered, crate::specs::Form::is_letter, crate::specs::Words::is_in))]
+    fn with_letter(self, b: u8) -> Line
+        ensures { result ≡ with_letter self b }
+    {
+        if !b.is_ascii_alphabetic() {
+            return self.spoilt();
+        }
+        Line { letter: b, ..self }
     }
-    l.last = 10 * line.last + digit;
-    l
-}
 
-// The line with a byte behind its last word that is no digit.
-fn no_word(line: Line) -> Line
-    ensures { result ≡ no_word line }
-{
-    let mut l = line;
-    l.number = false;
-    l.hexes = 33;
-    l
-}
+    // Is the last word a number?
+    #[tactic(auto, unfolding(crate::specs::Reader::is_number))]
+    pub fn is_number(self) -> bool
+        ensures { result ≡ is_number self }
+    {
+        self.hexes != 0 && self.number
+    }
 
-// The line with one byte more.
-fn with_byte(line: Line, b: u8) -> Line
-    ensures { result ≡ grown line b }
-{
-    if b == b' ' {
-        return with_space(line);
+    // With another word begun.
+    #[tactic(auto, unfolding(crate::specs::Reader::next_word, crate::specs::Reader::no_line))]
+    fn next_word(self) -> Line
+        requires { self.count < 5 }
+        ensures { result ≡ next_word self }
+    {
+        Line {
+            letter: self.letter,
+            count: self.count + 1,
+            fifth: self.fourth,
+            fourth: self.third,
+            third: self.second,
+            second: self.last,
+            bad: self.bad,
+            ..empty()
+        }
     }
-    if line.letter == 0 {
-        return with_letter(line, b);
+
+    // With a space behind it: another word begins.
+    #[tactic(auto, unfolding(crate::specs::Reader::with_space))]
+    fn with_space(self) -> Line
+        ensures { result ≡ with_space self }
+    {
+        match self.count {
+            _ if self.letter == 0 => self.spoilt(),
+            0 => self.next_word(),
+            1..5 if self.is_number() => self.next_word(),
+            _ => self.spoilt(),
+        }
     }
-    if line.count == 0 {
-        return spoilt(line);
+
+    // The last word's number with a digit behind it, if it stays one below 2^64.
+    #[tactic(auto, unfolding(crate::specs::Reader::stays_number))]
+    fn number_with(self, digit: u64) -> Option<u64>
+        ensures { result ≡ cond (stays_number self digit) (Some (10 * self.last + digit)) None }
+    {
+        if !self.number || digit >= 10 {
+            return None;
+        }
+        self.last.checked_mul(10)?.checked_add(digit)
     }
-    let digit = hex_digit(b);
-    if digit < 16 {
-        return with_digit(line, digit);
+
+    // With a digit behind its last word.
+    #[tactic(auto, unfolding(crate::specs::Reader::with_digit, crate::specs::Reader::one_more))]
+    fn with_digit(mut self, digit: u64) -> Line
+        requires { digit < 16 }
+        ensures { result ≡ with_digit self digit }
+    {
+        let number = self.number_with(digit);
+        self.number = number.is_some();
+        self.last = number.unwrap_or(self.last);
+        if self.hexes < 16 {
+            self.high = push(self.high, digit);
+        } else {
+            self.low = push(self.low, digit);
+        }
+        self.hexes = self.hexes.min(32) + 1;
+        self
     }
-    no_word(line)
+
+    // With a byte behind its last word that is no digit.
+    #[tactic(auto, unfolding(crate::specs::Reader::no_word))]
+    fn no_word(self) -> Line
+        ensures { result ≡ no_word self }
+    {
+        Line {
+            number: false,
+            hexes: 33,
+            ..self
+        }
+    }
+
+    // With one byte more.
+    #[tactic(auto, unfolding(crate::specs::Reader::grown))]
+    fn with_byte(self, b: u8) -> Line
+        ensures { result ≡ grown self b }
+    {
+        if b == b' ' {
+            return self.with_space();
+        }
+        if self.letter == 0 {
+            return self.with_letter(b);
+        }
+        if self.count == 0 {
+            return self.spoilt();
+        }
+        match hex_digit(b) {
+            Some(digit) => self.with_digit(digit),
+            None => self.no_word(),
+        }
+    }
+
+    // The last word as a number, as sixteen bytes, as one byte: each only if it is one.
+    #[tactic(auto, unfolding(crate::specs::Reader::last_word))]
+    pub fn last_number(self) -> Option<u64>
+        ensures { result ≡ (last_word self).number }
+    {
+        self.is_number().then_some(self.last)
+    }
+
+    #[tactic(auto, unfolding(crate::specs::Reader::last_word))]
+    pub fn last_value(self) -> Option<[u8; 16]>
+        ensures { result ≡ (last_word self).value }
+    {
+        if self.hexes != 32 {
+            return None;
+        }
+        let value = (u128::from(self.high) << 64) | u128::from(self.low);
+        Some(value.to_be_bytes())
+    }
+
+    #[tactic(auto, unfolding(crate::specs::Reader::last_word, crate::specs::Reader::wide))]
+    pub fn last_byte(self) -> Option<u8>
+        ensures { option_map (λ b. b ∷ []) result ≡ (last_word self).byte }
+    {
+        (self.hexes == 2).then_some((self.high & 0xff) as u8)
+    }
 }
 
 // A line with the bytes that are its own, the place of the first byte behind them, and whether it ended, at a newline.
@@ -267,28 +223,23 @@ pub struct Taken {
 }
 
 // Goes on with a line from a place of the bytes, up to its end or to theirs.
-pub fn take(line: Line, bytes: &[u8], from: usize) -> Taken
+pub fn take(mut line: Line, bytes: &[u8], from: usize) -> Taken
     requires { from ≤ length bytes.now }
     ensures { result ≡ take_of line (drop from bytes.now) from }
 {
-    let mut l = line;
-    let mut i = from;
-    while i < bytes.len() {
-        let b = bytes[i];
-        i += 1;
-        if b == b'\n' {
+    for i in from..bytes.len() {
+        if bytes[i] == b'\n' {
             return Taken {
-                line: l,
-                next: i,
+                line,
+                next: i + 1,
                 ended: true,
             };
         }
-        let longer = with_byte(l, b);
-        l = longer;
+        line = line.with_byte(bytes[i]);
     }
     Taken {
-        line: l,
-        next: i,
+        line,
+        next: bytes.len(),
         ended: false,
     }
 }

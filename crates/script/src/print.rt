@@ -22,12 +22,9 @@ pub fn bytes(out: &mut [u8], n: usize, text: &[u8]) -> usize
     ensures value { result ≡ n + length text.now }
     ensures out_after { take result out.new ≡ take n out.old ++ text.now }
 {
-    let mut i: usize = 0;
-    while i < text.len() {
-        out[n + i] = text[i];
-        i += 1;
-    }
-    n + i
+    let end = n + text.len();
+    out[n..end].copy_from_slice(text);
+    end
 }
 
 // Puts a number in decimal behind the first n bytes.
@@ -46,10 +43,7 @@ fn digit(d: u8) -> u8
     requires { d < 16 }
     ensures { result ≡ hex_digit_ascii d }
 {
-    if d < 10 {
-        return 48 + d;
-    }
-    87 + d
+    if d < 10 { b'0' + d } else { b'a' + (d - 10) }
 }
 
 // Puts two hex digits for each byte of the text behind the first n bytes.
@@ -59,18 +53,15 @@ pub fn hex(out: &mut [u8], n: usize, text: &[u8]) -> usize
     ensures out_after { take result out.new ≡ take n out.old ++ hex_of text.now }
 {
     let mut at = n;
-    let mut i: usize = 0;
-    while i < text.len() {
-        let b = text[i];
-        let high = byte(out, at, digit(b / 16));
-        let low = byte(out, high, digit(b % 16));
-        at = low;
-        i += 1;
+    for b in text {
+        at = byte(out, at, digit(b / 16));
+        at = byte(out, at, digit(b % 16));
     }
     at
 }
 
 // The number of a refusal.
+#[tactic(auto, unfolding(store::specs::Answer::refusal_number))]
 pub fn number_of(r: Refusal) -> u64
     ensures { result ≡ refusal_number r }
 {

@@ -19,8 +19,8 @@ returns-in_default c = master_broken _ _ _ _ c.read.ensures c.in_default.is
 
 pub returns-then-contains : goal.returns-then-contains
 unfolding blk
-returns-then-contains c = rw (master_is c.args.medium.now c.args.blocks c.args.pages _ _ c.read.ensures c.in-Whole.is) (grind (arith, common_steps, one_up))
+returns-then-contains c = rw (master_is c.args.medium.now c.args.blocks c.args.pages _ _ c.read.ensures c.in-Some.is) (grind (arith, common_steps, one_up))
 
 pub returns-else-contains : goal.returns-else-contains
 unfolding blk
-returns-else-contains c = rw (master_is c.args.medium.now c.args.blocks c.args.pages _ _ c.read.ensures c.in-Whole.is) (grind (arith, common_steps, one_up))
+returns-else-contains c = rw (master_is c.args.medium.now c.args.blocks c.args.pages _ _ c.read.ensures c.in-Some.is) (grind (arith, common_steps, one_up))

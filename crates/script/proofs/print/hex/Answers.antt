@@ -1,38 +1,20 @@
--- Invariant: the digits of the first bytes stand behind the first n.
-use mathlib.Core.Path.{refl, sym, ◌∙◌}
+-- Two digits more behind those of the first bytes are the digits of one byte more.
 use mathlib.Core.List.{append-nil}
+use mathlib.Core.Path.{sym}
 use native.Mathlib.Omega.{arith}
 use lib.ListN.{take}
 use Rattle.script.specs.Print.{hex_of}
-use Rattle.script.proofs.PrintLaws.{hex_turn, hex_end}
+use Rattle.script.proofs.PrintLaws.{hex_turn}
 use Rattle.script.proofs.print.hex.Goals as goal
 
-pub loop-i-init : goal.loop-i-init
+pub loop-b-init : goal.loop-b-init
 unfolding hex_of
-loop-i-init c = (omega arith, omega arith, refl, sym (append-nil (take c.args.n c.args.out.now)))
+loop-b-init c = (omega arith, sym (append-nil (take c.args.n c.args.out.now)))
 
-pub digit-requires : goal.digit-requires
-digit-requires c = omega (arith, c.type_inv.text c.loop-i.i)
-
-pub digit-requires-in-loop-i : goal.digit-requires-in-loop-i
-digit-requires-in-loop-i c = omega (arith, c.type_inv.text c.loop-i.i)
-
-pub loop-i-preserved : goal.loop-i-preserved
-loop-i-preserved c = (
+pub loop-b-preserved : goal.loop-b-preserved
+loop-b-preserved c = (
   omega arith,
-  omega arith,
-  c.byte-low.auto.out ∙ (c.byte-high.auto.out ∙ c.loop-i.invariant.2),
-  hex_turn _ _ _ (take c.args.n c.args.out.now) c.args.text.now c.loop-i.i _ _ c.loop-i-test.true c.loop-i.invariant.3
-      c.byte-high.ensures.out_after c.byte-low.ensures.out_after c.digit.ensures c.digit-in-loop-i.ensures,
+  hex_turn _ _ _ (take c.args.n c.args.out.now) c.args.text.now c.loop-b.b-index _ _ c.loop-b-test.true
+      c.loop-b.invariant.1 c.byte-at.ensures.out_after c.byte-at-in-loop-b.ensures.out_after c.digit.ensures
+      c.digit-in-loop-b.ensures,
 )
-
-pub shape_of-out : goal.shape_of-out
-shape_of-out c = c.loop-i.invariant.2
-
-pub returns : goal.returns
-returns c =
-    record {
-      value = omega arith;
-      out_after =
-          hex_end _ (take c.args.n c.args.out.now) c.args.text.now c.loop-i.i c.loop-i-test.false c.loop-i.invariant.3;
-    }
