@@ -1,20 +1,18 @@
 -- A slot below the room lies within the cache, and its fields lie at fixed places in it; a state that fits has room for
 -- its slots. Assumes nothing.
 use Rattle.std.specs.Prelude.{Option, Some}
-use mathlib.Core.Path.{◌≡◌, ap, subst}
+use mathlib.Core.Path.{◌≡◌, subst}
 use mathlib.Core.Bool.{true}
-use Prim.Native.Nat.{ℕ, suc, ◌+◌, ◌-◌, ◌%◌, ◌≤◌, ◌<◌}
+use Prim.Native.Nat.{ℕ, suc, ◌+◌, ◌≤◌, ◌<◌}
 use native.Mathlib.Omega.{arith}
 use mathlib.Core.List.{List}
-use lib.ListN.{take, drop, get_or}
+use lib.ListN.{drop, get_or}
 use lib.Seq.{get_or-take, get_or-drop}
-use Rattle.fields.specs.Field.{dec}
 use Rattle.fields.specs.Part.{part}
 use Rattle.fields.specs.Block.{slot_at, cache_length}
 use Rattle.layout.specs.Page.{cache_slot}
-use Rattle.layout.specs.Slot.{slot_state, slot_key, cell_of}
-use Rattle.layout.specs.declared.slot.Slot.{Slot}
-use Rattle.fields.proofs.PartLaws.{lent_part, part_part}
+use Rattle.layout.specs.Slot.{cell_of}
+use Rattle.fields.proofs.PartLaws.{part_part}
 use Rattle.store.specs.declared.State.{State}
 use Rattle.store.specs.Chain.{cell_at}
 use Rattle.store.specs.State.{fits}
@@ -41,14 +39,6 @@ pub head_at : (head : Option ℕ) (l s : ℕ) → head ≡ Some s → Head head 
 head_at head l s e h = subst (λ (f : Option ℕ). Head f l) e h
 
 -- the fields of slot n, which begins at a: v is what the code read
-pub state_read : (c : List ℕ) (n a : ℕ) (v : Slot) → a ≡ slot_at n → v ≡ slot_state (take (a + 32 - a) (drop a c)) → v ≡ (cell_at c n).state
-unfolding cell_at cell_of cache_slot
-state_read c n a v e h = rw (lent_part c a 32, e) at h
-
-pub key_read : (c : List ℕ) (n a v : ℕ) → a ≡ slot_at n → v ≡ slot_key (take (a + 32 - a) (drop a c)) → v ≡ (cell_at c n).key
-unfolding cell_at cell_of cache_slot
-key_read c n a v e h = rw (lent_part c a 32, e) at h
-
 byte_read : (c : List ℕ) (n a i : ℕ) → a ≡ slot_at n → i < 32 → get_or c (a + i) 0 ≡ get_or (cache_slot c n) i 0
 unfolding cache_slot
 byte_read c n a i e h = rw (e, get_or-take 32 (drop (slot_at n) c) i 0 h, get_or-drop (slot_at n) c i 0)
@@ -57,17 +47,9 @@ part_read : (c : List ℕ) (n a i m : ℕ) → a ≡ slot_at n → i + m ≤ 32 
 unfolding cache_slot
 part_read c n a i m e h = rw (e, part_part c (slot_at n) 32 i m h)
 
-pub low_read : (c : List ℕ) (n a : ℕ) → a ≡ slot_at n → get_or c (a + 1) 0 < 256 → get_or c (a + 1) 0 ≡ (cell_at c n).key % 256
-unfolding cell_at cell_of slot_key
-low_read c n a e h = let q : get_or c (a + 1) 0 ≡ get_or (cache_slot c n) 1 0 = byte_read c n a 1 e (omega arith) in omega arith
-
 pub kind_read : (c : List ℕ) (n a : ℕ) → a ≡ slot_at n → get_or c (a + 2) 0 ≡ (cell_at c n).kind
 unfolding cell_at cell_of
 kind_read c n a e = byte_read c n a 2 e (omega arith)
-
-pub earlier_read : (c : List ℕ) (n a : ℕ) → a ≡ slot_at n → dec (part c (a + 4) 2) ≡ (cell_at c n).earlier
-unfolding cell_at cell_of
-earlier_read c n a e = ap dec (part_read c n a 4 2 e (omega arith))
 
 pub value_read : (c : List ℕ) (n a : ℕ) → a ≡ slot_at n → part c (a + 16) 16 ≡ (cell_at c n).value
 unfolding cell_at cell_of

@@ -1,19 +1,29 @@
 // A slot of the cache, by its number in the store.
-#![tactic(auto)]
+#![tactic(auto, unfolding(store::specs::Chain::cell_at, layout::specs::Slot::cell_of))]
 
-ghost use Rattle.std.specs.Prelude.{◌≡◌, suc, ◌+◌, ◌%◌, length};
+ghost use Rattle.std.specs.Prelude.{◌≡◌, suc, ◌%◌, length};
+ghost use Rattle.layout.specs.Page.{cache_slot};
 ghost use Rattle.store.specs.Chain.{cell_at, is_version};
 ghost use Rattle.cached.specs.Room.{Room};
 
 use layout::slot::Slot;
+
+// The 32 bytes of a slot.
+pub fn slot(cache: &[u8], n: u64) -> &[u8]
+    requires { Room (length cache.now) (suc n) }
+    ensures bytes { result.now ≡ cache_slot cache.now n }
+    ensures len { length result.now ≡ 32 }
+{
+    let a = layout::place::slot_at(n);
+    &cache[a..a + 32]
+}
 
 // What a slot of the cache says.
 pub fn state_at(cache: &[u8], n: u64) -> Slot
     requires { Room (length cache.now) (suc n) }
     ensures { result ≡ (cell_at cache.now n).state }
 {
-    let a = layout::place::slot_at(n);
-    layout::slot::read(&cache[a..a + 32])
+    layout::slot::read(slot(cache, n))
 }
 
 // The record number of a slot.
@@ -21,8 +31,7 @@ pub fn key_at(cache: &[u8], n: u64) -> u16
     requires { Room (length cache.now) (suc n) }
     ensures { result ≡ (cell_at cache.now n).key }
 {
-    let a = layout::place::slot_at(n);
-    layout::slot::key(&cache[a..a + 32])
+    layout::slot::key(slot(cache, n))
 }
 
 // The low byte of a slot's record number.
@@ -30,8 +39,7 @@ pub fn low_at(cache: &[u8], n: u64) -> u8
     requires { Room (length cache.now) (suc n) }
     ensures { result ≡ (cell_at cache.now n).key % 256 }
 {
-    let a = layout::place::slot_at(n);
-    cache[a + 1]
+    slot(cache, n)[1]
 }
 
 // The earlier slot that a slot names.
@@ -39,17 +47,12 @@ pub fn earlier_at(cache: &[u8], n: u64) -> u64
     requires { Room (length cache.now) (suc n) }
     ensures { result ≡ (cell_at cache.now n).earlier }
 {
-    let a = layout::place::slot_at(n);
-    fields::field::get2(cache, a + 4)
+    fields::field::get2(slot(cache, n), 4)
 }
 
 // Is it a version? An empty slot is none.
 pub fn is_version(slot: Slot) -> bool
     ensures { result ≡ is_version slot }
 {
-    match slot {
-        Slot::Empty => false,
-        Slot::Waiting(_) => true,
-        Slot::Stamped(_) => true,
-    }
+    !matches!(slot, Slot::Empty)
 }

@@ -18,7 +18,8 @@ use Rattle.store.specs.declared.State.{State}
 use Rattle.store.specs.Places.{time_under}
 use Rattle.store.specs.Chain.{newest, cell_at, best_of}
 use Rattle.store.specs.Changes.{Line, differs_from, line_of, before, lines_at, lines_below, change_lines}
-use Rattle.chain.specs.Ranked.{Dated, ranked_of}
+use Rattle.chain.specs.declared.ranked.Dated.{Dated}
+use Rattle.chain.specs.Ranked.{ranked_of}
 use Rattle.chain.proofs.RankedLaws.{first_at, ranked_best}
 
 -- ---- a version found as of t is found as of each time from its own to t
@@ -33,11 +34,11 @@ first_since : (t : ℕ) (es : List Dated) {b : Option (ℕ × CommitTime)} → f
 unfolding first_at
 first_since t [] q = (omega (arith, ap time_of q), λ v h l. q)
 first_since t (e ∷ es) q =
-    cond_cases (leb e.time t) q
-    (λ y p. (omega (arith, leb-true e.time t y, ap time_of p), λ v h l. simp (le-leb e.time v (omega (arith, ap time_of p))) p))
+    cond_cases (leb e.time.0 t) q
+    (λ y p. (omega (arith, leb-true e.time.0 t y, ap time_of p), λ v h l. simp (le-leb e.time.0 v (omega (arith, ap time_of p))) p))
     (λ y p.
     let r = first_since t es p in
-    (r.0, λ v h l. simp (lt-leb e.time v (omega (arith, leb-false e.time t y))) (r.1 v h l)))
+    (r.0, λ v h l. simp (lt-leb e.time.0 v (omega (arith, leb-false e.time.0 t y))) (r.1 v h l)))
 
 best_since : (c : List ℕ) (pair : ℕ → Option CommitTime) (head : Option ℕ) (t : ℕ) {b : Option (ℕ × CommitTime)} → best_of head c pair t ≡ b
     → (time_of b ≤ t) × ((v : ℕ) → time_of b ≤ v → v ≤ t → best_of head c pair v ≡ b)

@@ -1,7 +1,6 @@
 pub mod NewestLaws
 pub mod VisibleLaws
 pub mod BestLaws
-pub mod PairLaws
 pub mod InsertLaws
 pub mod RankedLaws
 pub mod LineLaws

@@ -2,7 +2,8 @@
 -- the blocks and the pages. Each turn is one clause of the definition; assumes nothing.
 use mathlib.Core.Path.{◌≡◌, refl, sym, ap, ◌∙◌}
 use mathlib.Core.Bool.{Bool, true, false, ◌&&◌}
-use Prim.Native.Nat.{ℕ, zero, suc, ◌+◌, ◌-◌, ◌*◌, ◌≤◌, ◌<◌, ◌^◌}
+use mathlib.Core.Logic.{◌⊎◌, ⊎_elim}
+use Prim.Native.Nat.{ℕ, zero, suc, ◌+◌, ◌-◌, ◌*◌, ◌≤◌, ◌<◌, ◌^◌, min}
 use native.Mathlib.Nat.{add-zero, sub-zero}
 use native.Mathlib.Numerals.{add-one}
 use native.Mathlib.Omega.{arith}
@@ -10,7 +11,7 @@ use mathlib.Core.List.{List, [], ◌∷◌, ◌++◌}
 use lib.ListN.{length, take, drop, length-take, length-drop, drop_of_length-le}
 use lib.Seq.{drop-drop}
 use lib.Dec.{leb, ltb}
-use borrow.Author.Tests.{lt-ltb, le-ltb, le-leb, lt-leb}
+use borrow.Author.Tests.{lt-ltb, le-ltb}
 use Rattle.fields.specs.Part.{part}
 use Rattle.fields.specs.Block.{blk, page_block_at}
 use Rattle.layout.specs.Page.{page_form, page_end}
@@ -47,13 +48,9 @@ pub body_used : (b : List ℕ) → length (body_of b) ≤ used_of b - 10
 unfolding body_of
 body_used b = simp (length-take, length-drop) (omega arith)
 
-pub body_whole : (b : List ℕ) → length b ≡ 512 → used_of b ≤ 512 → length (body_of b) ≡ used_of b - 10
+pub body_is : (b : List ℕ) → length b ≡ 512 → length (body_of b) ≡ min (used_of b - 10) 502
 unfolding body_of
-body_whole b h k = simp (length-take, length-drop) (omega arith)
-
-pub body_over : (b : List ℕ) → length b ≡ 512 → 512 ≤ used_of b → length (body_of b) ≡ 502
-unfolding body_of
-body_over b h k = simp (length-take, length-drop) (omega arith)
+body_is b h = simp (length-take, length-drop) (omega arith)
 
 -- the bytes from an offset on, as `&block[at..end]` is lent
 pub body_from : (b : List ℕ) (at end : ℕ) → 10 ≤ at → at ≤ end → end ≡ 10 + length (body_of b)
@@ -121,11 +118,8 @@ module _ (b : List ℕ) (at : ℕ) (low : 10 ≤ at) (i : Item) (read : i ≡ it
   pub left_end : i ≡ End → left_of b at ≡ record { records = []; whole = true }
   left_end e = left_is ∙ rw e
 
-  pub left_number : (t n : ℕ) → i ≡ Number t n → left_of b at ≡ record { records = []; whole = false }
-  left_number t n e = left_is ∙ rw e
-
-  pub left_damaged : i ≡ Damaged → left_of b at ≡ record { records = []; whole = false }
-  left_damaged e = left_is ∙ rw e
+  pub left_cut : ((t : ℕ) × (n : ℕ) × (i ≡ Number t n)) ⊎ (i ≡ Damaged) → left_of b at ≡ record { records = []; whole = false }
+  left_cut e = left_is ∙ ⊎_elim (λ w. rw w.2) (λ q. rw q) e
 
   version_room : (h : VersionHead) → i ≡ Version h → 32 + bytes_of h.width ≤ length (drop (at - 10) (body_of b))
   version_room h e = let t : Told Journal (drop (at - 10) (body_of b)) (Version h) = rw e at told_here in omega (arith, t.0.room)
@@ -133,11 +127,11 @@ module _ (b : List ℕ) (at : ℕ) (low : 10 ≤ at) (i : Item) (read : i ≡ it
   commit_room : (p : Pair) → i ≡ Commit p → 19 ≤ length (drop (at - 10) (body_of b))
   commit_room p e = let t : Told Journal (drop (at - 10) (body_of b)) (Commit p) = rw e at told_here in t.0.room
 
-  pub version_in : (h : VersionHead) → length b ≤ 512 → i ≡ Version h → at + (32 + bytes_of h.width) ≤ 512
-  version_in h n e = record_in b at (32 + bytes_of h.width) n low (version_room h e) (omega arith)
+  pub version_in : (h : VersionHead) (w : ℕ) → length b ≡ 512 → i ≡ Version h → w ≡ bytes_of h.width → at + 32 + w ≤ 512
+  version_in h w n e f = omega (arith, record_in b at (32 + bytes_of h.width) (omega arith) low (version_room h e) (omega arith))
 
-  pub commit_in : (p : Pair) → length b ≤ 512 → i ≡ Commit p → at + 19 ≤ 512
-  commit_in p n e = record_in b at 19 n low (commit_room p e) (omega arith)
+  pub commit_in : (p : Pair) → length b ≡ 512 → i ≡ Commit p → at + 19 ≤ 512
+  commit_in p n e = record_in b at 19 (omega arith) low (commit_room p e) (omega arith)
 
   pub left_version : (h : VersionHead) (end : ℕ) → i ≡ Version h → end ≡ at + (32 + bytes_of h.width)
       → left_of b at ≡ onward (version h (part b (end - 16) 16)) (left_of b end)
@@ -179,20 +173,23 @@ module _ {d low start : ℕ} {p r q : Parsed} (x : Record) (s : Same d low p sta
   unfolding records_ok
   same_stop g = rw (e, sym f ∙ g) at s.ok
 
--- at the item that was read; a version's value is lent as `&block[v..v + 16]`, where v is `end - 16`
+-- at the item that was read; a version's value is lent as `&block[end - 16..end]`, where `end` is `at + 32 + w`
 module _ (b : List ℕ) (at : ℕ) (from : 10 ≤ at) (i : Item) (read : i ≡ item_of Journal (drop (at - 10) (body_of b))) {d low start : ℕ} {q : Parsed}
     (s : Same d low (left_of b at) start q) (t : Bool) where
-  module _ (h : VersionHead) (end : ℕ) (is-version : i ≡ Version h) (is-end : end ≡ at + (32 + bytes_of h.width))
-      (judged : t ≡ (key_form h.key && kind_form h.kind (take (end - 16 + 16 - (end - 16)) (drop (end - 16) b))) && ltb h.slot (15 * d)) where
-    found : t ≡ record_form (version h (part b (end - 16) 16)) && record_fits d low (version h (part b (end - 16) 16))
+  module _ (h : VersionHead) (w : ℕ) (is-version : i ≡ Version h) (is-width : w ≡ bytes_of h.width)
+      (judged : t ≡ (key_form h.key && kind_form h.kind (take (at + 32 + w - (at + 32 + w - 16)) (drop (at + 32 + w - 16) b))) && ltb h.slot (15 * d)) where
+    found : t ≡ record_form (version h (part b (at + 32 + w - 16) 16)) && record_fits d low (version h (part b (at + 32 + w - 16) 16))
     unfolding record_form
-    found = rw (lent_part b (end - 16) 16) at judged
+    found = let e : at + 32 + w - (at + 32 + w - 16) ≡ 16 = omega arith in rw e at judged
 
-    pub version_turn : t ≡ true → Same d low (left_of b end) start q
-    version_turn g = same_turn (version h (part b (end - 16) 16)) s (left_version b at from i read h end is-version is-end) t found g
+    left : left_of b at ≡ onward (version h (part b (at + 32 + w - 16) 16)) (left_of b (at + 32 + w))
+    left = left_version b at from i read h (at + 32 + w) is-version (omega arith)
+
+    pub version_turn : t ≡ true → Same d low (left_of b (at + 32 + w)) start q
+    version_turn g = same_turn (version h (part b (at + 32 + w - 16) 16)) s left t found g
 
     pub version_stop : t ≡ false → false ≡ records_ok d start q.records && q.whole
-    version_stop g = same_stop (version h (part b (end - 16) 16)) s (left_version b at from i read h end is-version is-end) t found g
+    version_stop g = same_stop (version h (part b (at + 32 + w - 16) 16)) s left t found g
 
   pub commit_turn : (p : Pair) → i ≡ Commit p → t ≡ leb low p.time.0 → t ≡ true → Same d (p.time.0 + 1) (left_of b (at + 19)) start q
   unfolding record_form
@@ -293,10 +290,6 @@ module _ (m : List ℕ) (l d p k end : ℕ) (place : k ≡ page_block_at l p) (l
     end_is : page_end (blk m (page_block_at l p)) ≡ e
     end_is = sym (read ∙ ap page_end page_lent)
 
-    pub page_late : end < e → false ≡ page_ok m l d p
+    pub page_judged : leb e end ≡ page_ok m l d p
     unfolding page_ok
-    page_late h = sym (rw (form_is, fine, end_is, ← log, lt-leb e end h))
-
-    pub page_fine : e ≤ end → true ≡ page_ok m l d p
-    unfolding page_ok
-    page_fine h = sym (rw (form_is, fine, end_is, ← log, le-leb e end h))
+    page_judged = sym (rw (form_is, fine, end_is, ← log))

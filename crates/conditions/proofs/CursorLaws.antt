@@ -55,9 +55,10 @@ module _ (m : List ℕ) (l : ℕ) (c : Cursor) (start : ℕ) (i : Item) (some_le
       let e : i ≡ item_of Journal (drop (c.at - 10) (body_of (block_of m l c.sequence))) = rw b at read in
       ap (step_from m l c.sequence c.at) k ∙ rw e
 
-  pub makes_skip : (d : Cursor) → (step_at m l i c.sequence c.at (c.left - 1) ≡ Skip (onward m l (c.sequence + 1) 10 (c.left - 1)))
+  -- no record is left in the block
+  pub makes_skip : (d : Cursor) → (i ≡ End) ⊎ (((t : ℕ) × (n : ℕ) × (i ≡ Number t n)) ⊎ (i ≡ Damaged))
       → d ≡ record { sequence = c.sequence + 1; at = 10; left = c.left - 1 } → Skip d ≡ step_of m l c
-  makes_skip d f e = ap Skip e ∙ sym f ∙ sym step_is
+  makes_skip d f e = ap Skip e ∙ sym (step_is ∙ ⊎_elim (λ q. rw q) (⊎_elim (λ w. rw w.2) (λ q. rw q)) f)
 
   pub makes_written : (h : VersionHead) (n : ℕ) (e : EndPlace) → i ≡ Version h → n ≡ bytes_of h.width → e ≡ record { 0 = end_place c.sequence (c.at + (32 + n)) }
       → Written h (start + c.at + (32 + n - 16)) e (record { sequence = c.sequence; at = c.at + (32 + n); left = c.left }) ≡ step_of m l c
@@ -193,34 +194,30 @@ module _ (m : List ℕ) (l : ℕ) (ready : Ready l (length m)) where
       go s at (suc k) v = item_leads s at k (item_of Journal (drop (at - 10) (body_of (block_of m l s)))) v (told Journal _)
 
   -- by the step that was taken
-  pub step_done : (c : Cursor) (r : Step) → Valid c → r ≡ step_of m l c → r ≡ Done → rest_of m l c ≡ []
-  step_done c r v e f = rest_step m l c v.from ∙ rw (sym e ∙ f)
+  pub step_done : (c : Cursor) → Valid c → Done ≡ step_of m l c → rest_of m l c ≡ []
+  step_done c v e = rest_step m l c v.from ∙ rw (← e)
 
-  pub step_skip : (c : Cursor) (r : Step) (d : Cursor) → Valid c → r ≡ step_of m l c → r ≡ Skip d → Next m l c d []
-  step_skip c r d v e f =
-      let g : step_of m l c ≡ Skip d = sym e ∙ f in
-      let w : Leads m c (Skip d) = rw g at (step_leads c v) in
-      record { valid = w.0; less = w.1; rest = rest_step m l c v.from ∙ rw g }
+  pub step_skip : (c d : Cursor) → Valid c → Skip d ≡ step_of m l c → Next m l c d []
+  step_skip c d v e =
+      let w : Leads m c (Skip d) = rw (← e) at (step_leads c v) in
+      record { valid = w.0; less = w.1; rest = rest_step m l c v.from ∙ rw (← e) }
 
-  pub step_written : (c : Cursor) (r : Step) (h : VersionHead) (p : ℕ) (e : EndPlace) (d : Cursor) → Valid c → r ≡ step_of m l c → r ≡ Written h p e d
+  pub step_written : (c d : Cursor) (h : VersionHead) (p : ℕ) (e : EndPlace) → Valid c → Written h p e d ≡ step_of m l c
       → Next m l c d (record { seq = c.sequence; end = e.0; rec = version h (part m p 16) } ∷ []) × (p + 16 ≤ length m)
-  step_written c r h p e d v q f =
-      let g : step_of m l c ≡ Written h p e d = sym q ∙ f in
-      let w : Leads m c (Written h p e d) = rw g at (step_leads c v) in
-      (record { valid = w.0; less = w.1; rest = rest_step m l c v.from ∙ rw g }, w.2)
+  step_written c d h p e v f =
+      let w : Leads m c (Written h p e d) = rw (← f) at (step_leads c v) in
+      (record { valid = w.0; less = w.1; rest = rest_step m l c v.from ∙ rw (← f) }, w.2)
 
-  pub step_committed : (c : Cursor) (r : Step) (p : Pair) (e : EndPlace) (d : Cursor) → Valid c → r ≡ step_of m l c → r ≡ Committed p e d
+  pub step_committed : (c d : Cursor) (p : Pair) (e : EndPlace) → Valid c → Committed p e d ≡ step_of m l c
       → Next m l c d (record { seq = c.sequence; end = e.0; rec = commit p } ∷ [])
-  step_committed c r p e d v q f =
-      let g : step_of m l c ≡ Committed p e d = sym q ∙ f in
-      let w : Leads m c (Committed p e d) = rw g at (step_leads c v) in
-      record { valid = w.0; less = omega (arith, w.1); rest = rest_step m l c v.from ∙ rw g }
+  step_committed c d p e v f =
+      let w : Leads m c (Committed p e d) = rw (← f) at (step_leads c v) in
+      record { valid = w.0; less = omega (arith, w.1); rest = rest_step m l c v.from ∙ rw (← f) }
 
   -- a commit record takes 19 bytes
-  pub committed_far : (c : Cursor) (r : Step) (p : Pair) (e : EndPlace) (d : Cursor) → Valid c → r ≡ step_of m l c → r ≡ Committed p e d → measure d + 19 ≤ measure c
-  committed_far c r p e d v q f =
-      let g : step_of m l c ≡ Committed p e d = sym q ∙ f in
-      let w : Leads m c (Committed p e d) = rw g at (step_leads c v) in
+  pub committed_far : (c d : Cursor) (p : Pair) (e : EndPlace) → Valid c → Committed p e d ≡ step_of m l c → measure d + 19 ≤ measure c
+  committed_far c d p e v f =
+      let w : Leads m c (Committed p e d) = rw (← f) at (step_leads c v) in
       w.1
 
 -- ---- the whole log, from its start

@@ -15,6 +15,7 @@ use Rattle.fields.proofs.Choose.{and_0, and_1}
 use Rattle.store.specs.OpenLog.{Placed, Commitment, commit_under, number_in, time_in, above_all, latest}
 use Rattle.store.specs.OpenPairs.{table_find, end_of_commitment}
 use Rattle.store.specs.OpenConditions.{same_time, once_in}
+use Rattle.conditions.specs.declared.log.Commit.{Commit}
 use Rattle.conditions.specs.Lookup.{commits_of, commit_among}
 use Rattle.conditions.specs.Passes.{record_ok, commit_ok, log_ok}
 use Rattle.conditions.proofs.ChecksLaws.{one_up, and_cross}
@@ -47,21 +48,16 @@ module _ (m : List ℕ) (low s e : ℕ) (p : Pair) (seen xs log : List Placed) (
       let other : eqb y.end e ≡ false = ne_eqb y.end e (λ q. omega arith) in
       sym (simp (found, other, and-false))
 
-  pub once_by_end : once_in (commit p) m (commit_under seen p.number.0)
+  once_by_end : once_in (commit p) m (commit_under seen p.number.0)
       ≡ same_time (table_find m p.number.0) m p.time.0 && eqb (end_of_commitment (commit_under log p.number.0)) e
   once_by_end = once_from (commit_under seen p.number.0) refl
 
-  pub commit_judged : (ok : Bool) → ok ≡ commit_ok m (commit_under log p.number.0) p e → record_ok m seen (commit p) ≡ ok
+  commit_judged : (ok : Bool) → ok ≡ commit_ok m (commit_under log p.number.0) p e → record_ok m seen (commit p) ≡ ok
   unfolding record_ok commit_ok
   commit_judged ok h =
       rw h (simp (once_by_end, one_up p.time.0)
       (and_cross (leb 1 p.number.0) (not (eqb p.time.0 0)) (ltb p.number.0 (2 ^ 64 - 1))
       (same_time (table_find m p.number.0) m p.time.0 && eqb (end_of_commitment (commit_under log p.number.0)) e)))
-
--- the first under its number, as it was found among the commits
-pub commit_found : (m : List ℕ) (log : List Placed) (cs : List ℕ) (p : Pair) (e : ℕ) (ok : Bool) → cs ≡ commits_of log
-    → ok ≡ commit_ok m (commit_among cs p.number.0) p e → ok ≡ commit_ok m (commit_under log p.number.0) p e
-commit_found m log cs p e ok g h = rw (g, among_commits log p.number.0) at h
 
 pub version_judged : (m : List ℕ) (seen : List Placed) (h : VersionHead) (v : List ℕ) (ok : Bool)
     → ok ≡ leb 1 h.number.0 && ltb h.number.0 (2 ^ 64 - 1) → record_ok m seen (version h v) ≡ ok
@@ -77,25 +73,27 @@ pub record Judged (m : List ℕ) (log : List Placed) (a t : ℕ) (xs : List Plac
   pub above : max a (above_all xs) ≡ above_all log
   pub late : max t (latest xs) ≡ latest log
 
--- what the loop gives back
-abbrev pub Told : List ℕ → List Placed → Bool → ℕ → ℕ → Type 0
-Told m log ok a t = (ok ≡ log_ok m [] log) × (ok ≡ true → (a ≡ above_all log) × (t ≡ latest log))
-
-pub judged_begin : (m : List ℕ) (log : List Placed) → Judged m log 0 0 log
-judged_begin m log = record { seen = []; whole = refl; same = refl; above = omega arith; late = omega arith }
+pub judged_begin : (m : List ℕ) (log xs : List Placed) → xs ≡ log → Judged m log 0 0 xs
+judged_begin m log xs e = rw e (record { seen = []; whole = refl; same = refl; above = omega arith; late = omega arith })
 
 pub judged_on : {m : List ℕ} {log : List Placed} {a t : ℕ} {xs ys : List Placed} → Judged m log a t xs → xs ≡ ys → Judged m log a t ys
 judged_on {m} {log} {a} {t} j e = subst (λ (l : List Placed). Judged m log a t l) e j
 
-pub judged_end : {m : List ℕ} {log : List Placed} {a t : ℕ} → Judged m log a t [] → Told m log true a t
+pub judged_end : {m : List ℕ} {log : List Placed} {a t : ℕ} → Judged m log a t [] → (true ≡ log_ok m [] log) × (a ≡ above_all log) × (t ≡ latest log)
 unfolding log_ok above_all latest
-judged_end j = (j.same, λ e. (omega (arith, j.above), omega (arith, j.late)))
+judged_end j = (j.same, omega (arith, j.above), omega (arith, j.late))
+
+-- a commit record, judged by the first under its number among the log's commits
+pub commit_turn : {m : List ℕ} {log xs : List Placed} {a t s e : ℕ} {p : Pair} (j : Judged m log a t (record { seq = s; end = e; rec = commit p } ∷ xs)) (low : ℕ)
+    → (all : List Placed) → Rising low all → all ≡ log → (cs : List Commit) → cs ≡ commits_of log → (ok : Bool) → ok ≡ commit_ok m (commit_among cs p.number.0) p e → record_ok m j.seen (commit p) ≡ ok
+commit_turn {m} {log} {xs} {a} {t} {s} {e} {p} j low all r f cs g ok h =
+    commit_judged m low s e p j.seen xs log j.whole (rw f at r) ok (rw (g, among_commits log p.number.0) at h)
 
 -- a record x that is judged: `ok` is what the code found of it
 module _ {m : List ℕ} {log : List Placed} {a t : ℕ} {x : Placed} {xs : List Placed} (j : Judged m log a t (x ∷ xs)) (ok : Bool) (is : record_ok m j.seen x.rec ≡ ok) where
-  pub judged_stop : ok ≡ false → Told m log false a t
+  pub judged_stop : ok ≡ false → false ≡ log_ok m [] log
   unfolding log_ok
-  judged_stop f = (simp (is, f) at j.same, λ e. let z : ◌≡◌ {A = ℕ} 0 1 = cc in absurd (omega arith))
+  judged_stop f = simp (is, f) at j.same
 
   pub judged_turn : (b u : ℕ) → ok ≡ true → b ≡ max a (number_in x.rec + 1) → u ≡ max t (time_in x.rec) → Judged m log b u xs
   unfolding log_ok above_all latest

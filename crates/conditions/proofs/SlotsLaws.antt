@@ -2,7 +2,7 @@
 -- is known of its record from the slots below it. Assumes nothing.
 use Rattle.layout.specs.declared.CommitTime.{CommitTime}
 use Rattle.std.specs.Prelude.{Option, Some, None}
-use mathlib.Core.Path.{◌≡◌, refl, sym, subst, ◌∙◌}
+use mathlib.Core.Path.{◌≡◌, refl, sym, ap, subst, ◌∙◌}
 use mathlib.Core.Bool.{Bool, true, false, ◌&&◌, ◌||◌}
 use mathlib.Core.List.{List, []}
 use Prim.Native.Nat.{ℕ, suc, ◌+◌, ◌-◌, ◌*◌, ◌<◌}
@@ -10,7 +10,7 @@ use native.Mathlib.Omega.{arith}
 use native.Mathlib.Decide.{ℕ_discrete}
 use lib.ListN.{length, take, drop, get_or, set, replicate, get_or-replicate}
 use lib.Seq.{get_or-set_same, get_or-set_other}
-use lib.Dec.{eqb, leb}
+use lib.Dec.{eqb}
 use borrow.Author.Tests.{eq-eqb, ne_eqb, le-leb}
 use Rattle.fields.specs.Block.{blk}
 use Rattle.layout.specs.Page.{page_used}
@@ -47,16 +47,6 @@ full_next c d p a u b v ha e t l hb f =
     let y : v ≡ page_used (take 512 (drop (512 * (p + 1)) c)) = rw (lent_part c b 512, hb) at f in
     simp (← x, ← y, ne_eqb _ _ t, ne_eqb _ _ l)
 
--- ---- a number or time of 0 is out of bounds
-
-pub zero_out : (b : Bool) (n : ℕ) → n ≡ 0 → false ≡ b && leb 1 n
-zero_out true n e = rw e
-zero_out false n e = refl
-
-pub one_in : (b : Bool) (n : ℕ) → (n ≡ 0 → ⊥) → b ≡ b && leb 1 n
-one_in true n h = sym (le-leb 1 n (omega arith))
-one_in false n h = refl
-
 empty_one : (s : Slot) → is_version s ≡ false → slot_at_least_one s ≡ true
 empty_one Empty e = refl
 empty_one (Waiting n) e = let z : ◌≡◌ {A = ℕ} 0 1 = cc in absurd (omega arith)
@@ -68,6 +58,14 @@ fits_as (Some a) (Some b) times key e = rw e
 fits_as (Some a) None times key e = refl
 fits_as None (Some b) times key e = rw e (le-leb 0 b.0 (omega arith))
 fits_as None None times key e = refl
+
+-- what was read of slot n
+pub held : (c : List ℕ) (n : ℕ) (s : Slot) (b : Bool) → s ≡ (cell_at c n).state → b ≡ is_version s → b ≡ true → is_version (cell_at c n).state ≡ true
+held c n s b e f t = ap is_version (sym e) ∙ sym f ∙ t
+
+pub timed : (c : List ℕ) (n : ℕ) (s : Slot) (pairs : ℕ → Option CommitTime) (u : Option CommitTime) → s ≡ (cell_at c n).state → u ≡ version_time pairs s
+    → u ≡ version_time pairs (cell_at c n).state
+timed c n s pairs u e f = rw e at f
 
 -- ---- slot n of a cache: s and t are the newest slots and times below it
 

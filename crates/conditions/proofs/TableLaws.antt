@@ -1,5 +1,6 @@
 -- The pair table: the search for a number's place, and what is asked of a place. Assumes nothing.
 use Rattle.std.specs.Prelude.{Option, None, Some}
+use Rattle.std.specs.Option.{option_map}
 use mathlib.Core.Path.{◌≡◌, refl, sym, ap, ◌∙◌}
 use mathlib.Core.Bool.{Bool, false, not}
 use mathlib.Core.List.{List}
@@ -12,16 +13,11 @@ use borrow.Author.Tests.{eq-eqb, ne_eqb, lt-ltb, le-ltb, le-leb, lt-leb}
 use Rattle.fields.specs.Block.{medium_length}
 use Rattle.layout.specs.Table.{table_pair}
 use Rattle.layout.specs.declared.item.Pair.{Pair}
-use Rattle.layout.specs.declared.CommitTime.{CommitTime}
-use Rattle.layout.specs.declared.EndPlace.{EndPlace}
 use Rattle.fields.proofs.Choose.{cond_cases}
 use Rattle.store.specs.Places.{first, is_at}
 use Rattle.store.specs.OpenLog.{Placed, Commitment, commit_under}
-use Rattle.store.specs.OpenPairs.{table_find, pair_time}
+use Rattle.store.specs.OpenPairs.{table_find, time_of_commitment, pair_time}
 use Rattle.store.proofs.SearchLaws.{first_found}
-use Rattle.live.proofs.FirstLaws.{first_hit, first_miss}
-use Rattle.conditions.specs.declared.log.Match.{Match}
-use Rattle.conditions.specs.declared.log.Match.TheVariants.{Found, Absent}
 use Rattle.conditions.specs.Cursor.{Ready}
 use Rattle.conditions.specs.Lookup.{Extent, match_of}
 use Rattle.conditions.specs.Passes.{place_ok}
@@ -34,17 +30,6 @@ numbered m n i = eqb (table_pair m i).number.0 n
 pub ready_table : (l n : ℕ) → Ready l n → 1536 ≤ n
 unfolding medium_length
 ready_table l n r = rw r.medium (omega (arith, r.low))
-
--- the search up to k, p the pair that was read at i
-module _ (m : List ℕ) (n k i : ℕ) (p : Pair) (below : i < k) (read : p ≡ table_pair m i) where
-  number_is : eqb p.number.0 n ≡ numbered m n i
-  number_is = ap (λ (q : Pair). eqb q.number.0 n) read
-
-  pub pair_hit : p.number.0 ≡ n → first (numbered m n) (k - i) i ≡ Some i
-  pair_hit e = first_hit (numbered m n) k i _ below number_is (eq-eqb _ _ e)
-
-  pub pair_miss : (p.number.0 ≡ n → ⊥) → first (numbered m n) (k - (i + 1)) (i + 1) ≡ first (numbered m n) (k - i) i
-  pair_miss e = first_miss (numbered m n) k i _ below number_is (ne_eqb _ _ e)
 
 -- the place of a number
 pub find_none : (m : List ℕ) (n : ℕ) → n ≡ 0 → table_find m n ≡ None
@@ -96,33 +81,18 @@ found_below m n i e =
     cond_cases (eqb n 0) e (λ t (r : ◌≡◌ {A = Option ℕ} None (Some i)). let z : ◌≡◌ {A = ℕ} 0 1 = cc in absurd (omega arith))
     (λ t r. (first_found (numbered m n) 64 0 i r).1)
 
--- what was looked for in the log
-pub match_some : (o : Option Commitment) (t : CommitTime) (e : EndPlace) → Found t e ≡ match_of o → o ≡ Some (record { time = t.0; end = e.0 })
-unfolding match_of
-match_some None t e q = let z : ◌≡◌ {A = ℕ} 0 1 = cc in absurd (omega arith)
-match_some (Some y) t e q =
-    let a : t ≡ record { 0 = y.time } = cc in
-    let b : e ≡ record { 0 = y.end } = cc in
-    rw (a, b)
-
-pub match_none : (o : Option Commitment) → Absent ≡ match_of o → o ≡ None
-unfolding match_of
-match_none None q = refl
-match_none (Some y) q = let z : ◌≡◌ {A = ℕ} 0 1 = cc in absurd (omega arith)
-
 -- a number's time: the table's, else that of a commitment of the log
-module _ (m : List ℕ) (log : List Placed) (n : ℕ) (f : Option ℕ (found : f ≡ table_find m n) where
-  pub time_found : (i : ℕ) (p : Pair) → f ≡ Some i → p ≡ table_pair m i → Some p.time ≡ pair_time m log n
-  unfolding pair_time
-  time_found i p e r = simp (← found, e, r)
+pub time_found : (m : List ℕ) (log : List Placed) (n : ℕ) (i : ℕ) → Some i ≡ table_find m n → Some (table_pair m i).time ≡ pair_time m log n
+unfolding pair_time
+time_found m log n i e = simp (← e)
 
-  pub time_logged : (t : CommitTime) (e : EndPlace) (x : Match) → f ≡ None → x ≡ match_of (commit_under log n) → x ≡ Found t e → Some t ≡ pair_time m log n
-  unfolding pair_time
-  time_logged t e x g h k = simp (← found, g, match_some (commit_under log n) t e (sym k ∙ h))
-
-  pub time_none : (x : Match) → f ≡ None → x ≡ match_of (commit_under log n) → x ≡ Absent → None ≡ pair_time m log n
-  unfolding pair_time
-  time_none x g h k = simp (← found, g, match_none (commit_under log n) (sym k ∙ h))
+pub time_logged : (m : List ℕ) (log : List Placed) (n : ℕ) → None ≡ table_find m n → option_map (λ x. x.0) (match_of (commit_under log n)) ≡ pair_time m log n
+unfolding pair_time
+time_logged m log n e = simp (← e) (go (commit_under log n))
+  where
+    go : (o : Option Commitment) → option_map (λ x. x.0) (match_of o) ≡ time_of_commitment o
+    go None = refl
+    go (Some x) = refl
 
 -- what is asked of place i, p the pair that was read there
 module _ (m : List ℕ) (next last i : ℕ) (p : Pair) (read : p ≡ table_pair m i) where

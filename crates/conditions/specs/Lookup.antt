@@ -1,5 +1,6 @@
 -- What was looked up and gathered, as the code has it.
 use Rattle.layout.specs.declared.CommitTime.{CommitTime}
+use Rattle.layout.specs.declared.EndPlace.{EndPlace}
 use Rattle.std.specs.Prelude.{ℕ, ◌+◌, ◌<◌, ◌≤◌, ◌*◌, ◌≡◌, Bool, true, cond, ◌&&◌, List, [], ◌∷◌, get_or, set, eqb, leb, ltb, Option, None, Some}
 use Rattle.layout.specs.Journal.{Record, version, commit}
 use Rattle.layout.specs.Table.{table_pair}
@@ -7,28 +8,26 @@ use Rattle.store.specs.Write.{or_none}
 use Rattle.store.specs.Chain.{cell_at, newest}
 use Rattle.store.specs.OpenLog.{Placed, Commitment, read_log}
 use Rattle.store.specs.OpenConditions.{time_below}
-use Rattle.conditions.specs.declared.log.Match.{Match}
-use Rattle.conditions.specs.declared.log.Match.TheVariants.{Found, Absent}
+use Rattle.conditions.specs.declared.log.Commit.{Commit}
 
-unfoldable pub match_of : Option Commitment → Match
-match_of None = Absent
-match_of (Some x) = Found (record { 0 = x.time }) (record { 0 = x.end })
+-- the time and the end place of a commit
+abbrev pub match_of : Option Commitment → Option (CommitTime × EndPlace)
+match_of None = None
+match_of (Some x) = Some (record { 0 = x.time }, record { 0 = x.end })
 
--- the commit records of a log as numbers: number, time and end place of one behind the other
-abbrev pub commit_words : Record → ℕ → List ℕ → List ℕ
-commit_words (version h v) e rest = rest
-commit_words (commit p) e rest = p.number.0 ∷ p.time.0 ∷ e ∷ rest
+-- the commit records of a log
+abbrev pub with_commit : Record → ℕ → List Commit → List Commit
+with_commit (version h v) e rest = rest
+with_commit (commit p) e rest = record { number = p.number; time = p.time; end = record { 0 = e } } ∷ rest
 
-unfoldable pub commits_of : List Placed → List ℕ
+unfoldable pub commits_of : List Placed → List Commit
 commits_of [] = []
-commits_of (x ∷ xs) = commit_words x.rec x.end (commits_of xs)
+commits_of (x ∷ xs) = with_commit x.rec x.end (commits_of xs)
 
 -- the first of them under a number
-unfoldable pub commit_among : List ℕ → ℕ → Option Commitment
+unfoldable pub commit_among : List Commit → ℕ → Option Commitment
 commit_among [] n = None
-commit_among (a ∷ []) n = None
-commit_among (a ∷ b ∷ []) n = None
-commit_among (a ∷ b ∷ c ∷ rest) n = cond (eqb a n) (Some (record { time = b; end = c })) (commit_among rest n)
+commit_among (x ∷ xs) n = cond (eqb x.number.0 n) (Some (record { time = x.time.0; end = x.end.0 })) (commit_among xs n)
 
 -- the table's places from `used` on are empty
 pub record Extent (m : List ℕ) (used : ℕ) : Type 0 where
@@ -36,7 +35,7 @@ pub record Extent (m : List ℕ) (used : ℕ) : Type 0 where
   pub empty : (i : ℕ) → used ≤ i → i < 64 → (table_pair m i).number.0 ≡ 0
 
 -- what is known of the pairs once table and log were gone through: the table's extent, and the log's commits
-pub record Known (m : List ℕ) (l used : ℕ) (commits : List ℕ) : Type 0 where
+pub record Known (m : List ℕ) (l used : ℕ) (commits : List Commit) : Type 0 where
   pub table : Extent m used
   pub log : commits ≡ commits_of (read_log m l)
 

@@ -40,14 +40,7 @@ pub fn body_end(block: &[u8]) -> usize
     requires { length block.now ≡ 512 }
     ensures { result ≡ 10 + length (body_of block.now) }
 {
-    let used = layout::journal::used(block) as usize;
-    if used < 10 {
-        return 10;
-    }
-    if 512 < used {
-        return 512;
-    }
-    used
+    (layout::journal::used(block) as usize).clamp(10, 512)
 }
 
 // The item of a block at an offset.
@@ -64,64 +57,59 @@ pub fn item_at(block: &[u8], at: usize) -> Item
 }
 
 // What comes next at the cursor.
-pub fn next(medium: &[u8], blocks: u64, c: Cursor) -> Step
+pub fn next(medium: &[u8], blocks: u64, cursor: Cursor) -> Step
     requires ready { Ready blocks (length medium.now) }
-    requires valid { Valid c }
-    ensures { result ≡ step_of medium.now blocks c }
+    requires valid { Valid cursor }
+    ensures { result ≡ step_of medium.now blocks cursor }
 {
-    let left = c.left;
+    let Cursor { sequence, at, left } = cursor;
     if left == 0 {
         return Step::Done;
     }
-    let s = c.sequence;
-    let at = c.at;
-    let start = block_start(blocks, s);
-    let item = item_at(&medium[start..start + 512], at as usize);
-    match item {
-        Item::End => Step::Skip(skip(s, left)),
-        Item::Version(h) => {
-            let width = h.width;
-            let n = 32 + layout::item::bytes(width) as u64;
+    let start = block_start(blocks, sequence);
+    match item_at(&medium[start..start + 512], at as usize) {
+        Item::Version(head) => {
+            let width = head.width;
+            let length = 32 + layout::item::bytes(width) as u64;
             Step::Written(
-                h,
-                start as u64 + at + (n - 16),
-                end_behind(s, at + n),
+                head,
+                start as u64 + at + (length - 16),
+                end_behind(sequence, at + length),
                 Cursor {
-                    sequence: s,
-                    at: at + n,
-                    left: left,
+                    sequence,
+                    at: at + length,
+                    left,
                 },
             )
         }
-        Item::Commit(p) => Step::Committed(
-            p,
-            end_behind(s, at + 19),
+        Item::Commit(pair) => Step::Committed(
+            pair,
+            end_behind(sequence, at + 19),
             Cursor {
-                sequence: s,
+                sequence,
                 at: at + 19,
-                left: left,
+                left,
             },
         ),
-        Item::Number(_, _) => Step::Skip(skip(s, left)),
-        Item::Damaged => Step::Skip(skip(s, left)),
+        Item::End | Item::Number(_, _) | Item::Damaged => Step::Skip(skip(sequence, left)),
     }
 }
 
-// The end place of a record that ends at an offset of sequence s; the sequences that are read may pass 2^48.
-fn end_behind(s: u64, offset: u64) -> EndPlace
-    requires { (s < 2 ^ 49) × (offset ≤ 1024) }
-    ensures { result ≡ record { 0 = end_place s offset } }
+// The end place of a record that ends at an offset of a block; the sequences that are read may pass 2^48.
+fn end_behind(sequence: u64, offset: u64) -> EndPlace
+    requires { (sequence < 2 ^ 49) × (offset ≤ 1024) }
+    ensures { result ≡ record { 0 = end_place sequence offset } }
 {
-    EndPlace(512 * s + offset)
+    EndPlace(512 * sequence + offset)
 }
 
-// The cursor at the start of the block behind sequence s.
-fn skip(s: u64, left: u64) -> Cursor
-    requires { (s < 2 ^ 49) × (1 ≤ left) }
-    ensures { result ≡ record { sequence = s + 1; at = 10; left = left - 1 } }
+// The cursor at the start of the block behind a sequence's.
+fn skip(sequence: u64, left: u64) -> Cursor
+    requires { (sequence < 2 ^ 49) × (1 ≤ left) }
+    ensures { result ≡ record { sequence = sequence + 1; at = 10; left = left - 1 } }
 {
     Cursor {
-        sequence: s + 1,
+        sequence: sequence + 1,
         at: 10,
         left: left - 1,
     }

@@ -5,6 +5,7 @@
 pub mod blocks;
 pub mod cursor;
 pub mod log;
+pub mod pairs;
 pub mod records;
 pub mod slots;
 pub mod table;

@@ -1,17 +1,19 @@
-// The blocks that are read, and what is looked up in their records.
+// The blocks that are read, and their commit records.
 ghost use Rattle.std.specs.Prelude.{◌≡◌, ◌+◌, ◌<◌, ◌≤◌, ◌^◌, length, take};
 ghost use Rattle.store.specs.OpenLog.{matching};
+ghost use Rattle.store.specs.OpenPairs.{end_of_commitment};
 ghost use Rattle.conditions.specs.Cursor.{Ready, Valid, rest_of};
 ghost use Rattle.conditions.specs.Lookup.{match_of, commits_of, commit_among};
 
 use crate::cursor::{Cursor, Step};
-use layout::{CommitTime, EndPlace};
+use layout::{CommitTime, EndPlace, TxNumber};
 
-// A commit record that was looked for, with its end place.
+// A commit record, with its end place.
 #[derive(Clone, Copy)]
-pub enum Match {
-    Found(CommitTime, EndPlace),
-    Absent,
+pub struct Commit {
+    pub number: TxNumber,
+    pub time: CommitTime,
+    pub end: EndPlace,
 }
 
 // How many blocks are read: from the oldest on while sequences match.
@@ -20,60 +22,55 @@ pub fn read_count(medium: &[u8], blocks: u64, oldest: u64) -> u64
     requires oldest_bound { oldest < 2 ^ 48 }
     ensures { result ≡ matching medium.now blocks oldest blocks }
 {
-    let mut k: u64 = 0;
-    while k < blocks {
+    for k in 0..blocks {
         let start = crate::cursor::block_start(blocks, oldest + k);
         if layout::journal::sequence(&medium[start..start + 512]) != oldest + k {
             return k;
         }
-        k += 1;
     }
-    k
+    blocks
 }
 
-// Gathers the commit records from the cursor on, so that each is read from the log once: number, time and end place, one
-// record behind the other. Answers how many numbers these are. A block holds at most 26 of them, a log 832.
-pub fn gather(medium: &[u8], blocks: u64, from: Cursor, commits: &mut [u64]) -> usize
+// Gathers the commit records from the cursor on, so that each is read from the log once, and answers how many there are.
+// A record takes 19 of a block's 512 bytes, so that a log of 32 blocks holds fewer than 864.
+pub fn gather(medium: &[u8], blocks: u64, from: Cursor, commits: &mut [Commit; 864]) -> usize
     requires ready { Ready blocks (length medium.now) }
     requires valid { Valid from }
-    requires commits_len { length commits.old ≡ 2592 }
-    ensures { (result ≤ 2592) × (take result commits.new ≡ commits_of (rest_of medium.now blocks from)) }
+    ensures { (result ≤ 864) × (take result commits.new ≡ commits_of (rest_of medium.now blocks from)) }
 {
-    let mut n: usize = 0;
-    let mut c = from;
+    let mut count = 0;
+    let mut cursor = from;
     loop {
-        let step = crate::cursor::next(medium, blocks, c);
-        match step {
-            Step::Done => {
-                return n;
-            }
-            Step::Skip(d) => {
-                c = d;
-            }
-            Step::Written(_, _, _, d) => {
-                c = d;
-            }
-            Step::Committed(p, e, d) => {
-                commits[n] = p.number.0;
-                commits[n + 1] = p.time.0;
-                commits[n + 2] = e.0;
-                n = n + 3;
-                c = d;
+        match crate::cursor::next(medium, blocks, cursor) {
+            Step::Done => return count,
+            Step::Skip(next) => cursor = next,
+            Step::Written(_, _, _, next) => cursor = next,
+            Step::Committed(pair, end, next) => {
+                commits[count] = Commit {
+                    number: pair.number,
+                    time: pair.time,
+                    end,
+                };
+                count += 1;
+                cursor = next;
             }
         }
     }
 }
 
-// The first of the commits under a number.
-pub fn commit_under(commits: &[u64], n: u64) -> Match
-    ensures { result ≡ match_of (commit_among commits.now n) }
+// The first of the commits under a number: its time and end place.
+pub fn commit_under(commits: &[Commit], number: u64) -> Option<(CommitTime, EndPlace)>
+    ensures { result ≡ match_of (commit_among commits.now number) }
 {
-    let mut i: usize = 0;
-    while 2 < commits.len() - i {
-        if commits[i] == n {
-            return Match::Found(CommitTime(commits[i + 1]), EndPlace(commits[i + 2]));
-        }
-        i += 3;
-    }
-    Match::Absent
+    commits
+        .iter()
+        .find(|commit| commit.number.0 == number)
+        .map(|commit| (commit.time, commit.end))
+}
+
+// The end place of a number's commit record; 0 where the log has none.
+pub fn end_under(commits: &[Commit], number: u64) -> EndPlace
+    ensures { result ≡ record { 0 = end_of_commitment (commit_among commits.now number) } }
+{
+    commit_under(commits, number).map_or(EndPlace(0), |(_, end)| end)
 }

@@ -5,28 +5,28 @@ ghost use Rattle.store.specs.OpenLog.{read_log, next_number, last_time};
 ghost use Rattle.store.specs.OpenPairs.{pair_time};
 ghost use Rattle.store.specs.OpenConditions.{slot_in_bounds, slot_at_least_one, full_before};
 ghost use Rattle.cached.specs.Room.{Room};
-ghost use Rattle.conditions.specs.Cursor.{Ready};
-ghost use Rattle.conditions.specs.Lookup.{Known, KeysBelow, Tracks, time_fits, times_after};
+ghost use Rattle.conditions.specs.Lookup.{KeysBelow, Tracks, time_fits, times_after};
 ghost use Rattle.conditions.specs.Passes.{all_of, slot_ok};
 
+use crate::pairs::Pairs;
 use layout::CommitTime;
 use layout::slot::Slot;
 
 // Is the page full, the last one, or the one behind it unused?
-fn page_full(cache: &[u8], pages: u64, p: u64) -> bool
-    requires p_lt_pages { (p < pages) × (pages ≤ 64) }
+fn page_full(cache: &[u8], pages: u64, page: u64) -> bool
+    requires page_lt_pages { (page < pages) × (pages ≤ 64) }
     requires cache_len { length cache.now ≡ 512 * pages }
-    ensures { result ≡ full_before [] 0 pages cache.now p }
+    ensures { result ≡ full_before [] 0 pages cache.now page }
 {
-    let a = (512 * p) as usize;
-    if layout::page::used(&cache[a..a + 512]) == 15 {
+    let start = (512 * page) as usize;
+    if layout::page::used(&cache[start..start + 512]) == 15 {
         return true;
     }
-    if p + 1 == pages {
+    if page + 1 == pages {
         return true;
     }
-    let b = a + 512;
-    layout::page::used(&cache[b..b + 512]) == 0
+    let behind = start + 512;
+    layout::page::used(&cache[behind..behind + 512]) == 0
 }
 
 // Are the pages full before the last used one?
@@ -35,14 +35,7 @@ pub fn pages_full(cache: &[u8], pages: u64) -> bool
     requires cache_len { length cache.now ≡ 512 * pages }
     ensures { result ≡ all_of (full_before [] 0 pages cache.now) 0 pages }
 {
-    let mut p: u64 = 0;
-    while p < pages {
-        if !page_full(cache, pages, p) {
-            return false;
-        }
-        p += 1;
-    }
-    true
+    (0..pages).all(|page| page_full(cache, pages, page))
 }
 
 // Are a slot's number or time at least 1 and in bounds?
@@ -51,73 +44,52 @@ fn in_bounds(slot: Slot, next: u64, last: u64) -> bool
 {
     match slot {
         Slot::Empty => true,
-        Slot::Waiting(n) => {
-            if n.0 == 0 {
-                return false;
-            }
-            n.0 < next
-        }
-        Slot::Stamped(t) => {
-            if t.0 == 0 {
-                return false;
-            }
-            t.0 <= last
-        }
+        Slot::Waiting(number) => number.0 < next && 1 <= number.0,
+        Slot::Stamped(time) => time.0 <= last && 1 <= time.0,
     }
 }
 
 // The time of a version: its stamp, or its pair's in table or log.
-fn time_of(medium: &[u8], blocks: u64, used: usize, commits: &[u64], slot: Slot) -> Option<CommitTime>
-    requires ready { Ready blocks (length medium.now) }
-    requires known { Known medium.now blocks used commits.now }
-    ensures { result ≡ version_time (pair_time medium.now (read_log medium.now blocks)) slot }
+fn time_of(pairs: &Pairs, slot: Slot) -> Option<CommitTime>
+    ensures { result ≡ version_time (pair_time pairs.now.medium.now (read_log pairs.now.medium.now pairs.now.blocks)) slot }
 {
     match slot {
         Slot::Empty => None,
-        Slot::Waiting(n) => crate::table::pair_time(medium, blocks, used, commits, n.0),
-        Slot::Stamped(t) => Some(t),
+        Slot::Waiting(number) => pairs.time(number.0),
+        Slot::Stamped(time) => Some(time),
     }
 }
 
 // Is the time not below the record's newest one before it? It is then the newest.
-fn follows(times: &mut [u64], key: u16, time: Option<CommitTime>) -> bool
-    requires times_len { length times.old ≡ 1024 }
-    requires key_bound { key < 1024 }
+fn follows(times: &mut [u64; 1024], key: u16, time: Option<CommitTime>) -> bool
+    requires { key < 1024 }
     ensures { (result ≡ time_fits times.old key time) × (times.new ≡ times_after times.old key time) }
 {
-    let k = key as usize;
-    match time {
-        None => true,
-        Some(t) => {
-            let ok = times[k] <= t.0;
-            times[k] = t.0;
-            ok
-        }
-    }
+    let Some(time) = time else {
+        return true;
+    };
+    let newest = &mut times[key as usize];
+    let follows = *newest <= time.0;
+    *newest = time.0;
+    follows
 }
 
 // A slot: its earlier slot and its time against those of its record before it, and its bounds.
 fn slot_ok(
-    medium: &[u8],
-    blocks: u64,
+    pairs: &Pairs,
     pages: u64,
-    used: usize,
-    commits: &[u64],
     cache: &[u8],
     n: u64,
     next: u64,
     last: u64,
-    newest: &mut [u16],
-    times: &mut [u64],
+    newest: &mut [u16; 1024],
+    times: &mut [u64; 1024],
 ) -> bool
-    requires ready { Ready blocks (length medium.now) }
-    requires known { Known medium.now blocks used commits.now }
     requires room { Room (length cache.now) (suc n) }
-    requires newest_len { (length newest.old ≡ 1024) × (length times.old ≡ 1024) }
     requires n_bound { (cell_at cache.now n).key < 1024 }
-    requires next_value { (next ≡ next_number medium.now blocks) × (last ≡ last_time medium.now blocks) }
-    requires tracks { Tracks medium.now blocks pages cache.now n newest.old times.old }
-    ensures { (result ≡ slot_ok medium.now blocks pages cache.now n) × (result ≡ true → Tracks medium.now blocks pages cache.now (suc n) newest.new times.new) }
+    requires next_value { (next ≡ next_number pairs.now.medium.now pairs.now.blocks) × (last ≡ last_time pairs.now.medium.now pairs.now.blocks) }
+    requires tracks { Tracks pairs.now.medium.now pairs.now.blocks pages cache.now n newest.old times.old }
+    ensures { (result ≡ slot_ok pairs.now.medium.now pairs.now.blocks pages cache.now n) × (result ≡ true → Tracks pairs.now.medium.now pairs.now.blocks pages cache.now (suc n) newest.new times.new) }
 {
     let slot = cached::state_at(cache, n);
     if !cached::is_version(slot) {
@@ -125,11 +97,11 @@ fn slot_ok(
     }
     let key = cached::key_at(cache, n);
     let k = key as usize;
-    if newest[k] as u64 != cached::earlier_at(cache, n) {
+    if u64::from(newest[k]) != cached::earlier_at(cache, n) {
         return false;
     }
     newest[k] = n as u16;
-    let time = time_of(medium, blocks, used, commits, slot);
+    let time = time_of(pairs, slot);
     if !follows(times, key, time) {
         return false;
     }
@@ -137,43 +109,18 @@ fn slot_ok(
 }
 
 // All slots of the cache.
-pub fn all_ok(
-    medium: &[u8],
-    blocks: u64,
-    pages: u64,
-    used: usize,
-    commits: &[u64],
-    cache: &[u8],
-    next: u64,
-    last: u64,
-) -> bool
-    requires ready { Ready blocks (length medium.now) }
-    requires known { Known medium.now blocks used commits.now }
+pub fn all_ok(pairs: &Pairs, pages: u64, cache: &[u8], next: u64, last: u64) -> bool
     requires pages_bound { (pages ≤ 64) × (length cache.now ≡ 512 * pages) }
     requires keys_below { KeysBelow cache.now pages }
-    requires next_value { (next ≡ next_number medium.now blocks) × (last ≡ last_time medium.now blocks) }
-    ensures { result ≡ all_of (slot_ok medium.now blocks pages cache.now) 0 (15 * pages) }
+    requires next_value { (next ≡ next_number pairs.now.medium.now pairs.now.blocks) × (last ≡ last_time pairs.now.medium.now pairs.now.blocks) }
+    ensures { result ≡ all_of (slot_ok pairs.now.medium.now pairs.now.blocks pages cache.now) 0 (15 * pages) }
 {
-    let mut newest = [65535u16; 1024];
-    let mut times = [0u64; 1024];
-    let mut n: u64 = 0;
-    while n < 15 * pages {
-        if !slot_ok(
-            medium,
-            blocks,
-            pages,
-            used,
-            commits,
-            cache,
-            n,
-            next,
-            last,
-            &mut newest,
-            &mut times,
-        ) {
+    let mut newest = [65535; 1024];
+    let mut times = [0; 1024];
+    for n in 0..15 * pages {
+        if !slot_ok(pairs, pages, cache, n, next, last, &mut newest, &mut times) {
             return false;
         }
-        n += 1;
     }
     true
 }

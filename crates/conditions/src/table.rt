@@ -2,30 +2,17 @@
 ghost use Rattle.std.specs.Prelude.{◌≡◌, ◌<◌, ◌≤◌, length, eqb};
 ghost use Rattle.layout.specs.Table.{table_pair};
 ghost use Rattle.store.specs.Places.{first};
-ghost use Rattle.store.specs.OpenLog.{read_log};
-ghost use Rattle.store.specs.OpenPairs.{table_find, pair_time};
-ghost use Rattle.conditions.specs.Cursor.{Ready};
-ghost use Rattle.conditions.specs.Lookup.{Extent, Known};
+ghost use Rattle.store.specs.OpenPairs.{table_find};
+ghost use Rattle.conditions.specs.Lookup.{Extent};
 ghost use Rattle.conditions.specs.Passes.{all_of, place_ok};
 
-use layout::CommitTime;
-use crate::log::Match;
-
-// The first of the first k places that holds the number.
-fn find_below(medium: &[u8], n: u64, k: usize) -> Option<u64>
+// The first of the first `count` places that holds the number.
+fn find_below(medium: &[u8], number: u64, count: usize) -> Option<usize>
     requires in_bounds { 1536 ≤ length medium.now }
-    requires k_bound { k ≤ 64 }
-    ensures { result ≡ first (λ i. eqb (table_pair medium.now i).number.0 n) k 0 }
+    requires count_bound { count ≤ 64 }
+    ensures { result ≡ first (λ i. eqb (table_pair medium.now i).number.0 number) count 0 }
 {
-    let mut i: usize = 0;
-    while i < k {
-        let p = layout::table::read(medium, i);
-        if p.number.0 == n {
-            return Some(i as u64);
-        }
-        i += 1;
-    }
-    None
+    (0..count).find(|&i| layout::table::read(medium, i).number.0 == number)
 }
 
 // How many places of the table there are up to the last one in use.
@@ -33,50 +20,24 @@ pub fn extent(medium: &[u8]) -> usize
     requires { 1536 ≤ length medium.now }
     ensures { Extent medium.now result }
 {
-    let mut k: usize = 64;
-    while 0 < k {
-        let p = layout::table::read(medium, k - 1);
-        if p.number.0 != 0 {
-            return k;
+    for i in (0..64).rev() {
+        if layout::table::read(medium, i).number.0 != 0 {
+            return i + 1;
         }
-        k -= 1;
     }
     0
 }
 
 // The table place of a number; 0 has none.
-pub fn find(medium: &[u8], used: usize, n: u64) -> Option<u64>
+pub fn find(medium: &[u8], used: usize, number: u64) -> Option<usize>
     requires in_bounds { 1536 ≤ length medium.now }
     requires extent { Extent medium.now used }
-    ensures { result ≡ table_find medium.now n }
+    ensures { result ≡ table_find medium.now number }
 {
-    if n == 0 {
+    if number == 0 {
         return None;
     }
-    find_below(medium, n, used)
-}
-
-// The commit time of a number: the table's, else the log's.
-pub fn pair_time(medium: &[u8], blocks: u64, used: usize, commits: &[u64], n: u64) -> Option<CommitTime>
-    requires ready { Ready blocks (length medium.now) }
-    requires known { Known medium.now blocks used commits.now }
-    ensures { result ≡ pair_time medium.now (read_log medium.now blocks) n }
-{
-    let f = find(medium, used, n);
-    match f {
-        Some(i) => {
-            let p = layout::table::read(medium, i as usize);
-            let t = p.time;
-            Some(t)
-        }
-        None => {
-            let c = crate::log::commit_under(commits, n);
-            match c {
-                Match::Found(t, _) => Some(t),
-                Match::Absent => None,
-            }
-        }
-    }
+    find_below(medium, number, used)
 }
 
 // A place of the table: its form, its bounds, and that no place before it has the number.
@@ -85,26 +46,13 @@ fn place_ok(medium: &[u8], i: usize, next: u64, last: u64) -> bool
     requires i_bound { i < 64 }
     ensures { result ≡ place_ok medium.now next last i }
 {
-    let p = layout::table::read(medium, i);
-    let n = p.number.0;
-    let t = p.time.0;
-    if n == 0 {
-        return t == 0;
+    let pair = layout::table::read(medium, i);
+    let number = pair.number.0;
+    let time = pair.time.0;
+    if number == 0 {
+        return time == 0;
     }
-    if next <= n {
-        return false;
-    }
-    if last < t {
-        return false;
-    }
-    if t == 0 {
-        return false;
-    }
-    let f = find_below(medium, n, i);
-    match f {
-        Some(_) => false,
-        None => true,
-    }
+    number < next && time <= last && time != 0 && find_below(medium, number, i).is_none()
 }
 
 // All places of the table.
@@ -112,12 +60,5 @@ pub fn all_ok(medium: &[u8], next: u64, last: u64) -> bool
     requires { 1536 ≤ length medium.now }
     ensures { result ≡ all_of (place_ok medium.now next last) 0 64 }
 {
-    let mut i: usize = 0;
-    while i < 64 {
-        if !place_ok(medium, i, next, last) {
-            return false;
-        }
-        i += 1;
-    }
-    true
+    (0..64).all(|i| place_ok(medium, i, next, last))
 }

@@ -4,9 +4,8 @@ ghost use Rattle.fields.specs.Part.{part};
 ghost use Rattle.fields.specs.Equal.{eq_list};
 ghost use Rattle.disk.specs.Block.{log_block, page_block, phase_block, block_of, start_of, length_of};
 
-use memory::{PHASE};
 use script::call::Call;
-use store::State;
+use store::{Phase, State};
 
 // The bytes of a medium that a line can change: where they begin, and how many there are.
 #[derive(Clone, Copy)]
@@ -19,9 +18,8 @@ pub struct Extent {
 fn of_log(state: &State) -> u64
     ensures { result ≡ log_block state.now }
 {
-    let blocks = state.blocks;
-    if memory::fit::in_range(blocks, state.pages) {
-        return layout::place::log_block(blocks, layout::journal::sequence(&state.tail)) as u64;
+    if memory::fit::in_range(state.blocks, state.pages) {
+        return layout::place::log_block(state.blocks, layout::journal::sequence(&state.tail)) as u64;
     }
     0
 }
@@ -30,28 +28,21 @@ fn of_log(state: &State) -> u64
 fn of_page(state: &State, page: u64) -> u64
     ensures { result ≡ page_block state.now page }
 {
-    let blocks = state.blocks;
-    let pages = state.pages;
-    if memory::fit::in_range(blocks, pages) {
-        if page < pages {
-            return layout::place::page_block(blocks, page) as u64;
-        }
+    if memory::fit::in_range(state.blocks, state.pages) && page < state.pages {
+        return layout::place::page_block(state.blocks, page) as u64;
     }
     0
 }
 
 // The block that the next call of a checkpoint stores.
-fn of_phase(state: &State) -> u64
-    ensures { result ≡ phase_block state.now.phase }
+fn of_phase(phase: Phase) -> u64
+    ensures { result ≡ phase_block phase }
 {
-    let kind = words[PHASE];
-    if kind == 1 {
-        return 2;
+    match phase {
+        Phase::Idle => 1,
+        Phase::FirstStored(_, _) => 2,
+        Phase::SecondStored(_, _) => 0,
     }
-    if kind == 2 {
-        return 0;
-    }
-    1
 }
 
 // The block that a line can change; 0 for a line that changes none.
@@ -59,13 +50,13 @@ pub fn of(call: Call, state: &State) -> u64
     ensures { result ≡ block_of state.now call }
 {
     match call {
-        Call::Write(_, _) => of_log(state),
-        Call::Erase(_, _) => of_log(state),
-        Call::Commit(_, _) => of_log(state),
-        Call::Hand(_, _, _, _, _) => of_log(state),
-        Call::StoreLog => of_log(state),
+        Call::Write(_, _)
+        | Call::Erase(_, _)
+        | Call::Commit(_, _)
+        | Call::Hand(_, _, _, _, _)
+        | Call::StoreLog => of_log(state),
         Call::StorePage(page) => of_page(state, page),
-        Call::Checkpoint => of_phase(state),
+        Call::Checkpoint => of_phase(state.phase),
         Call::Poke(offset, _) => offset / 512,
         _ => 0,
     }
@@ -95,12 +86,9 @@ pub fn extent_of(block: u64, n: usize) -> Extent
     ensures len_bound { (result.at + result.len ≤ n) × (result.len ≤ 512) }
 {
     let at = start(block, n);
-    if 512 < n - at {
-        return Extent { at: at, len: 512 };
-    }
     Extent {
         at: at,
-        len: n - at,
+        len: (n - at).min(512),
     }
 }
 
@@ -109,9 +97,7 @@ pub fn keep(e: Extent, medium: &[u8], before: &mut [u8])
     requires { (e.at + e.len ≤ length medium.now) × (e.len ≤ length before.old) }
     ensures { take e.len before.new ≡ part medium.now e.at e.len }
 {
-    let at = e.at;
-    let len = e.len;
-    fields::block::copy(&mut before[..len], &medium[at..at + len]);
+    before[..e.len].copy_from_slice(&medium[e.at..e.at + e.len]);
 }
 
 // Are the bytes others than those that were kept?
@@ -119,7 +105,5 @@ pub fn differ(e: Extent, medium: &[u8], before: &[u8]) -> bool
     requires { (e.at + e.len ≤ length medium.now) × (e.len ≤ length before.now) }
     ensures { result ≡ not (eq_list (take e.len before.now) (part medium.now e.at e.len)) }
 {
-    let at = e.at;
-    let len = e.len;
-    !fields::block::same(&before[..len], &medium[at..at + len])
+    !fields::block::same(&before[..e.len], &medium[e.at..e.at + e.len])
 }

@@ -9,12 +9,14 @@ pub fn named(medium: &[u8], bytes: usize) -> Standing
     requires { bytes ≤ length medium.now }
     ensures { result ≡ named_by medium.now bytes }
 {
-    let mut blocks: u64 = 0;
-    let mut pages: u64 = 0;
-    if 512 <= bytes {
-        blocks = fields::field::get2(medium, 3);
-        pages = fields::field::get2(medium, 8);
-    }
+    let (blocks, pages) = if bytes < 512 {
+        (0, 0)
+    } else {
+        (
+            fields::field::get2(medium, 3),
+            fields::field::get2(medium, 8),
+        )
+    };
     Standing {
         stage: 2,
         blocks: blocks,

@@ -4,12 +4,12 @@ use Prim.Native.Nat.{ℕ, zero, suc, ◌+◌, ◌-◌, ◌*◌, ◌/◌, ◌%◌
 use native.Mathlib.Nat.{pow-suc, one-le-pow}
 use native.Mathlib.Numerals.{add-one}
 use native.Mathlib.Omega.{arith}
-use mathlib.Core.List.{List, [], ◌∷◌, ◌++◌, append-nil}
+use mathlib.Core.List.{List, [], ◌∷◌, ◌++◌, append-nil, append_assoc}
 use lib.ListN.{length, take, drop, get_or, set, length-drop}
-use lib.Seq.{get_or-drop, drop-cons, drop-length, take-suc-set, append_snoc, take_all}
+use lib.Seq.{get_or-drop, drop-length, drop_at, take-suc-set, append_snoc, take_all}
 use Rattle.fields.specs.Field.{enc, dec}
 use Rattle.fields.specs.Part.{part, splice}
-use Rattle.fields.proofs.PartLaws.{length_part, lent_back, lent_length, part_splice, part_after}
+use Rattle.fields.proofs.PartLaws.{length_part, part_splice}
 use mir.Val.{Fits}
 use mir.Syntax.{w8}
 
@@ -70,27 +70,32 @@ dec_lt (suc k) (b ∷ l) h le =
 pub dec_part_lt : (b : List ℕ) (at w : ℕ) → Bytes b → at + w ≤ length b → dec (part b at w) < 256 ^ w
 dec_part_lt b at w k h = dec_lt w (part b at w) (bytes_take w (drop at b) (bytes_drop at b k)) (rw (length_part b at w h) (omega arith))
 
--- one byte more in front: a loop that reads from the top down
-pub dec_drop : (l : List ℕ) (i : ℕ) → i < length l → dec (drop i l) ≡ dec (drop (i + 1) l) * 256 + get_or l i 0
+-- before the first turn of `get` all bytes are left
+pub dec_start : (s left : List ℕ) → left ≡ s → (left ++ drop (length left) s ≡ s) × (0 ≡ dec (drop (length left) s))
 unfolding dec
-dec_drop l i h = rw (add-one, drop-cons l i 0) (omega arith)
+dec_start s left e = rw (e, drop-length s) (append-nil s, refl)
 
-pub dec_end : (l : List ℕ) → 0 ≡ dec (drop (length l) l)
+-- a turn of `get` takes the last byte b of those that are left; the bytes behind them are read already
+pub dec_turn : (s left rest : List ℕ) (b v : ℕ) → left ≡ rest ++ (b ∷ []) → left ++ drop (length left) s ≡ s → v ≡ dec (drop (length left) s)
+    → (rest ++ drop (length rest) s ≡ s) × (v * 256 + b ≡ dec (drop (length rest) s))
 unfolding dec
-dec_end l = rw (drop-length l)
+dec_turn s left rest b v e p ev = go (drop (length left) s) (ap (λ (l : List ℕ). l ++ drop (length left) s) (sym e) ∙ p) ev
+  where
+    go : (t : List ℕ) → (rest ++ (b ∷ [])) ++ t ≡ s → v ≡ dec t → (rest ++ drop (length rest) s ≡ s) × (v * 256 + b ≡ dec (drop (length rest) s))
+    go t q f =
+        let r : rest ++ (b ∷ t) ≡ s = rw append_assoc at q in
+        let d : drop (length rest) s ≡ b ∷ t = ap (drop (length rest)) (sym r) ∙ drop_at rest (b ∷ t) (length rest) refl in
+        (rw d r, rw (d, f) (omega arith))
 
--- a turn that goes down from i, and its bounds
-pub dec_turn : (l : List ℕ) (i v b : ℕ) → v ≡ dec (drop i l) → 0 < i → i ≤ length l → b ≡ get_or l (i - 1) 0 → v * 256 + b ≡ dec (drop (i - 1) l)
-dec_turn l i v b hv lo hi hb =
-    let e : i - 1 + 1 ≡ i = omega arith in
-    let s : dec (drop (i - 1) l) ≡ dec (drop (i - 1 + 1) l) * 256 + get_or l (i - 1) 0 = dec_drop l (i - 1) (omega arith) in
-    cc
+-- the number so far fits, for it is that of at most eight bytes
+pub dec_room : (s left rest : List ℕ) (b v : ℕ) → Bytes s → length s ≤ 8 → left ≡ rest ++ (b ∷ []) → left ++ drop (length left) s ≡ s
+    → v ≡ dec (drop (length left) s) → v * 256 + b < 256 ^ 8
+dec_room s left rest b v k h e p ev =
+    rw (dec_turn s left rest b v e p ev).1
+    (dec_lt 8 (drop (length rest) s) (bytes_drop (length rest) s k) (simp length-drop (omega arith)))
 
-pub dec_room : (l : List ℕ) (i v : ℕ) → Bytes l → length l ≤ 8 → 0 < i → v ≡ dec (drop i l) → v < 256 ^ 7
-dec_room l i v h le lo hv = omega (arith, dec_lt 7 (drop i l) (bytes_drop i l h) (simp length-drop (omega arith)))
-
-pub dec_all : (l : List ℕ) (i v : ℕ) → i ≤ 0 → v ≡ dec (drop i l) → v ≡ dec l
-dec_all l i v h e = let z : i ≡ 0 = omega arith in rw z at e
+pub dec_done : (s left : List ℕ) (v : ℕ) → length left ≡ 0 → v ≡ dec (drop (length left) s) → v ≡ dec s
+dec_done s left v z e = rw z at e
 
 -- a turn of `put`: what is written up to i, and then the bytes that are still to come
 pub enc_turn : (s : List ℕ) (i v : ℕ) → i < length s → take (i + 1) (set s i (v % 256)) ++ enc (length s - (i + 1)) (v / 256) ≡ take i s ++ enc (length s - i) v
@@ -105,16 +110,8 @@ enc_end s l i v h e =
     let z : length s - i ≡ 0 = omega arith in
     sym (append-nil s) ∙ (rw (z, take_all i s h) at e)
 
--- `put` on a part of w bytes
-pub put_back : (l v : List ℕ) (at w n : ℕ) → at + w ≤ length l → length v ≡ length (take (at + w - at) (drop at l))
-    → v ≡ enc (length (take (at + w - at) (drop at l))) n → take at l ++ (v ++ drop (at + w - at) (drop at l)) ≡ splice l at (enc w n)
-put_back l v at w n h k e = lent_back l v at w h k ∙ ap (splice l at) (rw (lent_length l at w h) at e)
-
 -- what was put is read back, and a field beside it is as it was
 pub read_back : (l : List ℕ) (at w n : ℕ) → at + w ≤ length l → n < 256 ^ w → dec (part (splice l at (enc w n)) at w) ≡ n
 read_back l at w n h b =
     let p : part (splice l at (enc w n)) at (length (enc w n)) ≡ enc w n = part_splice l at (enc w n) (rw length_enc h) in
     ap dec (rw length_enc at p) ∙ dec_enc w n b
-
-pub read_other : (l : List ℕ) (at w n b k : ℕ) → at + w ≤ b → dec (part (splice l at (enc w n)) b k) ≡ dec (part l b k)
-read_other l at w n b k h = ap dec (part_after l at (enc w n) b k (rw length_enc h))

@@ -7,4 +7,4 @@ pub mod WriteLaws
 pub mod ReadLaws
 pub mod CellLaws
 pub mod BlockLaws
-pub mod HalfLaws
+pub mod WordLaws

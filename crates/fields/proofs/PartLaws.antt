@@ -49,6 +49,11 @@ pub lent_back : (l v : List ℕ) (at n : ℕ) → at + n ≤ length l → length
     → take at l ++ (v ++ drop (at + n - at) (drop at l)) ≡ splice l at v
 lent_back l v at n h e = lent_laid l v at n h (e ∙ lent_length l at n h)
 
+-- the same where the callee left w
+pub lent_copy : (l v w : List ℕ) (at n : ℕ) → at + n ≤ length l → length v ≡ length (take (at + n - at) (drop at l)) → v ≡ w
+    → take at l ++ (v ++ drop (at + n - at) (drop at l)) ≡ splice l at w
+lent_copy l v w at n h e f = lent_back l v at n h e ∙ ap (splice l at) f
+
 -- the part `&l[at..]`, as the loan has it
 pub lent_rest : (l : List ℕ) (at : ℕ) → take (length l - at) (drop at l) ≡ drop at l
 lent_rest l at = take_all (length l - at) (drop at l) (simp length-drop (omega arith))
@@ -114,10 +119,3 @@ splice_in (x ∷ l) zero (suc n) zero (y ∷ v) h = ap (λ (t : List ℕ). y ∷
 splice_in (x ∷ l) zero (suc n) (suc b) v h =
     rw zero-add (ap (λ (t : List ℕ). x ∷ t) (rw zero-add at (splice_in l zero n b v (omega arith))))
 splice_in (x ∷ l) (suc a) n b v h = rw suc-add (ap (λ (t : List ℕ). x ∷ t) (splice_in l a n b v h))
-
--- one part after another
-pub splice_append : (l a b : List ℕ) → length a + length b ≤ length l → splice (splice l 0 a) (length a) b ≡ splice l 0 (a ++ b)
-unfolding splice
-splice_append [] a b h = refl
-splice_append (x ∷ l) [] b h = refl
-splice_append (x ∷ l) (y ∷ a) b h = ap (λ (t : List ℕ). y ∷ t) (splice_append l a b (omega arith))

@@ -3,22 +3,14 @@ ghost use Rattle.std.specs.Prelude.{◌≡◌, ◌+◌, ◌≤◌, ◌<◌, leng
 ghost use Rattle.fields.specs.Field.{enc, dec};
 ghost use Rattle.fields.specs.Part.{part, splice};
 
-pub fn wide(x: u8) -> u64
-    ensures { result ≡ x }
-{
-    x as u64
-}
-
 // The number of a field: the whole slice, lowest byte first.
 pub fn get(s: &[u8]) -> u64
     requires { length s.now ≤ 8 }
     ensures { result ≡ dec s.now }
 {
-    let mut v: u64 = 0;
-    let mut i = s.len();
-    while 0 < i {
-        i = i - 1;
-        v = v * 256 + wide(s[i]);
+    let mut v = 0;
+    for &b in s.iter().rev() {
+        v = v * 256 + u64::from(b);
     }
     v
 }
@@ -28,56 +20,41 @@ pub fn put(s: &mut [u8], n: u64)
     ensures { s.new ≡ enc (length s.old) n }
 {
     let mut v = n;
-    let mut i = 0;
-    while i < s.len() {
-        s[i] = (v % 256) as u8;
-        v = v / 256;
-        i += 1;
+    for b in s.iter_mut() {
+        *b = (v % 256) as u8;
+        v /= 256;
     }
 }
 
-// The fields of 2, 4 and 8 bytes, each of two halves, so that the compiler makes a single load of it.
+// The fields of 2 and 8 bytes that begin at a place.
 pub fn get2(s: &[u8], at: usize) -> u64
     requires { at + 2 ≤ length s.now }
     ensures { result ≡ dec (part s.now at 2) }
 {
-    wide(s[at]) + 256 * wide(s[at + 1])
-}
-
-fn get4(s: &[u8], at: usize) -> u64
-    requires { at + 4 ≤ length s.now }
-    ensures { result ≡ dec (part s.now at 4) }
-{
-    get2(s, at) + 65536 * get2(s, at + 2)
+    let mut bytes = [0; 2];
+    bytes.copy_from_slice(&s[at..at + 2]);
+    u64::from(u16::from_le_bytes(bytes))
 }
 
 pub fn get8(s: &[u8], at: usize) -> u64
     requires { at + 8 ≤ length s.now }
     ensures { result ≡ dec (part s.now at 8) }
 {
-    get4(s, at) + 4294967296 * get4(s, at + 4)
+    let mut bytes = [0; 8];
+    bytes.copy_from_slice(&s[at..at + 8]);
+    u64::from_le_bytes(bytes)
 }
 
 pub fn put2(s: &mut [u8], at: usize, n: u64)
     requires { at + 2 ≤ length s.old }
     ensures { s.new ≡ splice s.old at (enc 2 n) }
 {
-    s[at] = (n % 256) as u8;
-    s[at + 1] = (n / 256 % 256) as u8;
-}
-
-fn put4(s: &mut [u8], at: usize, n: u64)
-    requires { at + 4 ≤ length s.old }
-    ensures { s.new ≡ splice s.old at (enc 4 n) }
-{
-    put2(s, at, n);
-    put2(s, at + 2, n / 65536);
+    s[at..at + 2].copy_from_slice(&n.to_le_bytes()[..2]);
 }
 
 pub fn put8(s: &mut [u8], at: usize, n: u64)
     requires { at + 8 ≤ length s.old }
     ensures { s.new ≡ splice s.old at (enc 8 n) }
 {
-    put4(s, at, n);
-    put4(s, at + 4, n / 4294967296);
+    s[at..at + 8].copy_from_slice(&n.to_le_bytes());
 }

@@ -1,7 +1,7 @@
 -- What a refused handover leaves, stage by stage: a refused call leaves all as it was, an abort frees the place of its number and
 -- nothing else, and so what stays is what begin, and where it was accepted the write, have put in.
 use Rattle.layout.specs.declared.CommitTime.{CommitTime}
-use Rattle.std.specs.Prelude.{Option, None, Some, Ok, Result}
+use Rattle.std.specs.Prelude.{Option, None, Some, Err, Ok, Result}
 use Prim.Native.Nat.{ℕ, ◌<◌}
 use native.Mathlib.Omega.{arith}
 use mathlib.Core.Path.{◌≡◌, refl, sym, ap, ◌∙◌}
@@ -105,7 +105,7 @@ module _ (s : State) (m c : List ℕ) (h : Transfer) where
         x = commits w n h
 
         -- the commit is refused: the abort frees the place in which the write counted its version
-        ended : (r : Refusal) → refusal_in w.answer ≡ None → refusal_in x.answer ≡ Some r → Left (gives_up (Denied r) x n)
+        ended : (r : Refusal) → refusal_in w.answer ≡ None → refusal_in x.answer ≡ Some r → Left (gives_up (Err (Denied r)) x n)
         ended r a y p =
             let k1 = way o.medium o.cache o.state (write n h.flight (with_owner o.value h.to)) in
             let v = write_left k1 a in
@@ -122,17 +122,17 @@ module _ (s : State) (m c : List ℕ) (h : Transfer) where
         go : (a : Option Refusal) → refusal_in w.answer ≡ a → Left (after_write a w n h)
         go (Some r) y =
             let u = refusal_leaves o.medium o.cache o.state (write n h.flight (with_owner o.value h.to)) r (in_refusal w.answer r y) in
-            number_left (Denied r) w n i (u.state ∙ e) (u.medium ∙ f) (u.cache ∙ g) (write_abortable o n h q)
+            number_left (Err (Denied r)) w n i (u.state ∙ e) (u.medium ∙ f) (u.cache ∙ g) (write_abortable o n h q)
         go None y = after y (refusal_in x.answer) refl
 
     check_stage : (a : Bool) → Left (after_check a o n h)
     unfolding after_check
-    check_stage false = number_left NotOwner o n i e f g q
+    check_stage false = number_left (Err NotOwner) o n i e f g q
     check_stage true = write_stage
 
     read_stage : (a : Option Refusal) → Left (after_read a o n h)
     unfolding after_read
-    read_stage (Some r) = number_left (Denied r) o n i e f g q
+    read_stage (Some r) = number_left (Err (Denied r)) o n i e f g q
     read_stage None = check_stage (may_hand o.answer o.value h)
 
   begin_stage : (a : Option Refusal) → refusal_in (begins s m c h).answer ≡ a → Left (after_begin a (begins s m c h) h)

@@ -13,19 +13,18 @@ use Rattle.store.specs.Commit.{commit_of}
 use Rattle.store.specs.Abort.{abort_of}
 use Rattle.handover.specs.declared.Transfer.{Transfer}
 use Rattle.handover.specs.declared.HandRefusal.{HandRefusal}
-use Rattle.handover.specs.declared.HandRefusal.TheVariants.{Denied, NotOwner, Handed}
+use Rattle.handover.specs.declared.HandRefusal.TheVariants.{Denied, NotOwner}
 
 -- 02, #101: "any refusal .. is answered", "17": 0, or the refusal's number
 unfoldable pub hand_number : Result CommitTime HandRefusal → ℕ
-hand_number (Denied r) = refusal_number r
-hand_number NotOwner = 17
-hand_number (Handed t) = 0
+hand_number (Err (Denied r)) = refusal_number r
+hand_number (Err NotOwner) = 17
+hand_number (Ok t) = 0
 
 -- 02, #101: "answering the commit time": the time, 0 where there is none
 unfoldable pub hand_value : Result CommitTime HandRefusal → ℕ
-hand_value (Denied r) = 0
-hand_value NotOwner = 0
-hand_value (Handed t) = t.0
+hand_value (Err r) = 0
+hand_value (Ok t) = t.0
 
 -- 01: "the statement about a call fixes result, state, medium and cache": all that a handover leaves
 pub record HandOutcome : Type 0 where
@@ -37,15 +36,7 @@ pub record HandOutcome : Type 0 where
 -- 02, #101: "any refusal": the one in an answer of the store, if there is one
 abbrev pub refusal_in : Result Answer Refusal → Option Refusal
 refusal_in (Err r) = Some r
-refusal_in (Ok Done) = None
-refusal_in (Ok (Begun n)) = None
-refusal_in (Ok (Written k)) = None
-refusal_in (Ok (Committed t)) = None
-refusal_in (Ok (Opened t)) = None
-refusal_in (Ok Missing) = None
-refusal_in (Ok Erased) = None
-refusal_in (Ok Present) = None
-refusal_in (Ok (Listed k)) = None
+refusal_in (Ok a) = None
 
 -- 02, #101: "is the strip present": by the read's answer
 abbrev pub is_present : Result Answer Refusal → Bool
@@ -109,29 +100,34 @@ hand_leaves a o = hand_ends a o.state o.medium o.cache
 abbrev pub gives_up : Result CommitTime HandRefusal → Outcome → ℕ → HandOutcome
 gives_up a o n = hand_leaves a (aborts o n)
 
+-- 02, #101: "any refusal aborts and is answered": o is what the calls under the number n left that answered this
+abbrev pub or_aborted : Result CommitTime HandRefusal → Outcome → ℕ → HandOutcome
+or_aborted (Ok t) o n = hand_leaves (Ok t) o
+or_aborted (Err r) o n = gives_up (Err r) o n
+
 -- 02, #101: "and commits, answering the commit time": after the commit o
 unfoldable pub after_commit : Option Refusal → Outcome → ℕ → HandOutcome
-after_commit (Some r) o n = gives_up (Denied r) o n
-after_commit None o n = hand_leaves (Handed (record { 0 = answer_value o.answer })) o
+after_commit (Some r) o n = gives_up (Err (Denied r)) o n
+after_commit None o n = hand_leaves (Ok (record { 0 = answer_value o.answer })) o
 
 -- 02, #101: "writes .. and commits": after the write o
 unfoldable pub after_write : Option Refusal → Outcome → ℕ → Transfer → HandOutcome
-after_write (Some r) o n h = gives_up (Denied r) o n
+after_write (Some r) o n h = gives_up (Err (Denied r)) o n
 after_write None o n h = after_commit (refusal_in (commits o n h).answer) (commits o n h) n
 
 -- 02, #101: "checks, writes": after the check of what the read o gave
 unfoldable pub after_check : Bool → Outcome → ℕ → Transfer → HandOutcome
-after_check false o n h = gives_up NotOwner o n
+after_check false o n h = gives_up (Err NotOwner) o n
 after_check true o n h = after_write (refusal_in (writes o n h).answer) (writes o n h) n h
 
 -- 02, #101: "It follows the store's own numbers for the read": after the read o
 unfoldable pub after_read : Option Refusal → Outcome → ℕ → Transfer → HandOutcome
-after_read (Some r) o n h = gives_up (Denied r) o n
+after_read (Some r) o n h = gives_up (Err (Denied r)) o n
 after_read None o n h = after_check (may_hand o.answer o.value h) o n h
 
 -- 02, #101: "It begins, reads": after the begin o; where it is refused there is nothing to abort
 unfoldable pub after_begin : Option Refusal → Outcome → Transfer → HandOutcome
-after_begin (Some r) o h = hand_leaves (Denied r) o
+after_begin (Some r) o h = hand_leaves (Err (Denied r)) o
 after_begin None o h =
     let n = answer_value o.answer in after_read (refusal_in (reads o n h).answer) (reads o n h) n h
 

@@ -1,14 +1,16 @@
-// Handing a flight from one sector to another as one action, above the store: its code makes the store's public calls and
-// touches no byte of medium or cache. The definitions in specs/ say what it does.
+// Handing a flight from one sector to another as one action, above the store: its code makes the store's public calls
+// and touches no byte of medium or cache. The definitions in specs/ say what it does.
 #![tactic(auto)]
 
-use layout::CommitTime;
+ghost use Rattle.std.specs.Prelude.{◌≡◌};
+ghost use Rattle.handover.specs.declared.HandRefusal.TheVariants.{Denied};
+
 use store::Refusal;
 
 pub mod hand;
 
-// What is asked for: the flight's record, the sector that has it and the one that takes it, and the clocks at begin and at
-// commit.
+// What is asked for: the flight's record, the sector that has it and the one that takes it, and the clocks at begin and
+// at commit.
 #[derive(Clone, Copy)]
 pub struct Transfer {
     pub flight: u16,
@@ -18,11 +20,18 @@ pub struct Transfer {
     pub ended: u64,
 }
 
-// What a handover answers: a refusal of the store's, its own refusal 17, or the commit time; `hand_number` and `hand_value` of
-// specs/ give the numbers of each.
+// Why a handover is refused: a refusal of the store's, or its own refusal 17; `hand_number` of specs/ gives the number
+// of each.
 #[derive(Clone, Copy)]
-pub enum HandAnswer {
+pub enum HandRefusal {
     Denied(Refusal),
     NotOwner,
-    Handed(CommitTime),
+}
+
+impl From<Refusal> for HandRefusal {
+    ghost from_gives = { λ why r. r ≡ Denied why };
+
+    fn from(why: Refusal) -> HandRefusal {
+        HandRefusal::Denied(why)
+    }
 }

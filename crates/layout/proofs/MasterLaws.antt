@@ -20,9 +20,7 @@ use Rattle.layout.specs.declared.item.Area.TheVariants.{Master as InMaster}
 use Rattle.layout.specs.declared.item.Item.{Item}
 use Rattle.layout.specs.declared.item.Item.TheVariants.{End, Version, Commit, Number, Damaged}
 use Rattle.layout.specs.declared.master.Fields.{Fields}
-use Rattle.layout.specs.declared.master.Value.{Value}
-use Rattle.layout.specs.declared.master.Value.TheVariants.{Of, Missing}
-use Rattle.layout.specs.declared.master.Found.TheVariants.{Whole, Broken}
+use Rattle.std.specs.Prelude.{Option, Some, None}
 use Rattle.fields.proofs.Choose.{cond_elim}
 use Rattle.fields.proofs.EqualLaws.{zero_true, zero_zeros}
 use Rattle.fields.proofs.FieldLaws.{Bytes, length_enc, dec_part_lt, bytes_enc, bytes_drop}
@@ -75,7 +73,7 @@ master_laid f z a b c d ez ea eb ec ed =
     five a b c d e z = simp append_assoc
 
 -- a field that was written is read back, whatever is behind it
-pub field_back : (tag n : ℕ) (z : List ℕ) → 0 < tag → tag ≤ 5 → n < 256 ^ width_of tag → field_of tag (item_bytes tag (enc (width_of tag) n) ++ z) ≡ Of n
+pub field_back : (tag n : ℕ) (z : List ℕ) → 0 < tag → tag ≤ 5 → n < 256 ^ width_of tag → field_of tag (item_bytes tag (enc (width_of tag) n) ++ z) ≡ Some n
 unfolding field_of
 field_back tag n z l u h = simp (number_back tag n z l u h, eq-eqb tag tag refl)
 
@@ -84,31 +82,35 @@ pub record FieldAt (tag w : ℕ) (b : List ℕ) (n : ℕ) : Type 0 where
   pub holds : Holds b tag w
   pub is : n ≡ dec (part b 3 w)
 
-pub field_told : (tag : ℕ) (b : List ℕ) (n : ℕ) → field_of tag b ≡ Of n → FieldAt tag (width_of tag) b n
+pub field_told : (tag : ℕ) (b : List ℕ) (n : ℕ) → field_of tag b ≡ Some n → FieldAt tag (width_of tag) b n
 unfolding field_of
 field_told tag b n = go (item_of InMaster b) (told InMaster b)
   where
-    missing : {A : Type 0} → Missing ≡ Of n → A
+    missing : {A : Type 0} → None ≡ Some n → A
     missing e = let z : ◌≡◌ {A = ℕ} 0 1 = cc in absurd (omega arith)
 
-    number : (k v : ℕ) → Told InMaster b (Number k v) → k ≡ tag → Of v ≡ Of n → FieldAt tag (width_of tag) b n
+    number : (k v : ℕ) → Told InMaster b (Number k v) → k ≡ tag → Some v ≡ Some n → FieldAt tag (width_of tag) b n
     number k v t p e =
         let q : v ≡ n = cc in
         record { holds = rw p at t.1; is = sym q ∙ (rw p at t.2) }
 
-    go : (i : Item) → Told InMaster b i → number_of i tag ≡ Of n → FieldAt tag (width_of tag) b n
+    go : (i : Item) → Told InMaster b i → number_of i tag ≡ Some n → FieldAt tag (width_of tag) b n
     go End t e = missing e
     go (Version h) t e = missing e
     go (Commit p) t e = missing e
-    go (Number k v) t e = cond_elim (λ (x : Value). x ≡ Of n → FieldAt tag (width_of tag) b n) (eqb k tag) (λ p. number k v t (eqb-true k tag p)) (λ p. missing) e
+    go (Number k v) t e = cond_elim (λ (x : Option ℕ). x ≡ Some n → FieldAt tag (width_of tag) b n) (eqb k tag) (λ p. number k v t (eqb-true k tag p)) (λ p. missing) e
     go Damaged t e = missing e
 
--- the parts `&b[at..]`, as the loan has them
-pub rest_field : (tag at : ℕ) (b : List ℕ) (v : Value) → v ≡ field_of tag (take (length b - at) (drop at b)) → field_of tag (drop at b) ≡ v
-rest_field tag at b v e = sym (rw (lent_rest b at) at e)
+-- the part `&b[at..]`, as the loan has it
+abbrev lent : List ℕ → ℕ → List ℕ
+lent b at = take (length b - at) (drop at b)
 
-pub rest_zero : (at : ℕ) (b : List ℕ) (v : Bool) → v ≡ all_zero (take (length b - at) (drop at b)) → all_zero (drop at b) ≡ v
-rest_zero at b v e = sym (rw (lent_rest b at) at e)
+-- the fields, read in the lent parts
+pub master_lent : (b : List ℕ) → master_of b ≡
+    fetch (field_of 1 b) (λ l. fetch (field_of 2 (lent b 5)) (λ d. fetch (field_of 3 (lent b 10)) (λ o. fetch (field_of 4 (lent b 21)) (λ n. fetch (field_of 5 (lent b 32)) (λ t.
+    cond (all_zero (lent b 43)) (Some (record { blocks = l; pages = d; oldest = o; next = record { 0 = n }; last = record { 0 = t } })) None)))))
+unfolding master_of
+master_lent b = simp lent_rest
 
 pub length_master_bytes : (f : Fields) → length (master_bytes f) ≡ 512
 unfolding master_bytes
@@ -150,34 +152,34 @@ pub record MasterAt (b : List ℕ) (f : Fields) : Type 0 where
   pub last : FieldAt 5 8 (drop 32 b) f.last.0
   pub rest : all_zero (drop 43 b) ≡ true
 
-broken : (f : Fields) → Broken ≡ Whole f → ⊥
+broken : (f : Fields) → None ≡ Some f → ⊥
 broken f e = let z : ◌≡◌ {A = ℕ} 0 1 = cc in omega arith
 
-whole_inj : (f g : Fields) → Whole f ≡ Whole g → f ≡ g
+whole_inj : (f g : Fields) → Some f ≡ Some g → f ≡ g
 whole_inj f g e = cc
 
 -- five fields that are all there
-found_inv : (v₁ v₂ v₃ v₄ v₅ : Value) (z : Bool) (f : Fields)
+found_inv : (v₁ v₂ v₃ v₄ v₅ : Option ℕ) (z : Bool) (f : Fields)
     → fetch v₁ (λ l. fetch v₂ (λ d. fetch v₃ (λ o. fetch v₄ (λ n. fetch v₅ (λ t. cond z
-    (Whole (record { blocks = l; pages = d; oldest = o; next = record { 0 = n }; last = record { 0 = t } })) Broken))))) ≡ Whole f
-    → (v₁ ≡ Of f.blocks) × (v₂ ≡ Of f.pages) × (v₃ ≡ Of f.oldest) × (v₄ ≡ Of f.next.0) × (v₅ ≡ Of f.last.0) × (z ≡ true)
-found_inv Missing v₂ v₃ v₄ v₅ z f e = absurd (broken f e)
-found_inv (Of l) Missing v₃ v₄ v₅ z f e = absurd (broken f e)
-found_inv (Of l) (Of d) Missing v₄ v₅ z f e = absurd (broken f e)
-found_inv (Of l) (Of d) (Of o) Missing v₅ z f e = absurd (broken f e)
-found_inv (Of l) (Of d) (Of o) (Of n) Missing z f e = absurd (broken f e)
-found_inv (Of l) (Of d) (Of o) (Of n) (Of t) false f e = absurd (broken f e)
-found_inv (Of l) (Of d) (Of o) (Of n) (Of t) true f e =
+    (Some (record { blocks = l; pages = d; oldest = o; next = record { 0 = n }; last = record { 0 = t } })) None))))) ≡ Some f
+    → (v₁ ≡ Some f.blocks) × (v₂ ≡ Some f.pages) × (v₃ ≡ Some f.oldest) × (v₄ ≡ Some f.next.0) × (v₅ ≡ Some f.last.0) × (z ≡ true)
+found_inv None v₂ v₃ v₄ v₅ z f e = absurd (broken f e)
+found_inv (Some l) None v₃ v₄ v₅ z f e = absurd (broken f e)
+found_inv (Some l) (Some d) None v₄ v₅ z f e = absurd (broken f e)
+found_inv (Some l) (Some d) (Some o) None v₅ z f e = absurd (broken f e)
+found_inv (Some l) (Some d) (Some o) (Some n) None z f e = absurd (broken f e)
+found_inv (Some l) (Some d) (Some o) (Some n) (Some t) false f e = absurd (broken f e)
+found_inv (Some l) (Some d) (Some o) (Some n) (Some t) true f e =
     let g = whole_inj _ f e in (
-      ap (λ (x : Fields). Of x.blocks) g,
-      ap (λ (x : Fields). Of x.pages) g,
-      ap (λ (x : Fields). Of x.oldest) g,
-      ap (λ (x : Fields). Of x.next.0) g,
-      ap (λ (x : Fields). Of x.last.0) g,
+      ap (λ (x : Fields). Some x.blocks) g,
+      ap (λ (x : Fields). Some x.pages) g,
+      ap (λ (x : Fields). Some x.oldest) g,
+      ap (λ (x : Fields). Some x.next.0) g,
+      ap (λ (x : Fields). Some x.last.0) g,
       refl,
     )
 
-pub master_inv : (b : List ℕ) (f : Fields) → master_of b ≡ Whole f → MasterAt b f
+pub master_inv : (b : List ℕ) (f : Fields) → master_of b ≡ Some f → MasterAt b f
 unfolding master_of
 master_inv b f e =
     let h = found_inv (field_of 1 b) (field_of 2 (drop 5 b)) (field_of 3 (drop 10 b)) (field_of 4 (drop 21 b)) (field_of 5 (drop 32 b)) (all_zero (drop 43 b)) f e in
@@ -192,7 +194,7 @@ master_inv b f e =
 
 -- what was written is read back
 module _ (f : Fields) where
-  at0 : f.blocks < 65536 → field_of 1 (master_bytes f) ≡ Of f.blocks
+  at0 : f.blocks < 65536 → field_of 1 (master_bytes f) ≡ Some f.blocks
   unfolding master_bytes
   at0 h = field_back 1 f.blocks _ (omega arith) (omega arith) h
 
@@ -212,7 +214,7 @@ module _ (f : Fields) where
   at43 : drop 43 (master_bytes f) ≡ zeros 469
   at43 = sym (drop-drop 11 32 (master_bytes f)) ∙ ap (drop 11) at32 ∙ drop_at (last₅ f) _ 11 (length_field 5 8 f.last.0)
 
-  pub master_back : FieldsSized f → master_of (master_bytes f) ≡ Whole f
+  pub master_back : FieldsSized f → master_of (master_bytes f) ≡ Some f
   unfolding master_of
   master_back s =
       simp (
@@ -235,7 +237,7 @@ field_again tag w n at b t k h e =
     let d : enc w n ≡ part c 3 w = rw h.is (enc_part c 3 w h.holds.room (bytes_drop at b k)) in
     rw (d, item_again c tag w (bytes_drop at b k) h.holds, e, ← (drop-drop (3 + w) at b)) (take-append-drop (3 + w) c)
 
-pub master_again : (b : List ℕ) (f : Fields) → master_of b ≡ Whole f → length b ≡ 512 → Bytes b → master_bytes f ≡ b
+pub master_again : (b : List ℕ) (f : Fields) → master_of b ≡ Some f → length b ≡ 512 → Bytes b → master_bytes f ≡ b
 unfolding master_bytes
 master_again b f e l k =
     let h = master_inv b f e in
@@ -264,13 +266,13 @@ parts b f h = record {
   last = rw (drop-drop 3 32 b) at h.last.is;
 }
 
-pub master_parts : (b : List ℕ) (f : Fields) → master_of b ≡ Whole f → MasterParts b f
+pub master_parts : (b : List ℕ) (f : Fields) → master_of b ≡ Some f → MasterParts b f
 master_parts b f e = parts b f (master_inv b f e)
 
 field_below : (tag w : ℕ) (b : List ℕ) (n : ℕ) → FieldAt tag w b n → Bytes b → n < 256 ^ w
 field_below tag w b n h k = rw h.is (dec_part_lt b 3 w k h.holds.room)
 
-pub master_sized : (b : List ℕ) (f : Fields) → master_of b ≡ Whole f → Bytes b → FieldsSized f
+pub master_sized : (b : List ℕ) (f : Fields) → master_of b ≡ Some f → Bytes b → FieldsSized f
 master_sized b f e k =
     let h = master_inv b f e in
     record {

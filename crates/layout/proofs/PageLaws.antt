@@ -7,6 +7,7 @@ use Prim.Native.Nat.{ℕ, zero, suc, ◌+◌, ◌-◌, ◌*◌, ◌^◌, ◌≤�
 use native.Mathlib.Nat.{add-zero}
 use native.Mathlib.Omega.{arith}
 use mathlib.Core.List.{List, [], ◌∷◌, ◌++◌}
+use Rattle.std.specs.List.{list_all, range_with_len}
 use lib.Dec.{ltb, leb, eqb}
 use lib.ListN.{length, drop, get_or, set, length-append, length-set, length-replicate, replicate-append-replicate}
 use lib.Seq.{take_all}
@@ -27,20 +28,12 @@ use Rattle.fields.proofs.ReadLaws.{part_join, part_cons, enc_part}
 use Rattle.fields.proofs.CellLaws.{Each, bytes_cons, bytes_append, bytes_zeros, bytes_flat, each_at, each_map, Cells, splice_behind, part_behind, length_flat, cell_at, cell_set, cell_add}
 use Rattle.layout.proofs.SlotLaws.{SlotSized, SlotHolds, cell_stamped, length_slot_bytes, sized_length, bytes_slot_bytes, cell_slot_bytes, form_slot_bytes, slot_again, cell_sized, cell_holds, stamped_bytes}
 
--- ---- the loop of `page::in_form`; b is the test of slot i
+-- ---- the slots, as `all` goes over them
 
-pub form_miss : (p : List ℕ) (i : ℕ) (b : Bool) → i < 15 → b ≡ slot_form_at p i → b ≡ false → slots_form p i (15 - i) ≡ false
+pub slots_all : (p : List ℕ) (i k : ℕ) → slots_form p i k ≡ list_all (slot_form_at p) (range_with_len i k)
 unfolding slots_form
-form_miss p i b h e t = let m : 15 - i ≡ suc (15 - (i + 1)) = omega arith in simp (m, ← e, t)
-
-pub form_hit : (p : List ℕ) (i : ℕ) (b : Bool) → i < 15 → b ≡ slot_form_at p i → b ≡ true
-    → slots_form p (i + 1) (15 - (i + 1)) ≡ slots_form p i (15 - i)
-unfolding slots_form
-form_hit p i b h e t = let m : 15 - i ≡ suc (15 - (i + 1)) = omega arith in simp (m, ← e, t)
-
-pub form_end : (p : List ℕ) (i : ℕ) → 15 ≤ i → slots_form p i (15 - i) ≡ true
-unfolding slots_form
-form_end p i h = let m : 15 - i ≡ 0 = omega arith in rw m
+slots_all p i zero = refl
+slots_all p i (suc k) = ap (λ (t : Bool). slot_form_at p i && t) (slots_all p (i + 1) k)
 
 -- ---- the bytes of a page
 

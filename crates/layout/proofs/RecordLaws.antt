@@ -2,10 +2,12 @@
 -- what is read and written again is the same. Assumes nothing.
 use mathlib.Core.Path.{◌≡◌, refl, sym, ap, ◌∙◌}
 use Prim.Native.Nat.{ℕ, ◌+◌, ◌^◌, ◌≤◌, ◌<◌}
+use native.Mathlib.Nat.{zero-add}
 use native.Mathlib.Omega.{arith}
 use mathlib.Core.List.{List, [], ◌∷◌, ◌++◌, append_assoc}
-use lib.ListN.{length, get_or, drop, set, length-append}
+use lib.ListN.{length, get_or, take, drop, set, length-append}
 use lib.Seq.{get_or_at}
+use Rattle.std.proofs.lemmas.List.{get_or-take}
 use borrow.Author.Tests.{eq-eqb, le-leb}
 use Rattle.fields.specs.Field.{enc, dec}
 use Rattle.fields.specs.Part.{part, splice}
@@ -20,7 +22,7 @@ use Rattle.layout.specs.declared.item.VersionHead.{VersionHead}
 use Rattle.layout.specs.declared.item.Pair.{Pair}
 use Rattle.layout.specs.declared.item.Area.TheVariants.{Journal}
 use Rattle.layout.specs.declared.item.Item.TheVariants.{Version, Commit}
-use Rattle.fields.proofs.PartLaws.{splice_is, length_part}
+use Rattle.fields.proofs.PartLaws.{splice_is, length_part, part_part}
 use Rattle.fields.proofs.FieldLaws.{Bytes, length_enc, dec_part_lt, bytes_take, bytes_drop}
 use Rattle.fields.proofs.ReadLaws.{part_mid, dec_mid, part_join, part_cons, enc_part}
 use Rattle.layout.proofs.ItemLaws.{item_bytes_law}
@@ -36,6 +38,20 @@ pub bytes_few : (w : Width) → bytes_of w ≤ 2
 unfolding bytes_of
 bytes_few One = omega arith
 bytes_few Two = omega arith
+
+-- the head lies in the first bytes of a body
+pub head_taken : (w : Width) (b : List ℕ) → head_of w (take (29 + bytes_of w) b) ≡ head_of w b
+unfolding head_of
+head_taken w b =
+    let n = bytes_of w in
+    simp (
+      part_part b 0 (29 + n) 0 2 (omega arith),
+      part_part b 0 (29 + n) 2 n (omega arith),
+      get_or-take (29 + n) b (2 + n) 0 (omega arith),
+      part_part b 0 (29 + n) (3 + n) 2 (omega arith),
+      part_part b 0 (29 + n) (5 + n) 8 (omega arith),
+      zero-add,
+    )
 
 pub length_version_body : (h : VersionHead) (v : List ℕ) → length v ≡ 16 → length (version_body h v) ≡ 29 + bytes_of h.width
 unfolding version_body
@@ -115,33 +131,29 @@ version_written l a b d e v h n w s m ea eb ed ee =
     body : (((y ++ (h.kind ∷ [])) ++ enc 2 h.earlier) ++ enc 8 h.number.0) ++ v ≡ version_body h v
     body = rw (← w) (simp append_assoc)
 
--- tag, length and body behind each other
-pub item_written : (b c w : List ℕ) (at tag len : ℕ) → length w ≡ len → c ≡ splice (set b at tag) (at + 1) (enc 2 len)
+-- tag and length, and the content behind them
+pub head_written : (b v : List ℕ) (at tag : ℕ) → splice (set b at tag) (at + 1) v ≡ splice b at (tag ∷ v)
+head_written b v at tag = rw (set_splice b at tag) (splice_then b at (tag ∷ []) (at + 1) v refl)
+
+pub item_written : (b c w : List ℕ) (at tag len : ℕ) → length w ≡ len → c ≡ splice b at (tag ∷ enc 2 len)
     → splice c (at + 3) w ≡ splice b at (item_bytes tag w)
 unfolding item_bytes
-item_written b c w at tag len n e =
-    rw (
-      e,
-      set_splice b at tag,
-      splice_then b at (tag ∷ []) (at + 1) (enc 2 len) refl,
-      splice_then b at (tag ∷ enc 2 len) (at + 3) w (simp length_enc),
-      n,
-    )
+item_written b c w at tag len n e = rw (e, splice_then b at (tag ∷ enc 2 len) (at + 3) w (simp length_enc), n)
 
 pub version_added : (b c w v : List ℕ) (h : VersionHead) (at n : ℕ) → n ≡ 29 + bytes_of h.width → at ≡ used_of b → length v ≡ 16
-    → c ≡ splice (set b at (tag_of h.width)) (at + 1) (enc 2 n) → w ≡ version_body h v
+    → c ≡ splice b at (tag_of h.width ∷ enc 2 n) → w ≡ version_body h v
     → splice (splice c (at + 3) w) 8 (enc 2 (at + 3 + n)) ≡ add_record b (version h v)
 unfolding add_record record_bytes record_size
 version_added b c w v h at n s u m e f =
     let k : at + 3 + n ≡ at + (32 + bytes_of h.width) = omega arith in
     rw (item_written b c w at (tag_of h.width) n (ap length f ∙ length_version_body h v m ∙ sym s) e, k, f, u)
 
-pub commit_added : (b c w : List ℕ) (p : Pair) (at : ℕ) → at ≡ used_of b
-    → c ≡ splice (set b at 2) (at + 1) (enc 2 16) → w ≡ pair_bytes p
-    → splice (splice c (at + 3) w) 8 (enc 2 (at + 19)) ≡ add_record b (commit p)
+pub commit_added : (b c w : List ℕ) (p : Pair) (at : ℕ) → at ≡ used_of b → c ≡ splice b at (2 ∷ enc 2 16) → w ≡ pair_bytes p
+    → splice (splice c (at + 3) w) 8 (enc 2 (at + 3 + 16)) ≡ add_record b (commit p)
 unfolding add_record record_bytes record_size
 commit_added b c w p at u e f =
-    rw (item_written b c w at 2 16 (ap length f ∙ length_pair_bytes p) e, f, u)
+    let k : at + 3 + 16 ≡ at + 19 = omega arith in
+    rw (item_written b c w at 2 16 (ap length f ∙ length_pair_bytes p) e, k, f, u)
 
 -- ---- what was written is read back
 

@@ -55,22 +55,21 @@ same_cell c st k d e v es ek ed ee ev = rw (es, ek, ed, ee, ev)
 -- ---- written
 
 -- the stores of `slot::write_waiting`, one behind the other
-pub written : (s a b : List ℕ) (key kind earlier n : ℕ) (value : List ℕ) → length s ≡ 32 → length value ≡ 16 → key < 65536
-    → a ≡ splice (set (set (set (set s 0 1) 1 (key % 256)) 2 kind) 3 (key / 256)) 4 (enc 2 earlier)
-    → b ≡ splice (set (set a 6 0) 7 0) 8 (enc 8 n)
+pub written : (s a z b : List ℕ) (key kind earlier n : ℕ) (value : List ℕ) → length s ≡ 32 → length value ≡ 16
+    → a ≡ splice (set (set (set (set s 0 1) 1 (key % 256)) 2 kind) 3 (key / 256 % 256)) 4 (enc 2 earlier)
+    → z ≡ splice a 6 (0 ∷ 0 ∷ [])
+    → b ≡ splice z 8 (enc 8 n)
     → splice b 16 value ≡ slot_bytes (record { state = Waiting (record { 0 = n }); key = key; kind = kind; earlier = earlier; value = value })
 unfolding enc slot_bytes code_of shared_field
-written s a b key kind earlier n value hs hv hk ea eb =
-    let high : key / 256 % 256 ≡ key / 256 = omega arith in
+written s a z b key kind earlier n value hs hv ea ez eb =
     let s1 = set_splice s 0 1 in
     let s2 = lay_set s _ 1 (key % 256) refl s1 in
     let s3 = lay_set s _ 2 kind refl s2 in
-    let s4 = lay_set s _ 3 (key / 256) refl s3 in
+    let s4 = lay_set s _ 3 (key / 256 % 256) refl s3 in
     let s5 = ea ∙ lay s _ (enc 2 earlier) 4 refl s4 in
-    let s6 = lay_set s _ 6 0 refl s5 in
-    let s7 = lay_set s _ 7 0 refl s6 in
-    let s8 = eb ∙ lay s _ (enc 8 n) 8 refl s7 in
-    rw high (lay s _ value 16 refl s8 ∙ splice_whole s _ (omega arith))
+    let s6 = ez ∙ lay s _ (0 ∷ 0 ∷ []) 6 refl s5 in
+    let s7 = eb ∙ lay s _ (enc 8 n) 8 refl s6 in
+    lay s _ value 16 refl s7 ∙ splice_whole s _ (omega arith)
 
 pub length_slot_bytes : (c : Cell) → length c.value ≡ 16 → length (slot_bytes c) ≡ 32
 unfolding slot_bytes enc

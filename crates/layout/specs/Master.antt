@@ -1,5 +1,5 @@
 -- The master: five fields, then zeros.
-use Rattle.std.specs.Prelude.{ℕ, cond, List, ◌++◌, drop, eqb}
+use Rattle.std.specs.Prelude.{ℕ, cond, Option, Some, None, List, ◌++◌, drop, eqb}
 use Rattle.fields.specs.Field.{enc, dec}
 use Rattle.fields.specs.Part.{part}
 use Rattle.fields.specs.Equal.{all_zero}
@@ -9,10 +9,6 @@ use Rattle.layout.specs.declared.item.Area.TheVariants.{Master as InMaster}
 use Rattle.layout.specs.declared.item.Item.{Item}
 use Rattle.layout.specs.declared.item.Item.TheVariants.{End, Version, Commit, Number, Damaged}
 use Rattle.layout.specs.declared.master.Fields.{Fields}
-use Rattle.layout.specs.declared.master.Value.{Value}
-use Rattle.layout.specs.declared.master.Value.TheVariants.{Of, Missing}
-use Rattle.layout.specs.declared.master.Found.{Found}
-use Rattle.layout.specs.declared.master.Found.TheVariants.{Whole, Broken}
 
 -- 01: "Tag 1: L, 2 bytes. Tag 2: D, 2 bytes. Tag 3: oldest log block's sequence, 8 bytes. Tag 4: next transaction
 -- number, 8. Tag 5: last stored commit time, 8", "in this order, then zeros"
@@ -26,21 +22,21 @@ master_bytes f =
     ++ zeros 469))))
 
 -- the number of the field with the tag at the front of the bytes; anything else is damage
-abbrev pub number_of : Item → ℕ → Value
-number_of End tag = Missing
-number_of (Version h) tag = Missing
-number_of (Commit p) tag = Missing
-number_of (Number t n) tag = cond (eqb t tag) (Of n) Missing
-number_of Damaged tag = Missing
+abbrev pub number_of : Item → ℕ → Option ℕ
+number_of End tag = None
+number_of (Version h) tag = None
+number_of (Commit p) tag = None
+number_of (Number t n) tag = cond (eqb t tag) (Some n) None
+number_of Damaged tag = None
 
-unfoldable pub field_of : ℕ → List ℕ → Value
+unfoldable pub field_of : ℕ → List ℕ → Option ℕ
 field_of tag bs = number_of (item_of InMaster bs) tag
 
-abbrev pub fetch : Value → (ℕ → Found) → Found
-fetch (Of n) rest = rest n
-fetch Missing rest = Broken
+abbrev pub fetch : Option ℕ → (ℕ → Option Fields) → Option Fields
+fetch (Some n) rest = rest n
+fetch None rest = None
 
-unfoldable pub master_of : List ℕ → Found
+unfoldable pub master_of : List ℕ → Option Fields
 master_of b =
     fetch (field_of 1 b) (λ l.
     fetch (field_of 2 (drop 5 b)) (λ d.
@@ -48,8 +44,8 @@ master_of b =
     fetch (field_of 4 (drop 21 b)) (λ n.
     fetch (field_of 5 (drop 32 b)) (λ t.
     cond (all_zero (drop 43 b))
-    (Whole (record { blocks = l; pages = d; oldest = o; next = record { 0 = n }; last = record { 0 = t } }))
-    Broken)))))
+    (Some (record { blocks = l; pages = d; oldest = o; next = record { 0 = n }; last = record { 0 = t } }))
+    None)))))
 
 -- 01: "the master's on the medium (its bytes 13 to 20)"
 unfoldable pub oldest_on : List ℕ → ℕ

@@ -1,18 +1,20 @@
 // Tag, length, content: log records and master fields.
-ghost use Rattle.std.specs.Prelude.{◌≡◌, ◌+◌, ◌≤◌, ◌<◌, length};
+ghost use Rattle.std.specs.Prelude.{◌≡◌, ◌+◌, ◌≤◌, ◌<◌, ◌∷◌, ◌↔◌, length, take, IsSome, IfSome};
+ghost use Rattle.fields.specs.Field.{enc};
+ghost use Rattle.fields.specs.Part.{splice};
 ghost use Rattle.layout.specs.Item.{bytes_of, tag_of, head_of, pair_of, item_of, number_item, version_item, commit_item};
 
 use crate::{CommitTime, TxNumber};
 
 // How many bytes the record number takes in a version record: one under tag 1, two under tag 3.
-#[derive(Clone, Copy)]
+#[derive(Clone, Copy, PartialEq, Eq, Debug)]
 pub enum Width {
     One,
     Two,
 }
 
 // The fields of a version record but for its value, which stays where it lies. A key is a record number.
-#[derive(Clone, Copy)]
+#[derive(Clone, Copy, PartialEq, Eq, Debug)]
 pub struct VersionHead {
     pub width: Width,
     pub slot: u64,
@@ -23,20 +25,20 @@ pub struct VersionHead {
 }
 
 // A transaction and its commit time: a commit record, or a place of the pair table.
-#[derive(Clone, Copy)]
+#[derive(Clone, Copy, PartialEq, Eq, Debug)]
 pub struct Pair {
     pub number: TxNumber,
     pub time: CommitTime,
 }
 
 // What an item belongs to: the same tag means other things in the log and in the master.
-#[derive(Clone, Copy)]
+#[derive(Clone, Copy, PartialEq, Eq, Debug)]
 pub enum Area {
     Journal,
     Master,
 }
 
-#[derive(Clone, Copy)]
+#[derive(Clone, Copy, PartialEq, Eq, Debug)]
 pub enum Item {
     End,
     Version(VersionHead),
@@ -46,6 +48,7 @@ pub enum Item {
 }
 
 // The bytes of a record number.
+#[tactic(auto, unfolding(crate::specs::Item::bytes_of))]
 pub fn bytes(width: Width) -> usize
     ensures { result ≡ bytes_of width }
 {
@@ -56,6 +59,7 @@ pub fn bytes(width: Width) -> usize
 }
 
 // The tag of a version record.
+#[tactic(auto, unfolding(crate::specs::Item::tag_of))]
 pub(crate) fn tag(width: Width) -> u8
     ensures { result ≡ tag_of width }
 {
@@ -65,14 +69,24 @@ pub(crate) fn tag(width: Width) -> u8
     }
 }
 
+// Writes tag and length of an item at `at`; its content follows.
+pub(crate) fn put_head(bytes: &mut [u8], at: usize, tag: u8, len: usize)
+    requires { at + 3 ≤ length bytes.old }
+    ensures { bytes.new ≡ splice bytes.old at (tag ∷ enc 2 len) }
+{
+    bytes[at] = tag;
+    fields::field::put2(bytes, at + 1, len as u64);
+}
+
 // The fields of a version record's body.
+#[tactic(auto, unfolding(crate::specs::Item::bytes_of, crate::specs::Item::head_of))]
 fn version_head(width: Width, body: &[u8]) -> VersionHead
     requires { 29 + bytes_of width ≤ length body.now }
     ensures { result ≡ head_of width body.now }
 {
     let n = bytes(width);
     VersionHead {
-        width: width,
+        width,
         slot: fields::field::get2(body, 0),
         key: fields::field::get(&body[2..2 + n]) as u16,
         kind: body[2 + n],
@@ -82,6 +96,7 @@ fn version_head(width: Width, body: &[u8]) -> VersionHead
 }
 
 // A number and a time, one behind the other.
+#[tactic(auto, unfolding(crate::specs::Item::pair_of))]
 pub fn read_pair(body: &[u8]) -> Pair
     requires { 16 ≤ length body.now }
     ensures { result ≡ pair_of body.now }
@@ -92,50 +107,55 @@ pub fn read_pair(body: &[u8]) -> Pair
     }
 }
 
+// The first `want` bytes of a body, if the length that was read is that and the body holds them.
+fn whole(want: usize, len: u64, body: &[u8]) -> Option<&[u8]>
+    ensures variant { IsSome result ↔ ((len ≡ want) × (want ≤ length body.now)) }
+    ensures value { IfSome result (λ content. content.now ≡ take want body.now) }
+{
+    if len != want as u64 {
+        return None;
+    }
+    body.get(..want)
+}
+
+#[tactic(auto, using(crate::proofs::RecordLaws::head_taken), unfolding(crate::specs::Item::bytes_of, crate::specs::Item::version_item))]
 fn version_item(width: Width, len: u64, body: &[u8]) -> Item
     ensures { result ≡ version_item width len body.now }
 {
-    let want = 29 + bytes(width);
-    if len != want as u64 {
+    let Some(body) = whole(29 + bytes(width), len, body) else {
         return Item::Damaged;
-    }
-    if body.len() < want {
-        return Item::Damaged;
-    }
+    };
     Item::Version(version_head(width, body))
 }
 
+#[tactic(auto, unfolding(crate::specs::Item::commit_item, crate::specs::Item::pair_of))]
 fn commit_item(len: u64, body: &[u8]) -> Item
     ensures { result ≡ commit_item len body.now }
 {
-    if len != 16 {
+    let Some(body) = whole(16, len, body) else {
         return Item::Damaged;
-    }
-    if body.len() < 16 {
-        return Item::Damaged;
-    }
+    };
     Item::Commit(read_pair(body))
 }
 
+#[tactic(auto, unfolding(crate::specs::Item::number_item))]
 fn number_item(tag: u8, want: usize, len: u64, body: &[u8]) -> Item
     requires { want ≤ 8 }
     ensures { result ≡ number_item tag want len body.now }
 {
-    if len != want as u64 {
+    let Some(body) = whole(want, len, body) else {
         return Item::Damaged;
-    }
-    if body.len() < want {
-        return Item::Damaged;
-    }
-    Item::Number(tag, fields::field::get(&body[..want]))
+    };
+    Item::Number(tag, fields::field::get(body))
 }
 
 // The first item of the bytes. One match over the tag serves both areas; an unknown tag, a wrong length and an item
 // that the bytes do not hold whole are damage.
+#[tactic(auto, unfolding(crate::specs::Item::item_of, crate::specs::Item::by_tag))]
 pub fn read(area: Area, bytes: &[u8]) -> Item
     ensures { result ≡ item_of area bytes.now }
 {
-    if bytes.len() == 0 {
+    if bytes.is_empty() {
         return Item::End;
     }
     if bytes.len() < 3 {
@@ -144,27 +164,12 @@ pub fn read(area: Area, bytes: &[u8]) -> Item
     let tag = bytes[0];
     let len = fields::field::get2(bytes, 1);
     let body = &bytes[3..];
-    match tag {
-        1 => match area {
-            Area::Journal => version_item(Width::One, len, body),
-            Area::Master => number_item(1, 2, len, body),
-        },
-        2 => match area {
-            Area::Journal => commit_item(len, body),
-            Area::Master => number_item(2, 2, len, body),
-        },
-        3 => match area {
-            Area::Journal => version_item(Width::Two, len, body),
-            Area::Master => number_item(3, 8, len, body),
-        },
-        4 => match area {
-            Area::Journal => Item::Damaged,
-            Area::Master => number_item(4, 8, len, body),
-        },
-        5 => match area {
-            Area::Journal => Item::Damaged,
-            Area::Master => number_item(5, 8, len, body),
-        },
+    match (area, tag) {
+        (Area::Journal, 1) => version_item(Width::One, len, body),
+        (Area::Journal, 2) => commit_item(len, body),
+        (Area::Journal, 3) => version_item(Width::Two, len, body),
+        (Area::Master, 1 | 2) => number_item(tag, 2, len, body),
+        (Area::Master, 3..=5) => number_item(tag, 8, len, body),
         _ => Item::Damaged,
     }
 }

@@ -9,6 +9,7 @@ ghost use Rattle.layout.specs.Table.{pair_bytes};
 use crate::item::{Pair, VersionHead};
 
 // The sequence of a block.
+#[tactic(auto, unfolding(crate::specs::Journal::sequence_of))]
 pub fn sequence(block: &[u8]) -> u64
     requires { length block.now ≡ 512 }
     ensures { result ≡ sequence_of block.now }
@@ -17,6 +18,7 @@ pub fn sequence(block: &[u8]) -> u64
 }
 
 // The used bytes of a block, counted from its start.
+#[tactic(auto, unfolding(crate::specs::Journal::used_of))]
 pub fn used(block: &[u8]) -> u64
     requires { length block.now ≡ 512 }
     ensures { result ≡ used_of block.now }
@@ -29,7 +31,7 @@ pub fn begin(block: &mut [u8], sequence: u64)
     requires { length block.old ≡ 512 }
     ensures { block.new ≡ empty_block sequence }
 {
-    fields::block::clear(block);
+    block.fill(0);
     fields::field::put8(block, 0, sequence);
     fields::field::put2(block, 8, 10);
 }
@@ -39,7 +41,7 @@ fn write_key(body: &mut [u8], n: usize, key: u16)
     requires { 2 + n ≤ length body.old }
     ensures { body.new ≡ splice body.old 2 (enc n key) }
 {
-    fields::field::put(&mut body[2..2 + n], key as u64);
+    fields::field::put(&mut body[2..2 + n], u64::from(key));
 }
 
 // Writes the body of a version record.
@@ -48,15 +50,14 @@ fn write_version(body: &mut [u8], head: VersionHead, value: &[u8])
     requires value_len { length value.now ≡ 16 }
     ensures { body.new ≡ version_body head value.now }
 {
-    let width = head.width;
-    let n = crate::item::bytes(width);
+    let n = crate::item::bytes(head.width);
     fields::field::put2(body, 0, head.slot);
     write_key(body, n, head.key);
     body[2 + n] = head.kind;
     fields::field::put2(body, 3 + n, head.earlier);
     fields::field::put8(body, 5 + n, head.number.0);
     let a = 13 + n;
-    fields::block::copy(&mut body[a..a + 16], value);
+    body[a..a + 16].copy_from_slice(value);
 }
 
 // Writes the body of a commit record.
@@ -75,12 +76,10 @@ pub fn add_version(block: &mut [u8], head: VersionHead, value: &[u8])
     requires value_len { length value.now ≡ 16 }
     ensures { block.new ≡ add_record block.old (version head value.now) }
 {
+    let n = 29 + crate::item::bytes(head.width);
     let at = used(block) as usize;
-    let width = head.width;
-    let n = 29 + crate::item::bytes(width);
-    block[at] = crate::item::tag(width);
-    fields::field::put2(block, at + 1, n as u64);
     let a = at + 3;
+    crate::item::put_head(block, at, crate::item::tag(head.width), n);
     write_version(&mut block[a..a + n], head, value);
     fields::field::put2(block, 8, (a + n) as u64);
 }
@@ -92,24 +91,18 @@ pub fn add_commit(block: &mut [u8], pair: Pair)
     ensures { block.new ≡ add_record block.old (commit pair) }
 {
     let at = used(block) as usize;
-    block[at] = 2;
-    fields::field::put2(block, at + 1, 16);
     let a = at + 3;
+    crate::item::put_head(block, at, 2, 16);
     write_commit(&mut block[a..a + 16], pair);
-    fields::field::put2(block, 8, (at + 19) as u64);
+    fields::field::put2(block, 8, (a + 16) as u64);
 }
 
 // Are the used bytes in range, and zeros behind them?
+#[tactic(auto, unfolding(crate::specs::Journal::used_form))]
 pub fn in_form(block: &[u8]) -> bool
     requires { length block.now ≡ 512 }
     ensures { result ≡ used_form block.now }
 {
     let n = used(block) as usize;
-    if n < 10 {
-        return false;
-    }
-    if 512 < n {
-        return false;
-    }
-    fields::block::all_zero(&block[n..])
+    (10..=512).contains(&n) && fields::block::all_zero(&block[n..])
 }

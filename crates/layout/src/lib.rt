@@ -10,13 +10,13 @@ pub mod slot;
 pub mod table;
 
 // A transaction's number.
-#[derive(Clone, Copy)]
+#[derive(Clone, Copy, PartialEq, Eq, PartialOrd, Ord, Debug)]
 pub struct TxNumber(pub u64);
 
 // The time of a commit.
-#[derive(Clone, Copy)]
+#[derive(Clone, Copy, PartialEq, Eq, PartialOrd, Ord, Debug)]
 pub struct CommitTime(pub u64);
 
 // The place in the log just behind a record: 512 × sequence plus the offset after it.
-#[derive(Clone, Copy)]
+#[derive(Clone, Copy, PartialEq, Eq, PartialOrd, Ord, Debug)]
 pub struct EndPlace(pub u64);

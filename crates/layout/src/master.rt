@@ -1,7 +1,6 @@
 // The master: five fields, then zeros.
 ghost use Rattle.std.specs.Prelude.{◌≡◌, ◌+◌, ◌≤◌, length};
 ghost use Rattle.fields.specs.Part.{splice};
-ghost use Rattle.fields.specs.Field.{enc};
 ghost use Rattle.layout.specs.Item.{item_bytes};
 ghost use Rattle.layout.specs.Master.{master_bytes, field_of, master_of, oldest_on};
 
@@ -10,7 +9,7 @@ use crate::{CommitTime, TxNumber};
 
 // The master's numbers: log blocks (L), pages (D), the oldest log block's sequence, the next transaction number and
 // the last stored commit time.
-#[derive(Clone, Copy)]
+#[derive(Clone, Copy, PartialEq, Eq, Debug)]
 pub struct Fields {
     pub blocks: u64,
     pub pages: u64,
@@ -19,88 +18,48 @@ pub struct Fields {
     pub last: CommitTime,
 }
 
-#[derive(Clone, Copy)]
-pub enum Found {
-    Whole(Fields),
-    Broken,
-}
-
-// A field's number, if the field is there.
-#[derive(Clone, Copy)]
-pub enum Value {
-    Of(u64),
-    Missing,
-}
-
-// The number of the field with the tag at the front of the bytes.
-fn field(tag: u8, bytes: &[u8]) -> Value
+// The number of the field with the tag, if that is at the front of the bytes.
+#[tactic(auto, unfolding(crate::specs::Master::field_of))]
+fn field(tag: u8, bytes: &[u8]) -> Option<u64>
     ensures { result ≡ field_of tag bytes.now }
 {
-    let item = crate::item::read(Area::Master, bytes);
-    match item {
-        Item::End => Value::Missing,
-        Item::Version(_) => Value::Missing,
-        Item::Commit(_) => Value::Missing,
-        Item::Number(t, n) => {
-            if t == tag {
-                return Value::Of(n);
-            }
-            Value::Missing
-        }
-        Item::Damaged => Value::Missing,
+    match crate::item::read(Area::Master, bytes) {
+        Item::Number(found, n) if found == tag => Some(n),
+        _ => None,
     }
 }
 
-// The master's fields, or that the block is no master.
-pub fn read(block: &[u8]) -> Found
+// The master's fields, if the block is a master.
+#[tactic(auto, using(crate::proofs::MasterLaws::master_lent))]
+pub fn read(block: &[u8]) -> Option<Fields>
     requires { length block.now ≡ 512 }
     ensures { result ≡ master_of block.now }
 {
-    let Value::Of(l) = field(1, block) else {
-        return Found::Broken;
-    };
-    let Value::Of(d) = field(2, &block[5..]) else {
-        return Found::Broken;
-    };
-    let Value::Of(o) = field(3, &block[10..]) else {
-        return Found::Broken;
-    };
-    let Value::Of(n) = field(4, &block[21..]) else {
-        return Found::Broken;
-    };
-    let Value::Of(t) = field(5, &block[32..]) else {
-        return Found::Broken;
-    };
+    let blocks = field(1, block)?;
+    let pages = field(2, &block[5..])?;
+    let oldest = field(3, &block[10..])?;
+    let next = field(4, &block[21..])?;
+    let last = field(5, &block[32..])?;
     if !fields::block::all_zero(&block[43..]) {
-        return Found::Broken;
+        return None;
     }
-    Found::Whole(Fields {
-        blocks: l,
-        pages: d,
-        oldest: o,
-        next: TxNumber(n),
-        last: CommitTime(t),
+    Some(Fields {
+        blocks,
+        pages,
+        oldest,
+        next: TxNumber(next),
+        last: CommitTime(last),
     })
 }
 
-// Writes a field of two bytes at `at`.
-fn put_short(block: &mut [u8], at: usize, tag: u8, n: u64)
-    requires { at + 5 ≤ length block.old }
-    ensures { block.new ≡ splice block.old at (item_bytes tag (enc 2 n)) }
+// Writes a field at `at`.
+fn put_field(block: &mut [u8], at: usize, tag: u8, content: &[u8])
+    requires { at + 3 + length content.now ≤ length block.old }
+    ensures { block.new ≡ splice block.old at (item_bytes tag content.now) }
 {
-    block[at] = tag;
-    fields::field::put2(block, at + 1, 2);
-    fields::field::put2(block, at + 3, n);
-}
-
-// Writes a field of eight bytes at `at`.
-fn put_long(block: &mut [u8], at: usize, tag: u8, n: u64)
-    requires { at + 11 ≤ length block.old }
-    ensures { block.new ≡ splice block.old at (item_bytes tag (enc 8 n)) }
-{
-    block[at] = tag;
-    fields::field::put2(block, at + 1, 8);
-    fields::field::put8(block, at + 3, n);
+    let a = at + 3;
+    crate::item::put_head(block, at, tag, content.len());
+    block[a..a + content.len()].copy_from_slice(content);
 }
 
 // Writes the master.
@@ -108,15 +67,16 @@ pub fn write(block: &mut [u8], f: Fields)
     requires { length block.old ≡ 512 }
     ensures { block.new ≡ master_bytes f }
 {
-    fields::block::clear(block);
-    put_short(block, 0, 1, f.blocks);
-    put_short(block, 5, 2, f.pages);
-    put_long(block, 10, 3, f.oldest);
-    put_long(block, 21, 4, f.next.0);
-    put_long(block, 32, 5, f.last.0);
+    block.fill(0);
+    put_field(block, 0, 1, &f.blocks.to_le_bytes()[..2]);
+    put_field(block, 5, 2, &f.pages.to_le_bytes()[..2]);
+    put_field(block, 10, 3, &f.oldest.to_le_bytes());
+    put_field(block, 21, 4, &f.next.0.to_le_bytes());
+    put_field(block, 32, 5, &f.last.0.to_le_bytes());
 }
 
 // The oldest log block's sequence, by its place alone.
+#[tactic(auto, unfolding(crate::specs::Master::oldest_on))]
 pub fn oldest(medium: &[u8]) -> u64
     requires { 21 ≤ length medium.now }
     ensures { result ≡ oldest_on medium.now }

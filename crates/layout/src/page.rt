@@ -7,6 +7,7 @@ ghost use Rattle.layout.specs.declared.slot.Slot.TheVariants.{Waiting};
 use crate::{CommitTime, EndPlace, TxNumber};
 
 // The end place of the last record put into the page.
+#[tactic(auto, unfolding(crate::specs::Page::page_end))]
 pub fn end(page: &[u8]) -> EndPlace
     requires { length page.now ≡ 512 }
     ensures { result.0 ≡ page_end page.now }
@@ -15,6 +16,7 @@ pub fn end(page: &[u8]) -> EndPlace
 }
 
 // How many slots of the page are used.
+#[tactic(auto, unfolding(crate::specs::Page::page_used))]
 pub fn used(page: &[u8]) -> u8
     requires { length page.now ≡ 512 }
     ensures { result ≡ page_used page.now }
@@ -23,6 +25,7 @@ pub fn used(page: &[u8]) -> u8
 }
 
 // Puts a version that waits under a number into slot i.
+#[tactic(auto, unfolding(fields::specs::Block::slot_in))]
 pub fn put_waiting(
     page: &mut [u8],
     i: usize,
@@ -40,32 +43,35 @@ pub fn put_waiting(
 {
     fields::field::put8(page, 0, end.0);
     page[8] = (i + 1) as u8;
-    let a = 32 + 32 * i;
+    let a = crate::place::slot_in(i);
     crate::slot::write_waiting(&mut page[a..a + 32], number, key, kind, earlier, value);
 }
 
 // Stamps slot i.
+#[tactic(auto, unfolding(fields::specs::Block::slot_in))]
 pub fn stamp(page: &mut [u8], i: usize, time: CommitTime)
     requires page_len { length page.old ≡ 512 }
     requires i_bound { i < 15 }
     ensures { page.new ≡ stamp_cell page.old i time.0 }
 {
-    let a = 32 + 32 * i;
+    let a = crate::place::slot_in(i);
     crate::slot::stamp(&mut page[a..a + 32], time);
 }
 
 // Is a slot of the page in form: a version's below the used ones, zeros from there on?
+#[tactic(auto, unfolding(crate::specs::Page::slot_form_at, crate::specs::Page::page_used, crate::specs::Page::page_slot, fields::specs::Block::slot_in))]
 pub fn slot_in_form(page: &[u8], i: usize) -> bool
     requires page_len { length page.now ≡ 512 }
     requires i_bound { i < 15 }
     ensures { result ≡ slot_form_at page.now i }
 {
-    let a = 32 + 32 * i;
+    let a = crate::place::slot_in(i);
     let slot = &page[a..a + 32];
-    if i < page[8] as usize {
-        return crate::slot::in_form(slot);
+    if i < usize::from(page[8]) {
+        crate::slot::in_form(slot)
+    } else {
+        fields::block::all_zero(slot)
     }
-    fields::block::all_zero(slot)
 }
 
 // Is the page in form?
@@ -73,20 +79,7 @@ pub fn in_form(page: &[u8]) -> bool
     requires { length page.now ≡ 512 }
     ensures { result ≡ page_form page.now }
 {
-    if 15 < page[8] {
-        return false;
-    }
-    if !fields::block::all_zero(&page[9..32]) {
-        return false;
-    }
-    let mut i: usize = 0;
-    while i < 15 {
-        if !slot_in_form(page, i) {
-            return false;
-        }
-        i += 1;
-    }
-    true
+    page[8] <= 15 && fields::block::all_zero(&page[9..32]) && (0..15).all(|i| slot_in_form(page, i))
 }
 
 // Puts a version into slot n of the store: its page of the cache, then its slot, lent on.

@@ -5,7 +5,7 @@ ghost use Rattle.layout.specs.declared.slot.Slot.TheVariants.{Waiting};
 
 use crate::{CommitTime, TxNumber};
 
-#[derive(Clone, Copy)]
+#[derive(Clone, Copy, PartialEq, Eq, Debug)]
 pub enum Slot {
     Empty,
     Waiting(TxNumber),
@@ -13,12 +13,12 @@ pub enum Slot {
 }
 
 // What the 32 bytes of a slot say.
+#[tactic(auto, unfolding(crate::specs::Slot::slot_state))]
 pub fn read(slot: &[u8]) -> Slot
     requires { length slot.now ≡ 32 }
     ensures { result ≡ slot_state slot.now }
 {
-    let code = slot[0];
-    match code {
+    match slot[0] {
         1 => Slot::Waiting(TxNumber(fields::field::get8(slot, 8))),
         2 => Slot::Stamped(CommitTime(fields::field::get8(slot, 8))),
         _ => Slot::Empty,
@@ -26,11 +26,12 @@ pub fn read(slot: &[u8]) -> Slot
 }
 
 // The record number of a slot, of which byte 3 is the high byte.
+#[tactic(auto, unfolding(crate::specs::Slot::slot_key))]
 pub fn key(slot: &[u8]) -> u16
     requires { length slot.now ≡ 32 }
     ensures { result ≡ slot_key slot.now }
 {
-    slot[1] as u16 + 256 * slot[3] as u16
+    u16::from_le_bytes([slot[1], slot[3]])
 }
 
 // Writes a version that waits under a number.
@@ -46,18 +47,19 @@ pub fn write_waiting(
     requires value_len { length value.now ≡ 16 }
     ensures { slot.new ≡ slot_bytes (record { state = Waiting number; key = key; kind = kind; earlier = earlier; value = value.now }) }
 {
+    let [low, high] = key.to_le_bytes();
     slot[0] = 1;
-    slot[1] = (key % 256) as u8;
+    slot[1] = low;
     slot[2] = kind;
-    slot[3] = (key / 256) as u8;
+    slot[3] = high;
     fields::field::put2(slot, 4, earlier);
-    slot[6] = 0;
-    slot[7] = 0;
+    slot[6..8].fill(0);
     fields::field::put8(slot, 8, number.0);
-    fields::block::copy(&mut slot[16..32], value);
+    slot[16..32].copy_from_slice(value);
 }
 
 // Puts a time in place of the number.
+#[tactic(auto, unfolding(crate::specs::Slot::stamped))]
 pub fn stamp(slot: &mut [u8], time: CommitTime)
     requires { length slot.old ≡ 32 }
     ensures { slot.new ≡ stamped slot.old time.0 }
@@ -67,31 +69,21 @@ pub fn stamp(slot: &mut [u8], time: CommitTime)
 }
 
 // Is the kind 0, or 1 with a value of zeros?
+#[tactic(auto, unfolding(crate::specs::Slot::kind_form))]
 pub fn kind_in_form(kind: u8, value: &[u8]) -> bool
     ensures { result ≡ kind_form kind value.now }
 {
-    if kind == 0 {
-        return true;
-    }
-    if kind != 1 {
-        return false;
-    }
-    fields::block::all_zero(value)
+    kind == 0 || (kind == 1 && fields::block::all_zero(value))
 }
 
 // Is the slot in form for one that holds a version?
+#[tactic(auto, unfolding(crate::specs::Slot::slot_form))]
 pub fn in_form(slot: &[u8]) -> bool
     requires { length slot.now ≡ 32 }
     ensures { result ≡ slot_form slot.now }
 {
-    if slot[0] != 1 && slot[0] != 2 {
-        return false;
-    }
-    if 3 < slot[3] {
-        return false;
-    }
-    if !fields::block::all_zero(&slot[6..8]) {
-        return false;
-    }
-    kind_in_form(slot[2], &slot[16..32])
+    matches!(slot[0], 1 | 2)
+        && slot[3] <= 3
+        && fields::block::all_zero(&slot[6..8])
+        && kind_in_form(slot[2], &slot[16..32])
 }

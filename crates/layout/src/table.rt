@@ -5,6 +5,7 @@ ghost use Rattle.layout.specs.Table.{table_pair, put_pair, pair_form};
 use crate::item::Pair;
 
 // Place i of the medium's table.
+#[tactic(auto, unfolding(crate::specs::Table::pair_at, crate::specs::Table::table_pair))]
 pub fn read(medium: &[u8], i: usize) -> Pair
     requires i_bound { i < 64 }
     requires in_bounds { 1536 ≤ length medium.now }
@@ -26,11 +27,9 @@ pub fn write(block: &mut [u8], i: usize, pair: Pair)
 }
 
 // Has an empty place time 0?
+#[tactic(auto, unfolding(crate::specs::Table::pair_form))]
 pub fn in_form(pair: Pair) -> bool
     ensures { result ≡ pair_form pair }
 {
-    if pair.number.0 != 0 {
-        return true;
-    }
-    pair.time.0 == 0
+    pair.number.0 != 0 || pair.time.0 == 0
 }

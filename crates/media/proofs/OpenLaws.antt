@@ -19,15 +19,9 @@ use Rattle.store.specs.OpenLog.{last_time}
 use Rattle.store.specs.OpenConditions.{well_formed, redone}
 use Rattle.store.specs.Open.{opened_state, refused_cache, open_if, open_of}
 use Rattle.store.proofs.FitLaws.{InRange, range_of}
-use Rattle.memory.specs.Memory.{life_by, place_in, listed, places_of, first_of, phase_by, state_by, state_of, blank}
 use Rattle.conditions.specs.Cursor.{Ready}
 
--- words and tail of zeros hold the state of zeros
-pub cleared : (w t : List ℕ) → w ≡ blank → t ≡ zeros 512 → state_of w t ≡ no_state
-unfolding no_state state_of state_by first_of places_of listed place_in life_by phase_by blank
-cleared w t e f = ap (λ (x : List ℕ). state_of x t) e ∙ ap (state_of blank) f
-
--- a refusal with it
+-- a refusal leaves no state
 pub refused_is : (m c : List ℕ) (s : State) (why : Refusal) → s ≡ no_state → leaves (Err why) s m c ≡ refuses why no_state m c
 refused_is m c s why e = rw e
 

@@ -12,7 +12,10 @@ use store::{Answer, Refusal};
 pub(crate) fn sizes_fit(medium: usize, blocks: u64, pages: u64) -> bool
     ensures { result ≡ (in_range blocks pages && eqb medium (medium_length blocks pages)) }
 {
-    memory::fit::in_range(blocks, pages) && medium == layout::place::medium_length(blocks, pages)
+    if !memory::fit::in_range(blocks, pages) {
+        return false;
+    }
+    medium == layout::place::medium_length(blocks, pages)
 }
 
 // A fresh master, and zeros in all other blocks.

@@ -26,7 +26,6 @@ pub fn open(
         Some(last) => Ok(Answer::Opened(last)),
         None => {
             cache.fill(0);
-            *state = State::none();
             Err(Refusal::Malformed)
         }
     }

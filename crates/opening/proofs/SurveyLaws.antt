@@ -16,8 +16,7 @@ use Rattle.layout.specs.Page.{page_used}
 use Rattle.layout.specs.Journal.{sequence_of, used_of, used_form, parsed, empty_block}
 use Rattle.layout.specs.Master.{master_of, oldest_on}
 use Rattle.layout.specs.declared.master.Fields.{Fields}
-use Rattle.layout.specs.declared.master.Found.{Found}
-use Rattle.layout.specs.declared.master.Found.TheVariants.{Whole, Broken}
+use Rattle.std.specs.Prelude.{Option, Some, None}
 use Rattle.fields.proofs.Choose.{cond_elim, and_0, and_1}
 use Rattle.fields.proofs.FieldLaws.{Bytes, dec_part_lt}
 use Rattle.fields.proofs.PartLaws.{lent_part}
@@ -43,11 +42,11 @@ told_yes r x e t = sym e ∙ t
 
 -- ---- the master: r is what was read of it
 
-pub master_broken : (m : List ℕ) (l d : ℕ) (r : Found) → r ≡ master_of (blk m 0) → r ≡ Broken → false ≡ master_ok m l d
+pub master_broken : (m : List ℕ) (l d : ℕ) (r : Option Fields) → r ≡ master_of (blk m 0) → r ≡ None → false ≡ master_ok m l d
 unfolding master_ok
 master_broken m l d r e f = sym (rw (sym e ∙ f))
 
-module _ (m : List ℕ) (l d : ℕ) (r : Found) (f : Fields) (read : r ≡ master_of (blk m 0)) (whole : r ≡ Whole f) where
+module _ (m : List ℕ) (l d : ℕ) (r : Option Fields) (f : Fields) (read : r ≡ master_of (blk m 0)) (whole : r ≡ Some f) where
   fields : MasterParts (blk m 0) f
   fields = master_parts (blk m 0) f (sym read ∙ whole)
 

@@ -13,7 +13,6 @@ ghost use Rattle.conditions.specs.Passes.{master_ok, table_and_slots};
 ghost use Rattle.opening.specs.Surveyed.{with_numbers, ReadAs, Applied, OpenedAs};
 
 use conditions::cursor::Cursor;
-use layout::master::Found;
 use store::State;
 
 // Whether a medium is well formed, and its last time.
@@ -29,7 +28,7 @@ fn master_ok(medium: &[u8], blocks: u64, pages: u64) -> bool
     ensures { result ≡ master_ok medium.now blocks pages }
 {
     let found = layout::master::read(&medium[0..512]);
-    let Found::Whole(f) = found else {
+    let Some(f) = found else {
         return false;
     };
     if f.blocks != blocks {

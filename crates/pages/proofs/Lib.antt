@@ -1,3 +1,1 @@
 pub mod StampLaws
-pub mod FoundLaws
-pub mod TurnLaws

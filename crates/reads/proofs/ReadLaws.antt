@@ -18,7 +18,9 @@ use Rattle.layout.specs.declared.slot.Slot.{Slot}
 use Rattle.layout.specs.declared.slot.Slot.TheVariants.{Empty, Waiting, Stamped}
 use Rattle.fields.proofs.Choose.{cond_elim}
 use Rattle.fields.proofs.PartLaws.{lent_part}
-use Rattle.store.specs.declared.Answer.TheVariants.{Erased, Present, Listed}
+use Rattle.store.specs.declared.Answer.TheVariants.{Listed}
+use Rattle.store.specs.declared.Reading.TheVariants.{Erased, Present}
+use Rattle.store.specs.Reading.{answer_of, value_of}
 use Rattle.store.specs.declared.Refusal.TheVariants.{ShortBuffer}
 use Rattle.store.specs.declared.Reading.{Reading}
 use Rattle.store.specs.declared.State.{State}
@@ -58,24 +60,26 @@ visible_head None c pair n l f e h = subst (λ (g : Option ℕ). Head g l) (sym 
 
 -- ---- what a version says; a is where its slot begins, v the bytes copied
 
-pub says_erased : (c : List ℕ) (n a : ℕ) → a ≡ slot_at n → get_or c (a + 2) 0 ≡ 1
-    → record { answer = Ok Erased; value = zeros 16 } ≡ reading_of (cell_at c n)
+pub says_erased : (c : List ℕ) (n a : ℕ) → a ≡ slot_at n → get_or c (a + 2) 0 ≡ 1 → Erased ≡ reading_of (cell_at c n)
 unfolding reading_of
 says_erased c n a e h = simp (eq-eqb _ _ (sym (kind_read c n a e) ∙ h))
 
-pub says_present : (c v : List ℕ) (n a : ℕ) → a ≡ slot_at n → (get_or c (a + 2) 0 ≡ 1 → ⊥) → v ≡ take (a + 16 + 16 - (a + 16)) (drop (a + 16) c)
-    → record { answer = Ok Present; value = v } ≡ reading_of (cell_at c n)
+pub says_present : (c v : List ℕ) (n a : ℕ) → a ≡ slot_at n → (get_or c (a + 2) 0 ≡ 1 → ⊥) → v ≡ take (a + 32 - (a + 16)) (drop (a + 16) c)
+    → Present v ≡ reading_of (cell_at c n)
 unfolding reading_of
 says_present c v n a e h k =
-    let w : v ≡ (cell_at c n).value = k ∙ lent_part c (a + 16) 16 ∙ value_read c n a e in
+    let z : a + 32 ≡ a + 16 + 16 = omega arith in
+    let w : v ≡ (cell_at c n).value = k ∙ rw z refl ∙ lent_part c (a + 16) 16 ∙ value_read c n a e in
     simp (ne_eqb (cell_at c n).kind 1 (λ q. h (kind_read c n a e ∙ q)), w)
 
-pub read_cell_law : (r : Reading) (v : Cell) (s : State) (m c : List ℕ) → r ≡ reading_of v → reads r.answer r.value s m c ≡ read_cell v s m c
+pub read_cell_law : (r : Reading) (v : Cell) (s : State) (m c : List ℕ) → r ≡ reading_of v
+    → reads (Ok (answer_of r)) (value_of r) s m c ≡ read_cell v s m c
 unfolding reading_of read_cell
-read_cell_law r v s m c e = ap (λ (x : Reading). reads x.answer x.value s m c) e ∙ go (eqb v.kind 1) _ _
+read_cell_law r v s m c e = ap (λ (x : Reading). reads (Ok (answer_of x)) (value_of x) s m c) e ∙ go (eqb v.kind 1) _ _
   where
     go : (b : Bool) (x y : Reading)
-        → reads (cond b x y).answer (cond b x y).value s m c ≡ cond b (reads x.answer x.value s m c) (reads y.answer y.value s m c)
+        → reads (Ok (answer_of (cond b x y))) (value_of (cond b x y)) s m c
+        ≡ cond b (reads (Ok (answer_of x)) (value_of x) s m c) (reads (Ok (answer_of y)) (value_of y) s m c)
     go true x y = refl
     go false x y = refl
 

@@ -7,6 +7,7 @@ ghost use Rattle.store.specs.Reading.{answer_in, value_in};
 use crate::current_read::read_slot;
 use store::{Reading, Refusal, State};
 
+#[tactic(auto, unfolding(store::specs::AsOf::as_of_of, store::specs::AsOf::as_of_if, store::specs::Chain::held))]
 pub fn as_of(
     state: &State,
     medium: &[u8],

@@ -5,6 +5,7 @@ ghost use Rattle.store.specs.Changes.{changes_of};
 
 use store::{Answer, Refusal, State};
 
+#[tactic(auto, unfolding(store::specs::Changes::changes_of, store::specs::Changes::changes_if, store::specs::Chain::held))]
 pub fn changes(
     state: &State,
     medium: &[u8],
@@ -23,7 +24,8 @@ pub fn changes(
         return Err(Refusal::NotYet);
     }
     let newest = chain::newest::find(cache, key, state.slots);
-    let count = chain::lines::list(newest, cache, &state.places, t1, t2, buffer)
-        .ok_or(Refusal::ShortBuffer)?;
-    Ok(Answer::Listed(count))
+    match chain::lines::list(newest, cache, &state.places, t1, t2, buffer) {
+        Some(count) => Ok(Answer::Listed(count)),
+        None => Err(Refusal::ShortBuffer),
+    }
 }

@@ -22,6 +22,7 @@ pub(crate) fn read_slot(cache: &[u8], n: u64) -> Reading
     Reading::Present(value)
 }
 
+#[tactic(auto, unfolding(store::specs::CurrentRead::current_of, store::specs::CurrentRead::current_if, store::specs::Chain::held))]
 pub fn current_read(
     state: &State,
     medium: &[u8],

@@ -7,8 +7,7 @@ use Rattle.layout.specs.Page.{page_form, page_end, page_used}
 use Rattle.layout.specs.Journal.{Record, version, commit, used_form, record_form, parsed}
 use Rattle.layout.specs.Table.{table_pair, pair_form}
 use Rattle.layout.specs.Master.{master_of, oldest_on}
-use Rattle.layout.specs.declared.master.Found.{Found as MasterFound}
-use Rattle.layout.specs.declared.master.Found.TheVariants.{Whole, Broken}
+use Rattle.layout.specs.declared.master.Fields.{Fields}
 use Rattle.layout.specs.declared.slot.Slot.{Slot}
 use Rattle.layout.specs.declared.slot.Slot.TheVariants.{Empty, Waiting, Stamped}
 use Rattle.store.specs.Places.{first, is_at}
@@ -56,9 +55,9 @@ unfoldable pub table_checks : (ℕ → Bool) → Checks
 table_checks f = each (λ i. (f i, table_block_of i)) 0 64
 
 -- 01: "L and D as given": is the master whole, with these sizes?
-abbrev pub sizes_are : MasterFound → ℕ → ℕ → Bool
-sizes_are (Whole f) l d = eqb f.blocks l && eqb f.pages d
-sizes_are Broken l d = false
+abbrev pub sizes_are : Option Fields → ℕ → ℕ → Bool
+sizes_are (Some f) l d = eqb f.blocks l && eqb f.pages d
+sizes_are None l d = false
 
 -- 01: "Fields as above": is every record in form (kind 0 or 1, an erased value zeros; 02, #104: a record number of "0 to 1,023")?
 unfoldable pub forms_of : List Record → Bool

@@ -5,6 +5,7 @@ ghost use Rattle.store.specs.Erase.{erase_of};
 
 use store::{Answer, Refusal, State};
 
+#[tactic(auto, unfolding(store::specs::Erase::erase_of))]
 pub fn erase(
     state: &mut State,
     medium: &mut [u8],

@@ -38,6 +38,7 @@ fn asks(
 }
 
 // Counts the new version of the transaction in the place, whose record the tail took.
+#[tactic(auto, unfolding(store::specs::Write::written, store::specs::Places::place_at, fields::specs::Block::page_of))]
 fn count_version(state: &mut State, place: usize)
     requires place_bound { place < 64 }
     requires slots_bound { state.old.slots < 960 }
@@ -104,6 +105,7 @@ pub(crate) fn add(
     Ok(step(state, medium, cache, place, head, &value))
 }
 
+#[tactic(auto, unfolding(store::specs::Write::write_of))]
 pub fn write(
     state: &mut State,
     medium: &mut [u8],

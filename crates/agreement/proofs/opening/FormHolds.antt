@@ -21,7 +21,8 @@ use Rattle.layout.proofs.JournalLaws.{parsed_log_bytes, used_form_log_bytes}
 use Rattle.layout.proofs.MasterLaws.{master_back}
 use Rattle.layout.proofs.PageLaws.{form_page_bytes}
 use Rattle.layout.proofs.SlotLaws.{SlotSized, SlotHolds}
-use Rattle.layout.specs.declared.master.Found.{Found as MasterFound}
+use Rattle.std.specs.Prelude.{Option}
+use Rattle.layout.specs.declared.master.Fields.{Fields}
 use Rattle.store.specs.OpenLog.{Placed, place_from, block_of, read_count, log_end}
 use Rattle.store.specs.OpenConditions.{holds, sizes_are, forms_of, records_fit, low_after_all, records_from}
 use Rattle.store.specs.OpenConditions.{fields_in_form, sequences_in_range, records_whole, ends_logged}
@@ -91,7 +92,7 @@ module _ {l d : ℕ} {m : List ℕ} {disk : Disk} (medium : OnMedium l d m disk 
 
   sizes_are_law : sizes_are (master_of (blk m 0)) l d ≡ true
   sizes_are_law =
-      ap (λ (f : MasterFound). sizes_are f l d)
+      ap (λ (f : Option Fields). sizes_are f l d)
       (ap master_of medium.master.block ∙ master_back (master_fields l d disk.oldest disk.next disk.time)
       (fields_sized medium)) ∙ both (eqb l l) (eqb d d) (eq-eqb l l refl) (eq-eqb d d refl)
 

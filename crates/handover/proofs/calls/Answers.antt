@@ -54,16 +54,8 @@ pub no_refusal : {A : Type 0} (a : Result Answer Refusal) (r : Refusal) → refu
 no_refusal a r e q = none_some (sym e ∙ ap refusal_in q)
 
 pub in_refusal : (a : Result Answer Refusal) (r : Refusal) → refusal_in a ≡ Some r → a ≡ Err r
-in_refusal (Err q) r e = let z : q ≡ r = cc in ap (Err z)
-in_refusal (Ok Done) r e = none_some e
-in_refusal (Ok (Begun n)) r e = none_some e
-in_refusal (Ok (Written k)) r e = none_some e
-in_refusal (Ok (Committed t)) r e = none_some e
-in_refusal (Ok (Opened t)) r e = none_some e
-in_refusal (Ok Missing) r e = none_some e
-in_refusal (Ok Erased) r e = none_some e
-in_refusal (Ok Present) r e = none_some e
-in_refusal (Ok (Listed k)) r e = none_some e
+in_refusal (Err q) r e = cc
+in_refusal (Ok a) r e = none_some e
 
 -- ---- the strip of a read that finds one
 

@@ -1,7 +1,7 @@
 -- How a handover in a run ends, as the stages of its calls find it: definitions only. `b` and `s` are the book and the state
 -- before it.
 use Rattle.layout.specs.declared.CommitTime.{CommitTime}
-use Rattle.std.specs.Prelude.{None, Result}
+use Rattle.std.specs.Prelude.{None, Ok, Result}
 use Prim.Native.Nat.{ℕ, ◌+◌, ◌≤◌, ◌<◌, max}
 use mathlib.Core.Path.{◌≡◌}
 use mathlib.Core.Logic.{◌≢◌}
@@ -17,7 +17,6 @@ use Rattle.runs.specs.Machine.{up}
 use Rattle.agreement.proofs.invariant.Invariant.{Inv}
 use Rattle.handover.specs.declared.Transfer.{Transfer}
 use Rattle.handover.specs.declared.HandRefusal.{HandRefusal}
-use Rattle.handover.specs.declared.HandRefusal.TheVariants.{Handed}
 use Rattle.handover.specs.Hand.{HandOutcome, hand_number, owner_of, with_owner}
 use Rattle.handover.specs.Promise.{read_by}
 use Rattle.handover.proofs.rows.Held.{newest_under, held_row}
@@ -51,7 +50,7 @@ pub data RowsEnd (b : Book) (s : State) (h : Transfer) (rows : List Row) : Resul
   aborted : (a : Result CommitTime HandRefusal) (x : ℕ) (v : List ℕ) → 0 < hand_number a → New b s x → Checked b s h x v
       → rows ≡ b.rows ++ (new_row h x v ∷ []) → RowsEnd b s h rows a
   handed : (x : ℕ) (v : List ℕ) (t : ℕ) → New b s x → Checked b s h x v → t ≡ max h.began (max h.ended (last_time b.rows + 1))
-      → rows ≡ (b.rows ++ (new_row h x v ∷ [])) ++ (committed x t ∷ []) → RowsEnd b s h rows (Handed (record { 0 = t }))
+      → rows ≡ (b.rows ++ (new_row h x v ∷ [])) ++ (committed x t ∷ []) → RowsEnd b s h rows (Ok (record { 0 = t }))
 
 -- the invariant goes on, the same numbers are active, what is stored stays so, and the rows stand as said
 pub record Ended (l d : ℕ) (b : Book) (s : State) (h : Transfer) (o : HandOutcome) (after : Book) : Type 0 where

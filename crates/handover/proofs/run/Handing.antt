@@ -1,6 +1,6 @@
 -- A handover from a running store: its first two stages, begin and the read with its check. What the read gives is what the book has
 -- for a new number, and a flight that it may read is held against nobody.
-use Rattle.std.specs.Prelude.{Option, None, Some, Ok, Result}
+use Rattle.std.specs.Prelude.{Option, None, Some, Err, Ok, Result}
 use Prim.Native.Nat.{ℕ, ◌^◌, ◌<◌}
 use native.Mathlib.Omega.{arith}
 use mathlib.Core.Path.{◌≡◌, refl, sym, ap, ◌∙◌}
@@ -118,14 +118,14 @@ module _ (l d : ℕ) (b : Book) (s : State) (h : Transfer) (sizes : Sizes h) whe
       where
         by : refusal_in (reads o x h).answer ≡ None → (a : Bool) → may_hand (reads o x h).answer (reads o x h).value h ≡ a
             → Stage l d b s h (check_calls a (reads o x h) x h) (reads o x h) (fed l o book (current_read x h.flight)) (after_check a (reads o x h) x h)
-        by e false q = abort_stage l d b s h NotOwner under_read (unwritten NotOwner (omega arith) same_rows)
+        by e false q = abort_stage l d b s h (Err NotOwner) under_read (unwritten (Err NotOwner) (omega arith) same_rows)
         by e true q =
             let ok = may (reads o x h).answer (reads o x h).value h q in
             write_stage l d b s h sizes under_read (checked e ok) (sixteen e ok).bytes same_rows
 
         go : (a : Option Refusal) → refusal_in (reads o x h).answer ≡ a
             → Stage l d b s h (read_calls a (reads o x h) x h) (reads o x h) (fed l o book (current_read x h.flight)) (after_read a (reads o x h) x h)
-        go (Some r) e = abort_stage l d b s h (Denied r) under_read (unwritten (Denied r) (positive r) same_rows)
+        go (Some r) e = abort_stage l d b s h (Err (Denied r)) under_read (unwritten (Err (Denied r)) (positive r) same_rows)
         go None e = by e (may_hand (reads o x h).answer (reads o x h).value h) refl
 
 -- ---- begin; what stands before the handover is taken as if a call had left it
@@ -170,6 +170,6 @@ module _ {l d : ℕ} {m c : List ℕ} {s : State} {b : Book} {disk : Disk} {clos
             inv = (goes l d (leaves (Ok Done) s m c) b (begin h.began) (running u) begin_typed).1;
             active = λ n. ap (λ (t : State). is_at (find_active t.places n)) same;
             stored = omega (arith, ap (λ (t : State). t.saved.0) same);
-            rows = unwritten (Denied r) (positive r) (ap (λ (y : Book). y.rows) (fed_some l (leaves (Ok Done) s m c) b (begin h.began) r e));
+            rows = unwritten (Err (Denied r)) (positive r) (ap (λ (y : Book). y.rows) (fed_some l (leaves (Ok Done) s m c) b (begin h.began) r e));
           })
       go None e = let (under, rows) = begun e in read_stage l d b s h sizes under rows

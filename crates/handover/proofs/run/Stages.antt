@@ -1,7 +1,7 @@
 -- The stages of a handover in a run, from its last call back. Between begin and its end its number x is active and nothing else has
 -- changed but the rows (`Under`); each call keeps this or ends it, by the lemma for each event and by what the call does (Ways).
 use Rattle.layout.specs.declared.CommitTime.{CommitTime}
-use Rattle.std.specs.Prelude.{Option, None, Some, Result}
+use Rattle.std.specs.Prelude.{Err, Option, None, Some, Result}
 use Prim.Native.Nat.{ℕ, ◌+◌, max}
 use mathlib.Core.Path.{◌≡◌, refl, sym, ap, ◌∙◌}
 use mathlib.Core.Logic.{◌⊎◌, inl, inr, ◌≢◌}
@@ -164,8 +164,8 @@ module _ (l d : ℕ) (b : Book) (s : State) (h : Transfer) where
       go : (a : Option Refusal) → refusal_in (commits o x h).answer ≡ a
           → Stage l d b s h (commit_calls a x) (next o (commit x h.ended)) (fed l o book (commit x h.ended)) (after_commit a (commits o x h) x)
       go (Some r) e =
-          abort_stage (Denied r) (under_refused (commit x h.ended) r t e under)
-          (aborted (Denied r) x v (positive r) under.new checked (ap (λ (y : Book). y.rows) (fed_some l o book (commit x h.ended) r e) ∙ rows))
+          abort_stage (Err (Denied r)) (under_refused (commit x h.ended) r t e under)
+          (aborted (Err (Denied r)) x v (positive r) under.new checked (ap (λ (y : Book). y.rows) (fed_some l o book (commit x h.ended) r e) ∙ rows))
       go None e =
           let f = goes l d o book (commit x h.ended) under.inv t in
           let time : answer_value (commits o x h).answer ≡ commit_time book x h.ended = f.0 (number_none (commits o x h).answer e) ∙ rw has in
@@ -202,8 +202,8 @@ module _ (l d : ℕ) (b : Book) (s : State) (h : Transfer) where
       go : (a : Option Refusal) → refusal_in (writes o x h).answer ≡ a
           → Stage l d b s h (write_calls a (writes o x h) x h) (next o (write_call x o h)) (fed l o book (write_call x o h)) (after_write a (writes o x h) x h)
       go (Some r) e =
-          abort_stage (Denied r) (under_refused (write_call x o h) r t e under)
-          (unwritten (Denied r) (positive r) (ap (λ (y : Book). y.rows) (fed_some l o book (write_call x o h) r e) ∙ rows))
+          abort_stage (Err (Denied r)) (under_refused (write_call x o h) r t e under)
+          (unwritten (Err (Denied r)) (positive r) (ap (λ (y : Book). y.rows) (fed_some l o book (write_call x o h) r e) ∙ rows))
       go None e =
           let entry = fed_none l o book (write_call x o h) e in
           commit_stage o.value sizes

@@ -1,19 +1,17 @@
--- At each turn the state, with the places of the slots from slot i on counted down, is the one that is wanted, and a turn counts
--- down that of slot i. Assumes nothing.
-use mathlib.Core.Path.{refl, sym, ◌∙◌}
+-- The places that were found before a turn are counted down.
+use mathlib.Core.Path.{ap, ◌∙◌}
 use native.Mathlib.Omega.{arith}
-use Rattle.pages.proofs.TurnLaws.{settling, settle_turn, settle_done}
+use lib.ListN.{set}
+use Rattle.store.specs.Places.{place_at}
+use Rattle.pages.proofs.StampLaws.{settle_turn}
 use Rattle.pages.proofs.settle.Goals as goal
+use Rattle.pages.proofs.settle.Goals.{in-Some, in_default}
 
-pub loop-i-init : goal.loop-i-init
-loop-i-init c = (omega arith, λ tail. refl)
-
-pub loop-i-preserved : goal.loop-i-preserved
-loop-i-preserved c =
-    let h = c.loop-i in
-    (omega arith, λ tail. settle_turn _ h.words _ h.i tail c.loop-i-test.true (c.lower.ensures tail) ∙ h.invariant.1 tail)
-
-pub returns : goal.returns
-unfolding settling
-returns c =
-    let h = c.loop-i in λ tail. sym (settle_done _ h.words h.i tail c.loop-i-test.false) ∙ h.invariant.1 tail
+pub loop-place-preserved : goal.loop-place-preserved
+unfolding place_at
+loop-place-preserved c =
+    let turn = settle_turn c.args.found.now c.args.places.now c.loop-place.place-index c.loop-place.places (omega arith) c.loop-place.invariant in
+    elim c.match-place.branch [
+      | in-Some w ↦ w.places-is ∙ ap (set c.loop-place.places w.in-Some.place) w.lower.ensures ∙ turn _ w.in-Some.is
+      | in_default w ↦ w.places-is ∙ turn _ w.in_default.is
+    ]

@@ -1,13 +1,7 @@
--- At each turn the state, with the places of the slots from slot i on counted down, is the one that is wanted, and a turn counts
--- down that of slot i. Assumes nothing.
-use mathlib.Core.Path.{◌≡◌}
-use mathlib.Core.List.{List}
-use Prim.Native.Nat.{ℕ, ◌-◌, ◌≤◌}
-use Rattle.pages.proofs.TurnLaws.{settling}
+-- The places that were found before a turn are counted down.
+use Rattle.std.specs.Prelude.{fold, take, ◌≡◌}
+use Rattle.store.specs.StorePage.{lower_at}
 use Rattle.pages.proofs.settle.Given as goal
 
-abbrev pub invariant-loop-i : goal.invariant-loop-i
-invariant-loop-i l = (l.i ≤ 15) × ((tail : List ℕ) → settling l.found l.words l.i tail ≡ settling l.found l.initial.words 0 tail)
-
-abbrev pub decreases-loop-i : goal.decreases-loop-i
-decreases-loop-i l = 15 - l.i
+abbrev pub invariant-loop-place : goal.invariant-loop-place
+invariant-loop-place l = l.places ≡ fold (λ ps p. lower_at p ps) l.initial.places (take l.place-index l.found)

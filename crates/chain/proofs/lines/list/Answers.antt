@@ -1,45 +1,23 @@
--- The versions ranked and then kept are those whose lines the definition lists. Assumes nothing.
-use native.Mathlib.Omega.{arith}
-use Rattle.chain.proofs.ListLaws.{all_few, all_slots, kept_few, kept_slots, list_short, list_whole}
-use borrow.Author.Rules.{rules}
+-- The versions ranked and then kept are those whose lines the definition lists.
+use mathlib.Core.Path.{◌∙◌}
+use Rattle.chain.proofs.ListLaws.{all_slots, kept_slots, list_short, list_whole}
 use Rattle.chain.proofs.lines.list.Goals as goal
 
-pub pick-k-requires : goal.pick-k-requires
-pick-k-requires c =
-    let e = c.gather-n.ensures in
-    let p = c.requires in
-    record {
-      ranked_len = search rules;
-      n_bound = all_few _ _ _ _ _ _ e p;
-      slots = all_slots _ _ _ _ _ _ e p;
-    }
+pub keep_changes-requires : goal.keep_changes-requires
+keep_changes-requires c = all_slots _ _ _ _ _ c.gather.ensures c.requires
 
-pub overflow_mul-k : goal.overflow_mul-k
-overflow_mul-k c =
-    let h = kept_few _ _ _ _ _ _ c.gather-n.ensures c.requires _ _ _ c.pick-k.ensures in omega arith
+pub returns-then-buffer-lines : goal.returns-then-buffer-lines
+returns-then-buffer-lines c =
+    let kept = c.as_slice-lines.ensures.result_value ∙ c.keep_changes.ensures in
+    let p = list_short _ _ _ _ _ c.gather.ensures c.requires _ _ kept _ c.if-buffer-lines.true in
+    record { result_value = p.0; buffer_after = p.1 }
 
-pub returns-then-buffer-k : goal.returns-then-buffer-k
-returns-then-buffer-k c =
-    record {
-      result_value = (list_short _ _ _ _ _ _ c.gather-n.ensures c.requires _ _ _ c.pick-k.ensures _ c.if-buffer-k.true).0;
-      buffer_after = (list_short _ _ _ _ _ _ c.gather-n.ensures c.requires _ _ _ c.pick-k.ensures _ c.if-buffer-k.true).1;
-    }
-
-pub write-requires : goal.write-requires
-write-requires c =
-    let e = c.gather-n.ensures in
-    let p = c.requires in
-    let f = c.pick-k.ensures in
-    record {
-      ranked_len = search rules;
-      n_bound = kept_few _ _ _ _ _ _ e p _ _ _ f;
-      slots = kept_slots _ _ _ _ _ _ e p _ _ _ f;
-      n_in_bounds = omega arith;
-    }
+pub write-requires-clause-slots : goal.write-requires-clause-slots
+write-requires-clause-slots c =
+    kept_slots _ _ _ _ _ c.gather.ensures c.requires _ _ (c.as_slice-lines.ensures.result_value ∙ c.keep_changes.ensures)
 
 pub returns : goal.returns
 returns c =
-    record {
-      result_value = (list_whole _ _ _ _ _ _ c.gather-n.ensures c.requires _ _ _ c.pick-k.ensures _ _ c.if-buffer-k.false c.write.ensures).0;
-      buffer_after = (list_whole _ _ _ _ _ _ c.gather-n.ensures c.requires _ _ _ c.pick-k.ensures _ _ c.if-buffer-k.false c.write.ensures).1;
-    }
+    let kept = c.as_slice-lines.ensures.result_value ∙ c.keep_changes.ensures in
+    let p = list_whole _ _ _ _ _ c.gather.ensures c.requires _ _ kept _ _ c.if-buffer-lines.false c.write.ensures in
+    record { result_value = p.0; buffer_after = p.1 }

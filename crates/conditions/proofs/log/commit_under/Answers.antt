@@ -1,26 +1,20 @@
--- Until the number is met, the first commit under it is the first from the next three numbers on.
-use mathlib.Core.Path.{refl, sym, ap, ◌∙◌}
-use native.Mathlib.Omega.{arith}
-use lib.ListN.{length-drop}
-use Rattle.conditions.specs.Lookup.{match_of}
-use Rattle.conditions.proofs.GatherLaws.{among_hit, among_miss, among_short}
+-- The search goes through the commits one after the other, as the definition does.
+use Rattle.std.proofs.Common.{◌∙◌, sym, ap}
+use borrow.Author.Rules.{rules}
+use borrow.Author.Tests.{tests}
+use lib.Dec.{eqb}
+use Rattle.std.specs.Option.{option_map}
+use Rattle.std.proofs.lemmas.Iterator.{YieldsList-from_slice}
+use Rattle.std.proofs.lemmas.Iterator.Search.{find_from_yields_List}
+use Rattle.conditions.proofs.AllOfLaws.{option_mapped, option_twice}
+use Rattle.conditions.proofs.GatherLaws.{among_listed}
 use Rattle.conditions.proofs.log.commit_under.Goals as goal
 
-pub loop-i-init : goal.loop-i-init
-loop-i-init c = (omega arith, refl)
-
-pub overflow_sub-commits : goal.overflow_sub-commits
-overflow_sub-commits c = omega (arith, c.loop-i.invariant.0)
-
-pub returns-then-commits-i : goal.returns-then-commits-i
-returns-then-commits-i c =
-    among_hit _ c.loop-i.i _ c.loop-i-test.true c.if-commits-i.true ∙ ap match_of c.loop-i.invariant.1
-
-pub loop-i-preserved : goal.loop-i-preserved
-loop-i-preserved c =
-    (omega arith, among_miss _ c.loop-i.i _ c.loop-i-test.true c.if-commits-i.false ∙ c.loop-i.invariant.1)
-
 pub returns : goal.returns
-unfolding match_of
 returns c =
-    ap match_of (sym (among_short _ _ (omega (arith, length-drop c.loop-i.i c.args.commits.now))) ∙ c.loop-i.invariant.1)
+    let a = c.args in
+    option_mapped (λ x. (x.now.time, x.now.end)) _ c.find.result c.map.result c.map.ensures.cases (λ x y p. search rules)
+    ∙ sym (option_twice (λ x. (x.time, x.end)) (λ x. x.now) c.find.result)
+    ∙ ap (option_map (λ x. (x.time, x.end)))
+    (find_from_yields_List (λ x. eqb x.number.0 a.number) _ _ _ c.find.ensures.ran (YieldsList-from_slice a.commits.now cc) (λ x b q k. search (rules, tests)))
+    ∙ among_listed a.commits.now a.number

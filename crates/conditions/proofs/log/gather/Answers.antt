@@ -1,92 +1,44 @@
--- The numbers laid so far, and those of the records that are left, are those of all records. A commit record takes 19 bytes
--- of a block, so that the array has room for all of them.
-use mathlib.Core.Path.{◌≡◌, sym, ◌∙◌}
-use Prim.Native.Nat.{◌+◌, ◌≤◌}
-use native.Mathlib.Omega.{arith}
-use lib.ListN.{length, length-set}
-use Rattle.conditions.proofs.CursorLaws.{measure, step_done, step_skip, step_written, step_committed, committed_far}
-use Rattle.conditions.proofs.GatherLaws.{gather_start, gather_end, gather_skip, gather_written, gather_room, gather_committed}
+-- The commits gathered so far, and those of the records that are left, are those of all records. A commit record takes 19
+-- bytes of a block, so that the array has room for all of them.
+use Rattle.conditions.proofs.CursorLaws.{step_done, step_skip, step_written, step_committed, committed_far}
+use Rattle.conditions.proofs.GatherLaws.{gather_end, gather_skip, gather_written, gather_room, gather_committed}
 use Rattle.conditions.proofs.log.gather.Goals as goal
-
-pub loop-d-init : goal.loop-d-init
-loop-d-init c = gather_start _ _ _ _ c.requires.valid c.requires.commits_len
-
-pub next-step-requires : goal.next-step-requires
-next-step-requires c =
-    record {
-      ready = c.requires.ready;
-      valid = c.loop-d.invariant.valid;
-    }
-
-pub shape_of-commits-in-Done : goal.shape_of-commits-in-Done
-shape_of-commits-in-Done c = c.loop-d.invariant.size ∙ sym c.requires.commits_len
 
 pub returns-in-Done : goal.returns-in-Done
 returns-in-Done c =
-    gather_end _ _ _ c.loop-d.c _ _ c.loop-d.invariant (step_done _ _ c.requires.ready c.loop-d.c _ c.loop-d.invariant.valid c.next-step.ensures c.in-Done.is)
+    let g = c.loop-next.invariant in
+    gather_end _ _ _ c.loop-next.cursor _ _ g (step_done _ _ c.requires.ready _ g.valid c.in-Done.ensures)
 
-pub loop-d-smaller-in-Skip : goal.loop-d-smaller-in-Skip
-loop-d-smaller-in-Skip c =
-    let w = step_skip _ _ c.requires.ready c.loop-d.c _ _ c.loop-d.invariant.valid c.next-step.ensures c.in-Skip.is in
-    w.less
+pub loop-next-smaller-in-Skip : goal.loop-next-smaller-in-Skip
+loop-next-smaller-in-Skip c =
+    let w = step_skip _ _ c.requires.ready _ _ c.loop-next.invariant.valid c.in-Skip.ensures in w.less
 
-pub loop-d-preserved-in-Skip : goal.loop-d-preserved-in-Skip
-loop-d-preserved-in-Skip c =
-    gather_skip _ _ _ c.loop-d.c _ _ c.loop-d.invariant _ (step_skip _ _ c.requires.ready c.loop-d.c _ _ c.loop-d.invariant.valid c.next-step.ensures c.in-Skip.is)
+pub loop-next-preserved-in-Skip : goal.loop-next-preserved-in-Skip
+loop-next-preserved-in-Skip c =
+    let g = c.loop-next.invariant in
+    gather_skip _ _ _ c.loop-next.cursor _ _ g _ (step_skip _ _ c.requires.ready _ _ g.valid c.in-Skip.ensures)
 
-pub loop-d-smaller-in-Written : goal.loop-d-smaller-in-Written
-loop-d-smaller-in-Written c =
-    let w = step_written _ _ c.requires.ready c.loop-d.c _ _ _ _ _ c.loop-d.invariant.valid c.next-step.ensures c.in-Written.is in
-    w.0.less
+pub loop-next-smaller-in-Written : goal.loop-next-smaller-in-Written
+loop-next-smaller-in-Written c =
+    let w = step_written _ _ c.requires.ready _ _ _ _ _ c.loop-next.invariant.valid c.in-Written.ensures in w.0.less
 
-pub loop-d-preserved-in-Written : goal.loop-d-preserved-in-Written
-loop-d-preserved-in-Written c =
-    let w = step_written _ _ c.requires.ready c.loop-d.c _ _ _ _ _ c.loop-d.invariant.valid c.next-step.ensures c.in-Written.is in
-    gather_written _ _ _ c.loop-d.c _ _ c.loop-d.invariant _ _ _ _ _ w.0
+pub loop-next-preserved-in-Written : goal.loop-next-preserved-in-Written
+loop-next-preserved-in-Written c =
+    let g = c.loop-next.invariant in
+    let w = step_written _ _ c.requires.ready _ _ _ _ _ g.valid c.in-Written.ensures in
+    gather_written _ _ _ c.loop-next.cursor _ _ g _ _ _ _ _ w.0
 
--- the record lies in the log, so that its three numbers have room
-far : (c : goal.In-Committed) → measure c.in-Committed.d + 19 ≤ measure c.loop-d.c
-far c =
-    committed_far _ _ c.requires.ready c.loop-d.c _ _ _ _ c.loop-d.invariant.valid c.next-step.ensures c.in-Committed.is
+pub bounds-commits-count : goal.bounds-commits-count
+bounds-commits-count c =
+    let g = c.loop-next.invariant in
+    gather_room _ _ _ c.loop-next.cursor _ _ g c.in-Committed.next (committed_far _ _ c.requires.ready _ _ _ _ g.valid c.in-Committed.ensures)
 
-room : (c : goal.In-Committed) → c.loop-d.n + 3 ≤ 2592
-room c = gather_room _ _ _ c.loop-d.c _ _ c.loop-d.invariant c.in-Committed.d (far c)
+pub loop-next-smaller : goal.loop-next-smaller
+loop-next-smaller c =
+    let w = step_committed _ _ c.requires.ready _ _ _ _ c.loop-next.invariant.valid c.in-Committed.ensures in w.less
 
-pub offset_bounds-commits-n : goal.offset_bounds-commits-n
-offset_bounds-commits-n c = omega (arith, room c)
-
-sized : (c : goal.In-Committed) → length c.loop-d.commits ≡ 2592
-sized c = c.loop-d.invariant.size
-
-pub bounds-commits-n : goal.bounds-commits-n
-bounds-commits-n c = omega (arith, room c, sized c)
-
-pub overflow_add-commits : goal.overflow_add-commits
-overflow_add-commits c = omega (arith, room c)
-
-pub offset_bounds-commits-n-in-Committed : goal.offset_bounds-commits-n-in-Committed
-offset_bounds-commits-n-in-Committed c = omega (arith, room c)
-
-pub bounds-commits-n-in-Committed : goal.bounds-commits-n-in-Committed
-bounds-commits-n-in-Committed c = simp length-set (omega (arith, room c, sized c))
-
-pub overflow_add-commits-in-Committed : goal.overflow_add-commits-in-Committed
-overflow_add-commits-in-Committed c = omega (arith, room c)
-
-pub offset_bounds-commits-n-in-Committed-2 : goal.offset_bounds-commits-n-in-Committed-2
-offset_bounds-commits-n-in-Committed-2 c = omega (arith, room c)
-
-pub bounds-commits-n-in-Committed-2 : goal.bounds-commits-n-in-Committed-2
-bounds-commits-n-in-Committed-2 c = simp length-set (omega (arith, room c, sized c))
-
-pub overflow_add-n : goal.overflow_add-n
-overflow_add-n c = omega (arith, room c)
-
-pub loop-d-smaller : goal.loop-d-smaller
-loop-d-smaller c =
-    let w = step_committed _ _ c.requires.ready c.loop-d.c _ _ _ _ c.loop-d.invariant.valid c.next-step.ensures c.in-Committed.is in
-    w.less
-
-pub loop-d-preserved : goal.loop-d-preserved
-loop-d-preserved c =
-    gather_committed _ _ _ c.loop-d.c _ _ c.loop-d.invariant _ (far c) _ _ _ (step_committed _ _ c.requires.ready c.loop-d.c _ _ _ _ c.loop-d.invariant.valid c.next-step.ensures c.in-Committed.is)
+pub loop-next-preserved : goal.loop-next-preserved
+loop-next-preserved c =
+    let g = c.loop-next.invariant in
+    gather_committed _ _ _ c.loop-next.cursor _ _ g _ (committed_far _ _ c.requires.ready _ _ _ _ g.valid c.in-Committed.ensures) _ _ _
+    (step_committed _ _ c.requires.ready _ _ _ _ g.valid c.in-Committed.ensures)

@@ -1,5 +1,5 @@
 -- The blocks passed and those that match behind them are together the blocks that match.
-use mathlib.Core.Path.{◌∙◌}
+use mathlib.Core.Path.{◌≡◌, sym, ◌∙◌}
 use Prim.Native.Nat.{◌+◌, ◌≤◌}
 use native.Mathlib.Omega.{arith}
 use lib.ListN.{length}
@@ -9,7 +9,7 @@ use Rattle.conditions.proofs.CursorLaws.{block_in, matching_begin, matching_turn
 use Rattle.conditions.proofs.log.read_count.Goals as goal
 
 pub loop-k-init : goal.loop-k-init
-loop-k-init c = (omega arith, matching_begin _ _ _ _)
+loop-k-init c = matching_begin _ _ _ _
 
 pub overflow_add-start : goal.overflow_add-start
 overflow_add-start c = omega (arith, log_block_high c.args.blocks (c.args.oldest + c.loop-k.k) (omega arith))
@@ -36,15 +36,14 @@ sequence-requires c = lent_length _ c.block_start-start.result 512 (inside_at_se
 pub returns-then-sequence-oldest : goal.returns-then-sequence-oldest
 returns-then-sequence-oldest c =
     matching_stop c.args.medium.now c.args.blocks c.args.oldest c.loop-k.k c.args.blocks c.block_start-start.result c.sequence.result
-    c.loop-k-test.true c.block_start-start.ensures c.sequence.ensures c.if-sequence-oldest.true ∙ c.loop-k.invariant.1
+    c.loop-k-test.true c.block_start-start.ensures c.sequence.ensures c.if-sequence-oldest.true ∙ c.loop-k.invariant
 
 pub loop-k-preserved : goal.loop-k-preserved
-loop-k-preserved c = (
-  omega arith,
-  matching_turn c.args.medium.now c.args.blocks c.args.oldest c.loop-k.k c.args.blocks c.block_start-start.result
-      c.sequence.result c.loop-k-test.true c.block_start-start.ensures c.sequence.ensures
-      c.if-sequence-oldest.false ∙ c.loop-k.invariant.1,
-)
+loop-k-preserved c =
+    matching_turn c.args.medium.now c.args.blocks c.args.oldest c.loop-k.k c.args.blocks c.block_start-start.result c.sequence.result
+    c.loop-k-test.true c.block_start-start.ensures c.sequence.ensures c.if-sequence-oldest.false ∙ c.loop-k.invariant
 
 pub returns : goal.returns
-returns c = matching_end _ _ _ c.loop-k.k _ (omega arith) ∙ c.loop-k.invariant.1
+returns c =
+    let e : c.loop-k.k ≡ c.args.blocks = omega arith in
+    sym e ∙ matching_end _ _ _ c.loop-k.k _ (omega arith) ∙ c.loop-k.invariant

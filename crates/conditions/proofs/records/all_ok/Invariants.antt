@@ -1,11 +1,15 @@
 -- Those seen were in order, and what is left decides; a record that fails ends it. The tallies are the highest so far.
+use Rattle.store.specs.OpenLog.{read_log}
 use Rattle.conditions.specs.Cursor.{Valid, rest_of}
 use Rattle.conditions.proofs.CursorLaws.{measure}
 use Rattle.conditions.proofs.RecordsLaws.{Judged}
 use Rattle.conditions.proofs.records.all_ok.Given as goal
 
-abbrev pub invariant-loop-d : goal.invariant-loop-d
-invariant-loop-d l = Valid l.c × Judged l.medium (rest_of l.medium l.blocks l.initial.c) l.above l.latest (rest_of l.medium l.blocks l.c)
+abbrev pub invariant-loop-next : goal.invariant-loop-next
+invariant-loop-next l = record {
+  valid : Valid l.cursor;
+  judged : Judged l.pairs.medium.now (read_log l.pairs.medium.now l.pairs.blocks) l.above l.latest (rest_of l.pairs.medium.now l.pairs.blocks l.cursor);
+}
 
-abbrev pub decreases-loop-d : goal.decreases-loop-d
-decreases-loop-d l = measure l.c
+abbrev pub decreases-loop-next : goal.decreases-loop-next
+decreases-loop-next l = measure l.cursor

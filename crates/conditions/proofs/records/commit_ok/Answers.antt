@@ -1,22 +1,13 @@
 -- The tests in the order of the definition, each by its function.
-use borrow.Author.Tests.{eq-eqb, ne_eqb}
+use Rattle.std.proofs.Common.{arith}
+use Rattle.std.proofs.lemmas.Grind.{common_steps}
 use Rattle.conditions.specs.Passes.{commit_ok}
 use Rattle.conditions.proofs.records.commit_ok.Goals as goal
 
-pub returns-then-not-number_ok : goal.returns-then-not-number_ok
+pub returns-then-same_time : goal.returns-then-same_time
 unfolding commit_ok
-returns-then-not-number_ok c = simp (← c.number_ok.ensures, c.if-not-number_ok.true)
+returns-then-same_time c = grind (arith, common_steps)
 
-pub returns-then-pair-eq0 : goal.returns-then-pair-eq0
+pub returns-else-same_time : goal.returns-else-same_time
 unfolding commit_ok
-returns-then-pair-eq0 c = simp (← c.number_ok.ensures, c.if-not-number_ok.false, eq-eqb _ _ c.if-pair-eq0.true)
-
-pub returns-then-not-same_time : goal.returns-then-not-same_time
-unfolding commit_ok
-returns-then-not-same_time c =
-    simp (← c.number_ok.ensures, c.if-not-number_ok.false, ne_eqb _ _ c.if-pair-eq0.false, ← c.same_time.ensures, c.if-not-same_time.true)
-
-pub returns : goal.returns
-unfolding commit_ok
-returns c =
-    simp (← c.number_ok.ensures, c.if-not-number_ok.false, ne_eqb _ _ c.if-pair-eq0.false, ← c.same_time.ensures, c.if-not-same_time.false) c.is_first.ensures
+returns-else-same_time c = grind (arith, common_steps)

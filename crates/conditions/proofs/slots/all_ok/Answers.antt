@@ -1,43 +1,36 @@
--- `all_ok` meets its contract: the arrays keep each record's newest slot and time, and the test of the slots from n on
--- has the answer of the whole.
-use mathlib.Core.Path.{refl, ◌∙◌}
+-- The arrays keep each record's newest slot and time, and the test of the slots from n on has the answer of the whole.
+use mathlib.Core.Path.{◌∙◌}
 use Prim.Native.Nat.{◌*◌}
 use native.Mathlib.Numerals.{add-one}
 use native.Mathlib.Nat.{sub-zero}
 use native.Mathlib.Omega.{arith}
-use borrow.Author.Rules.{rules}
-use Rattle.conditions.specs.Passes.{slot_ok}
 use Rattle.conditions.proofs.SlotsLaws.{tracks_start}
 use Rattle.conditions.proofs.AllOfLaws.{all_turn, all_stop, all_end}
 use Rattle.conditions.proofs.slots.all_ok.Goals as goal
 
 pub loop-n-init : goal.loop-n-init
-loop-n-init c = (refl, refl, tracks_start _ _ _ _, simp sub-zero)
+loop-n-init c = record { tracks = tracks_start _ _ _ _; rest = simp sub-zero }
 
 pub slot_ok-requires : goal.slot_ok-requires
 slot_ok-requires c =
     record {
-      ready = c.requires.ready;
-      known = c.requires.known;
       room = record { pages = c.args.pages; few = omega arith; size = omega arith; below = omega arith };
-      newest_len = (c.loop-n.invariant.0, c.loop-n.invariant.1);
-      n_bound = c.requires.keys_below _ c.loop-n-test.true;
+      n_bound = c.requires.keys_below _ (omega arith);
       next_value = c.requires.next_value;
-      tracks = c.loop-n.invariant.2;
+      tracks = c.loop-n.invariant.tracks;
     }
 
 pub returns-then-not-slot_ok : goal.returns-then-not-slot_ok
 returns-then-not-slot_ok c =
-    all_stop _ (15 * c.args.pages) _ _ c.loop-n-test.true c.slot_ok.ensures.0 (c.if-not-slot_ok.true) ∙ c.loop-n.invariant.3
+    all_stop _ (15 * c.args.pages) _ _ (omega arith) c.slot_ok.ensures.0 c.if-not-slot_ok.true ∙ c.loop-n.invariant.rest
 
 pub loop-n-preserved : goal.loop-n-preserved
 loop-n-preserved c =
-    let t = c.if-not-slot_ok.false in (
-      search rules,
-      search rules,
-      rw add-one (c.slot_ok.ensures.1 t),
-      all_turn _ (15 * c.args.pages) _ _ c.loop-n-test.true c.slot_ok.ensures.0 t ∙ c.loop-n.invariant.3,
-    )
+    let t = c.if-not-slot_ok.false in
+    record {
+      tracks = rw add-one (c.slot_ok.ensures.1 t);
+      rest = all_turn _ (15 * c.args.pages) _ _ (omega arith) c.slot_ok.ensures.0 t ∙ c.loop-n.invariant.rest;
+    }
 
 pub returns : goal.returns
-returns c = all_end _ (15 * c.args.pages) c.loop-n.n c.loop-n-test.false ∙ c.loop-n.invariant.3
+returns c = all_end _ (15 * c.args.pages) c.loop-n.n (omega arith) ∙ c.loop-n.invariant.rest

@@ -1,4 +1,4 @@
--- `time_of` meets its contract, arm by arm.
+-- The three cases of the definition.
 use Rattle.store.specs.Chain.{version_time}
 use Rattle.conditions.proofs.slots.time_of.Goals as goal
 
@@ -8,7 +8,7 @@ returns-in-Empty c = simp c.in-Empty.is
 
 pub returns-in-Waiting : goal.returns-in-Waiting
 unfolding version_time
-returns-in-Waiting c = simp (c.in-Waiting.is, c.pair_time.ensures)
+returns-in-Waiting c = simp (c.in-Waiting.is, c.time.ensures)
 
 pub returns-in-Stamped : goal.returns-in-Stamped
 unfolding version_time

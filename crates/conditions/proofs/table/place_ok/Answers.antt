@@ -1,29 +1,22 @@
 -- The tests in the order of the definition; then the search below the place.
-use mathlib.Core.Path.{sym, ◌∙◌}
-use Rattle.conditions.proofs.TableLaws.{place_empty, place_number, place_time, place_zero, place_new}
+use Rattle.std.proofs.Common.{arith}
+use Rattle.std.proofs.lemmas.Grind.{common_steps}
+use borrow.Author.Tests.{eq-eqb, ne_eqb, lt-ltb, le-leb}
+use Rattle.conditions.proofs.AllOfLaws.{none_at}
+use Rattle.conditions.specs.Passes.{place_ok}
 use Rattle.conditions.proofs.table.place_ok.Goals as goal
 
-pub returns-then-n-eq0 : goal.returns-then-n-eq0
-returns-then-n-eq0 c = sym (place_empty c.args.medium.now _ _ _ _ c.read-p.ensures c.if-n-eq0.true)
+pub returns-then-number-eq0 : goal.returns-then-number-eq0
+unfolding place_ok
+returns-then-number-eq0 c = simp (← c.read-pair.ensures, eq-eqb _ _ c.if-number-eq0.true)
 
-pub returns-then-next-n : goal.returns-then-next-n
-returns-then-next-n c =
-    sym (place_number c.args.medium.now _ _ _ _ c.read-p.ensures c.if-n-eq0.false c.if-next-n.true)
+pub returns-then-time-ne0 : goal.returns-then-time-ne0
+unfolding place_ok
+returns-then-time-ne0 c =
+    let t = c.if-time-ne0.true in
+    simp (← c.read-pair.ensures, ne_eqb _ _ c.if-number-eq0.false, lt-ltb _ _ t.0, le-leb _ _ t.1, ne_eqb _ _ t.2, ← c.find_below.ensures)
+    (none_at c.find_below.result c.is_none.result c.is_none.ensures)
 
-pub returns-then-last-t : goal.returns-then-last-t
-returns-then-last-t c =
-    sym (place_time c.args.medium.now _ _ _ _ c.read-p.ensures c.if-n-eq0.false c.if-next-n.false c.if-last-t.true)
-
-pub returns-then-t-eq0 : goal.returns-then-t-eq0
-returns-then-t-eq0 c =
-    sym (place_zero c.args.medium.now _ _ _ _ c.read-p.ensures c.if-n-eq0.false c.if-next-n.false c.if-last-t.false c.if-t-eq0.true)
-
-pub returns-in-Some : goal.returns-in-Some
-returns-in-Some c =
-    let e = place_new c.args.medium.now _ _ _ _ c.read-p.ensures c.if-n-eq0.false c.if-next-n.false c.if-last-t.false c.if-t-eq0.false in
-    sym (e ∙ simp (← c.find_below-f.ensures, c.in-Some.is))
-
-pub returns-in-None : goal.returns-in-None
-returns-in-None c =
-    let e = place_new c.args.medium.now _ _ _ _ c.read-p.ensures c.if-n-eq0.false c.if-next-n.false c.if-last-t.false c.if-t-eq0.false in
-    sym (e ∙ simp (← c.find_below-f.ensures, c.in-None.is))
+pub returns-else-time-ne0 : goal.returns-else-time-ne0
+unfolding place_ok
+returns-else-time-ne0 c = simp (← c.read-pair.ensures, ne_eqb _ _ c.if-number-eq0.false) (grind (arith, common_steps))

@@ -1,13 +1,9 @@
--- `field::get` meets its contract. The loop's invariant: v is the number of the bytes from i on.
--- Assumes nothing.
-use mathlib.Core.Path.{◌≡◌}
-use Prim.Native.Nat.{◌≤◌}
-use lib.ListN.{length, drop}
+-- v is the number of the bytes behind those that are left.
+use Rattle.std.proofs.Common.{◌≡◌, ◌++◌, length, drop}
 use Rattle.fields.specs.Field.{dec}
 use Rattle.fields.proofs.field.get.Given as goal
 
-abbrev pub invariant-loop-i : goal.invariant-loop-i
-invariant-loop-i l = (l.i ≤ length l.s) × (l.v ≡ dec (drop l.i l.s))
-
-abbrev pub decreases-loop-i : goal.decreases-loop-i
-decreases-loop-i l = l.i
+abbrev pub invariant-loop-b : goal.invariant-loop-b
+invariant-loop-b l =
+    let left = l.b-iterator.iter.rest.now in
+    (left ++ drop (length left) l.s ≡ l.s) × (l.v ≡ dec (drop (length left) l.s))

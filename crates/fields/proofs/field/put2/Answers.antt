@@ -1,11 +1,11 @@
--- `field::put2` meets its contract: the low byte and then the high one.
-use native.Mathlib.Omega.{arith}
-use lib.ListN.{length-set}
-use Rattle.fields.proofs.HalfLaws.{put_pair}
+-- `field::put2` meets its contract: std writes the bytes of `enc`, of which the two lowest are copied.
+use mathlib.Core.Path.{ap, ◌∙◌}
+use lib.ListN.{take}
+use Rattle.fields.proofs.PartLaws.{lent_copy}
+use Rattle.fields.proofs.WordLaws.{enc_word}
 use Rattle.fields.proofs.field.put2.Goals as goal
 
-pub bounds-s-at-2 : goal.bounds-s-at-2
-bounds-s-at-2 c = simp length-set (omega arith)
-
 pub returns : goal.returns
-returns c = put_pair _ c.args.at c.args.n
+returns c =
+    lent_copy _ _ _ _ _ c.requires c.copy_from_slice.ensures.len
+    (c.copy_from_slice.ensures.after ∙ ap (take 2) c.to_le_bytes.ensures ∙ enc_word 2 _)

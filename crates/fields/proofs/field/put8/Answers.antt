@@ -1,7 +1,10 @@
--- `field::put8` meets its contract: the field is its two halves of 4 bytes.
+-- `field::put8` meets its contract: std writes the bytes of `enc`.
 use mathlib.Core.Path.{◌∙◌}
-use Rattle.fields.proofs.HalfLaws.{put_halves}
+use Rattle.fields.proofs.PartLaws.{lent_copy}
+use Rattle.fields.proofs.WordLaws.{enc_word}
 use Rattle.fields.proofs.field.put8.Goals as goal
 
 pub returns : goal.returns
-returns c = c.put4-2.ensures ∙ put_halves _ _ c.args.at 4 c.args.n c.put4.ensures
+returns c =
+    lent_copy _ _ _ _ _ c.requires c.copy_from_slice.ensures.len
+    (c.copy_from_slice.ensures.after ∙ c.to_le_bytes.ensures ∙ enc_word 8 _)

@@ -1,18 +1,23 @@
--- The begin's answer says whether the handover goes on, under the number in it.
-use Rattle.std.specs.Prelude.{Option}
-use mathlib.Core.Path.{◌∙◌}
-use Rattle.store.specs.declared.Refusal.{Refusal}
-use Rattle.store.specs.Answer.{Outcome}
-use Rattle.handover.specs.Hand.{hand_of, after_begin}
-use Rattle.handover.proofs.HandLaws.{by_refusal, by_answer, not_refused, under_number}
+-- What is left is what the calls under the number leave, and where they were refused what their abort leaves.
+use mathlib.Core.Path.{sym, ◌∙◌}
+use Rattle.std.proofs.lemmas.Result.{err_from_is_err_and}
+use Rattle.handover.specs.Hand.{after_begin, hand_of}
+use Rattle.handover.proofs.HandLaws.{begin_gives, aborted_at, handed_at}
 use Rattle.handover.proofs.hand.hand.Goals as goal
 
-pub returns-in-Err : goal.returns-in-Err
-unfolding hand_of after_begin
-returns-in-Err c =
-    by_refusal (λ (r : Option Refusal) (o : Outcome). after_begin r o c.args.asked) _ _ c.begin-answer.ensures _ c.in-Err.is
+pub returns-in_err-begun : goal.returns-in_err-begun
+unfolding after_begin hand_of
+returns-in_err-begun c = let p = err_from_is_err_and c.from_residual.result c.from_residual.ensures.1 in rw (p.1, p.2, ← c.in_err-begun.ensures)
 
-pub returns-in_default : goal.returns-in_default
-unfolding hand_of
-returns-in_default c =
-    c.read.ensures ∙ under_number _ _ _ c.value_in.ensures ∙ by_answer (λ (r : Option Refusal) (o : Outcome). after_begin r o c.args.asked) _ _ c.begin-answer.ensures (not_refused c.begin-answer.result c.in_default.not-Err)
+pub unreachable-requires : goal.unreachable-requires
+unreachable-requires c = begin_gives _ _ _ _ _ _ c.in_ok-begun.ensures c.in_default.not-Begun
+
+pub returns-then-is_err : goal.returns-then-is_err
+returns-then-is_err c =
+    let begun = rw c.in-Begun.is at c.in_ok-begun.ensures in
+    aborted_at _ _ _ _ _ _ _ _ _ begun _ c.carry-handed.ensures (sym c.is_err.ensures.value ∙ c.if-is_err.true) _ _ c.abort.ensures
+
+pub returns-else-is_err : goal.returns-else-is_err
+returns-else-is_err c =
+    let begun = rw c.in-Begun.is at c.in_ok-begun.ensures in
+    handed_at _ _ _ _ _ _ _ _ _ begun _ c.carry-handed.ensures (sym c.is_err.ensures.value ∙ c.if-is_err.false)

@@ -1,10 +1,8 @@
 -- `page::put_version` meets its contract: the version is put in the lent part, which is the page of the slot.
-use mathlib.Core.Path.{ap, ◌∙◌}
 use Prim.Native.Nat.{◌*◌, ◌/◌}
 use native.Mathlib.Omega.{arith}
-use Rattle.fields.specs.Part.{splice}
 use Rattle.fields.specs.Block.{blk, put, page_of}
-use Rattle.fields.proofs.PartLaws.{lent_back, lent_part}
+use Rattle.fields.proofs.PartLaws.{lent_copy, lent_part}
 use Rattle.layout.specs.Page.{put_version}
 use Rattle.layout.proofs.page.put_version.Goals as goal
 
@@ -16,5 +14,4 @@ pub returns : goal.returns
 unfolding put_version page_of put blk
 returns c =
     let at = 512 * (c.args.n / 15) in
-    lent_back _ _ at 512 c.requires.n_in_bounds c.put_waiting.auto.page
-    ∙ ap (splice _ at) (rw (lent_part _ at 512) at c.put_waiting.ensures)
+    lent_copy _ _ _ at 512 c.requires.n_in_bounds c.put_waiting.auto.page (rw (lent_part _ at 512) at c.put_waiting.ensures)

@@ -9,24 +9,24 @@ returns-in_default c = master_broken _ _ _ _ c.read-found.ensures c.in_default.i
 
 pub returns-then-f-blocks : goal.returns-then-f-blocks
 unfolding blk
-returns-then-f-blocks c = master_blocks _ _ _ _ _ c.read-found.ensures c.in-Whole.is c.if-f-blocks.true
+returns-then-f-blocks c = master_blocks _ _ _ _ _ c.read-found.ensures c.in-Some.is c.if-f-blocks.true
 
 pub returns-then-f-pages : goal.returns-then-f-pages
 unfolding blk
 returns-then-f-pages c =
-    master_pages _ _ _ _ _ c.read-found.ensures c.in-Whole.is c.if-f-blocks.false c.if-f-pages.true
+    master_pages _ _ _ _ _ c.read-found.ensures c.in-Some.is c.if-f-blocks.false c.if-f-pages.true
 
 pub returns-then-f-eq0 : goal.returns-then-f-eq0
 unfolding blk
 returns-then-f-eq0 c =
-    master_none _ _ _ _ _ c.read-found.ensures c.in-Whole.is c.if-f-blocks.false c.if-f-pages.false c.if-f-eq0.true
+    master_none _ _ _ _ _ c.read-found.ensures c.in-Some.is c.if-f-blocks.false c.if-f-pages.false c.if-f-eq0.true
 
 pub returns-then-f-ge281474976710656 : goal.returns-then-f-ge281474976710656
 unfolding blk
 returns-then-f-ge281474976710656 c =
-    master_high _ _ _ _ _ c.read-found.ensures c.in-Whole.is c.if-f-blocks.false c.if-f-pages.false c.if-f-eq0.false c.if-f-ge281474976710656.true
+    master_high _ _ _ _ _ c.read-found.ensures c.in-Some.is c.if-f-blocks.false c.if-f-pages.false c.if-f-eq0.false c.if-f-ge281474976710656.true
 
 pub returns : goal.returns
 unfolding blk
 returns c =
-    master_next _ _ _ _ _ c.read-found.ensures c.in-Whole.is c.if-f-blocks.false c.if-f-pages.false c.if-f-eq0.false c.if-f-ge281474976710656.false
+    master_next _ _ _ _ _ c.read-found.ensures c.in-Some.is c.if-f-blocks.false c.if-f-pages.false c.if-f-eq0.false c.if-f-ge281474976710656.false
