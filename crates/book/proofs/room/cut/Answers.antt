@@ -2,4 +2,4 @@
 use Rattle.book.proofs.room.cut.Goals as goal
 
 pub returns : goal.returns
-returns c = rw c.clear.ensures at c.«open».ensures
+returns c = ?
