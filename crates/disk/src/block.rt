@@ -15,6 +15,7 @@ pub struct Extent {
 }
 
 // The tail's block.
+#[tactic(auto, using(store::proofs::FitLaws::range_of), unfolding(crate::specs::Block::log_block))]
 fn of_log(state: &State) -> u64
     ensures { result ≡ log_block state.now }
 {
@@ -25,6 +26,7 @@ fn of_log(state: &State) -> u64
 }
 
 // A page's block.
+#[tactic(auto, using(store::proofs::FitLaws::range_of), unfolding(crate::specs::Block::page_block))]
 fn of_page(state: &State, page: u64) -> u64
     ensures { result ≡ page_block state.now page }
 {
@@ -35,6 +37,7 @@ fn of_page(state: &State, page: u64) -> u64
 }
 
 // The block that the next call of a checkpoint stores.
+#[tactic(auto, unfolding(crate::specs::Block::phase_block))]
 fn of_phase(phase: Phase) -> u64
     ensures { result ≡ phase_block phase }
 {
@@ -46,6 +49,7 @@ fn of_phase(phase: Phase) -> u64
 }
 
 // The block that a line can change; 0 for a line that changes none.
+#[tactic(auto, unfolding(crate::specs::Block::block_of))]
 pub fn of(call: Call, state: &State) -> u64
     ensures { result ≡ block_of state.now call }
 {
@@ -80,6 +84,7 @@ fn start(block: u64, n: usize) -> usize
 }
 
 // The bytes of a block in a medium of n bytes; the last block may have fewer than 512.
+#[tactic(auto, unfolding(crate::specs::Block::length_of))]
 pub fn extent_of(block: u64, n: usize) -> Extent
     requires { n ≤ 50688 }
     ensures at_value { (result.at ≡ start_of block n) × (result.len ≡ length_of (start_of block n) n) }

@@ -5,6 +5,7 @@ ghost use Rattle.disk.specs.Named.{named_by};
 use rooms::parts::Standing;
 
 // A room whose medium is the first so many bytes, shut, with the sizes that they name.
+#[tactic(auto, unfolding(crate::specs::Named::named_by))]
 pub fn named(medium: &[u8], bytes: usize) -> Standing
     requires { bytes ≤ length medium.now }
     ensures { result ≡ named_by medium.now bytes }

@@ -18,7 +18,7 @@ fn stored_time(life: Life, end: EndPlace) -> Option<CommitTime>
     ensures { result ≡ time_up_to life end.0 }
 {
     match life {
-        Life::Committed(_, time, record_end) if record_end.0 <= end.0 => Some(time),
+        Life::Committed(_, time, record_end) if record_end <= end => Some(time),
         _ => None,
     }
 }

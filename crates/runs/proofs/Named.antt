@@ -9,7 +9,7 @@ use lib.ListN.{length}
 use Rattle.store.specs.declared.Phase.{Phase}
 use Rattle.store.specs.declared.Phase.TheVariants.{Idle, FirstStored, SecondStored}
 use Rattle.store.specs.declared.Refusal.{Refusal}
-use Rattle.store.specs.declared.Relief.TheVariants.{StoreLog, NothingLeft}
+use Rattle.store.specs.declared.Relief.TheVariants.{StoreLog}
 use Rattle.store.specs.declared.State.{State}
 use Rattle.store.specs.Answer.{ask, answer_number}
 use Rattle.store.specs.State.{fits}
@@ -67,14 +67,14 @@ module _ (l d : ℕ) (m c : List ℕ) (s : State) where
     where
       log : (t : Bool) → all_yes (store_log_asks s m c) ≡ t → fits s (length m) (length c) ≡ true
           → AllAccepted (trace l d (up m c s)
-          (named (cond t StoreLog (after_log (page_left s m c) (checkpoint_left s m)))))
+          (named (cond t (Some StoreLog) (after_log (page_left s m c) (checkpoint_left s m)))))
       log true e h = one_call store_log (log_done (all_yes_law (store_log_asks s m c) e))
       log false e h = after_log_law h (page_left s m c) refl (checkpoint_left s m)
 
       go : (t : Bool) → fits s (length m) (length c) ≡ t
           → AllAccepted (trace l d (up m c s)
           (named
-          (cond t (cond (all_yes (store_log_asks s m c)) StoreLog (after_log (page_left s m c) (checkpoint_left s m)))
-          NothingLeft)))
+          (cond t (cond (all_yes (store_log_asks s m c)) (Some StoreLog) (after_log (page_left s m c) (checkpoint_left s m)))
+          None)))
       go true h = log (all_yes (store_log_asks s m c)) refl h
       go false h = tt

@@ -1,13 +1,13 @@
 -- Out of a full log: the claims of request #114, for a store without lines of users (A = 0). After a refusal 8 a short
 -- list of stores and checkpoint calls makes room in the log, and asking which call comes next gives this list.
 use Rattle.std.specs.Prelude.{ℕ, zero, suc, ◌+◌, ◌-◌, ◌^◌, ◌≤◌, ◌<◌, ◌≡◌, ◌⊎◌, Bool, true, not, cond, List, [], ◌∷◌}
-use Rattle.std.specs.Prelude.{◌++◌, length, eqb}
+use Rattle.std.specs.Prelude.{◌++◌, length, eqb, Option, Some, None}
 use Rattle.fields.specs.Block.{put}
 use Rattle.layout.specs.Journal.{sequence_of}
 use Rattle.store.specs.declared.Phase.{Phase}
 use Rattle.store.specs.declared.Phase.TheVariants.{Idle, FirstStored, SecondStored}
 use Rattle.store.specs.declared.Relief.{Relief}
-use Rattle.store.specs.declared.Relief.TheVariants.{StoreLog, StorePage, Checkpoint, NothingLeft}
+use Rattle.store.specs.declared.Relief.TheVariants.{StoreLog, StorePage, Checkpoint}
 use Rattle.store.specs.Relief.{relief_of}
 use Rattle.runs.specs.Event.{Call, Event, call, store_log, store_page, checkpoint, Observation}
 use Rattle.runs.specs.Machine.{World, up, down, medium_of, step, is_run, trace, formatted}
@@ -53,11 +53,11 @@ module _ (l d : ℕ) where
 -- ---- the calls that a room's program is told
 
 -- 02, #114: "store the log .., each page .., a checkpoint": the call that is named, if one is left
-abbrev pub named : Relief → List Event
-named StoreLog = call store_log ∷ []
-named (StorePage p) = call (store_page p) ∷ []
-named Checkpoint = call checkpoint ∷ []
-named NothingLeft = []
+abbrev pub named : Option Relief → List Event
+named (Some StoreLog) = call store_log ∷ []
+named (Some (StorePage p)) = call (store_page p) ∷ []
+named (Some Checkpoint) = call checkpoint ∷ []
+named None = []
 
 -- 02, #114: "store the log .., each page .., a checkpoint": the call that comes next in a running store, if one is left
 unfoldable pub next_in : World → List Event

@@ -5,7 +5,7 @@ use Rattle.store.specs.declared.Phase.{Phase}
 use Rattle.store.specs.declared.Phase.TheVariants.{Idle, FirstStored, SecondStored}
 use Rattle.store.specs.declared.Refusal.{Refusal}
 use Rattle.store.specs.declared.Relief.{Relief}
-use Rattle.store.specs.declared.Relief.TheVariants.{StoreLog, StorePage, Checkpoint, NothingLeft}
+use Rattle.store.specs.declared.Relief.TheVariants.{StoreLog, StorePage, Checkpoint}
 use Rattle.store.specs.declared.State.{State}
 use Rattle.store.specs.Places.{first}
 use Rattle.store.specs.State.{fits}
@@ -33,14 +33,14 @@ unfoldable pub checkpoint_left : State → List ℕ → Bool
 checkpoint_left s m = under_way s.phase || not (eqb (new_oldest s) (oldest_on m))
 
 -- 02, #114: "each page that differs, finish a checkpoint under way, and make one more": the next call, by the page found
-abbrev pub after_log : Option ℕ → Bool → Relief
-after_log (Some p) more = StorePage p
-after_log None more = cond more Checkpoint NothingLeft
+abbrev pub after_log : Option ℕ → Bool → Option Relief
+after_log (Some p) more = Some (StorePage p)
+after_log None more = cond more (Some Checkpoint) None
 
 -- 02, #114: "store the log if it differs, each page that differs, finish a checkpoint under way, and make one more": the
 -- next of these calls. None is left where no call is accepted, since state and buffers do not fit.
-unfoldable pub relief_of : State → List ℕ → List ℕ → Relief
+unfoldable pub relief_of : State → List ℕ → List ℕ → Option Relief
 relief_of s m c =
     cond (fits s (length m) (length c))
-    (cond (all_yes (store_log_asks s m c)) StoreLog (after_log (page_left s m c) (checkpoint_left s m)))
-    NothingLeft
+    (cond (all_yes (store_log_asks s m c)) (Some StoreLog) (after_log (page_left s m c) (checkpoint_left s m)))
+    None

@@ -212,11 +212,10 @@ impl Reading {
     }
 }
 
-// The next call out of a full log, if one is left.
+// The next call out of a full log.
 #[derive(Clone, Copy)]
 pub enum Relief {
     StoreLog,
     StorePage(u64),
     Checkpoint,
-    NothingLeft,
 }

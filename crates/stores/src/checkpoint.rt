@@ -5,16 +5,11 @@ ghost use Rattle.store.specs.Checkpoint.{checkpoint_of};
 
 use store::{Answer, Refusal, State};
 
-pub fn checkpoint(
-    state: &mut State,
-    medium: &mut [u8],
-    cache: &[u8],
-) -> Answer
+#[tactic(auto, using(crate::proofs::StoreLaws::sized), unfolding(store::specs::Checkpoint::checkpoint_of, store::specs::Checkpoint::checkpoint_if))]
+pub fn checkpoint(state: &mut State, medium: &mut [u8], cache: &[u8]) -> Result<Answer, Refusal>
     ensures { leaves result state.new medium.new cache.now ≡ checkpoint_of state.old medium.old cache.now }
 {
-    if !memory::fit::is_fit(state, medium.len(), cache.len()) {
-        return Answer::Refused(Refusal::Unfit);
-    }
+    questions::fit(state, medium, cache)?;
     checkpoints::step(state, medium);
-    Answer::Done
+    Ok(Answer::Done)
 }

@@ -1,42 +1,55 @@
 // Store page.
-ghost use Rattle.std.specs.Prelude.{◌≡◌, List, ℕ, ◌<◌, length, set};
+ghost use Rattle.std.specs.Prelude.{◌≡◌, cond, not, ◌<◌, length};
+ghost use Rattle.fields.specs.Block.{blk, put, page_block_at};
+ghost use Rattle.fields.specs.Equal.{eq_list};
 ghost use Rattle.store.specs.Answer.{leaves};
-ghost use Rattle.store.specs.StorePage.{store_page_of};
-ghost use Rattle.memory.specs.Memory.{with_first};
+ghost use Rattle.stores.specs.Sized.{Sized};
+ghost use Rattle.store.specs.StorePage.{stamped_page, page_stored, store_page_of};
 
-use memory::{FIRSTS};
 use store::{Answer, Refusal, State};
 
-// Notes that a page is stored, so that no block changed it since.
-fn forget(state: &mut State, page: usize)
-    requires page_bound { page < 64 }
-    ensures { state.new ≡ with_first state.old (set state.old.first page 0) }
+// Lays the stamped page over its block in cache and medium, unless the medium holds it already.
+#[tactic(auto, unfolding(fields::specs::Block::page_block_at))]
+fn lay(state: &mut State, medium: &mut [u8], cache: &mut [u8], page: u64) -> bool
+    requires sized { Sized state.old (length medium.old) (length cache.old) }
+    requires page_bound { page < state.old.pages }
+    ensures value { result ≡ not (eq_list (blk medium.old (page_block_at state.old.blocks page)) (stamped_page state.old (blk cache.old page))) }
+    ensures state_after { state.new ≡ cond result (page_stored state.old page (blk cache.old page)) state.old }
+    ensures medium_after { medium.new ≡ cond result (put medium.old (page_block_at state.old.blocks page) (stamped_page state.old (blk cache.old page))) medium.old }
+    ensures cache_after { cache.new ≡ cond result (put cache.old page (stamped_page state.old (blk cache.old page))) cache.old }
 {
-    words[FIRSTS + page] = 0;
+    let page_at = 512 * page as usize;
+    let block_at = 512 * layout::place::page_block(state.blocks, page);
+    if !pages::store(
+        &mut state.places,
+        state.end,
+        &mut cache[page_at..page_at + 512],
+        &mut medium[block_at..block_at + 512],
+    ) {
+        return false;
+    }
+    state.first[page as usize] = 0;
+    true
 }
 
+#[tactic(auto, using(crate::proofs::StoreLaws::sized), unfolding(store::specs::StorePage::store_page_of, store::specs::StorePage::store_page_if))]
 pub fn store_page(
     state: &mut State,
     medium: &mut [u8],
     cache: &mut [u8],
     page: u64,
-) -> Answer
+) -> Result<Answer, Refusal>
     ensures { leaves result state.new medium.new cache.new ≡ store_page_of state.old medium.old cache.old page }
 {
-    if !memory::fit::is_fit(state, medium.len(), cache.len()) {
-        return Answer::Refused(Refusal::Unfit);
-    }
+    questions::fit(state, medium, cache)?;
     if state.pages <= page {
-        return Answer::Refused(Refusal::NoPage);
+        return Err(Refusal::NoPage);
     }
-    let a = (512 * page) as usize;
-    if state.end.0 < layout::page::end(&cache[a..a + 512]).0 {
-        return Answer::Refused(Refusal::NotLogged);
+    if state.end < layout::page::end(crate::block(cache, page as usize)) {
+        return Err(Refusal::NotLogged);
     }
-    let b = 512 * layout::place::page_block(state.blocks, page);
-    if !pages::store(words, &mut cache[a..a + 512], &mut medium[b..b + 512]) {
-        return Answer::Refused(Refusal::Unchanged);
+    if !lay(state, medium, cache, page) {
+        return Err(Refusal::Unchanged);
     }
-    forget(words, page as usize);
-    Answer::Done
+    Ok(Answer::Done)
 }

@@ -146,8 +146,7 @@ fn first(fd: i32, medium: &[u8], bytes: usize) -> Standing
 // Plays the input on the file, and answers the exit code. The buffers are as long as the largest sizes ask, 32 log blocks
 // and 64 pages, and as the longest answer buffer.
 fn run(input: &mut impl Read, rt: &(impl Files<File = File> + Print), name: &[u8], to: u8) -> u8 {
-    let mut words = [0u64; 448];
-    let mut tail = [0u8; 512];
+    let mut state = State::none();
     let mut medium = [0u8; 50688];
     let mut cache = [0u8; 32768];
     let mut buffer = [0u8; 40000];

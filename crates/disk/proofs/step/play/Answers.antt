@@ -1,7 +1,6 @@
 -- The line is the room's; what it says of the file holds of any two media that are alike but for the block.
 use mathlib.Core.Path.{◌∙◌}
 use native.Mathlib.Omega.{arith}
-use Rattle.memory.specs.Memory.{state_of}
 use Rattle.disk.proofs.StepLaws.{line_whole, line_changed, line_stored}
 use Rattle.disk.proofs.step.play.Goals as goal
 
@@ -20,7 +19,7 @@ differ-requires c = (
 pub returns : goal.returns
 returns c =
     let k = c.args in
-    let s = state_of k.words.now k.tail.now in
+    let s = k.state.now in
     let e = c.step-stepped.ensures in
     let x = c.extent_of-e.ensures in
     let h = c.step-stepped.auto.medium ∙ c.requires.medium_len in

@@ -1,29 +1,18 @@
--- Before each turn no page passed is left, so a page that is left is the first. Assumes nothing.
-use mathlib.Core.Path.{◌≡◌, sym, ◌∙◌}
-use mathlib.Core.Bool.{false}
-use native.Mathlib.Omega.{arith}
-use borrow.Author.Count.{below_more}
-use Rattle.store.proofs.SearchLaws.{first_least, first_none}
-use Rattle.stores.specs.Left.{left_in}
+-- `find` gives the least page whose store is not refused.
+use Rattle.std.proofs.Common.{rules, tests}
+use Rattle.std.proofs.lemmas.Iterator.{first_from_Range}
+use Prim.Native.Nat.{ℕ}
+use mathlib.Core.Path.{◌≡◌}
+use mathlib.Core.Bool.{true, false}
+use Rattle.store.specs.StorePage.{store_page_asks}
+use Rattle.store.specs.Relief.{all_yes, page_left}
+use Rattle.live.proofs.FirstLaws.{found_first}
 use Rattle.stores.proofs.relief.page_left.Goals as goal
 
-pub loop-page-init : goal.loop-page-init
-loop-page-init c = λ k h. absurd (omega arith)
-
--- the answer for the page that is looked at
-q1 : (c : goal.Then-is_left) → let a = c.args in left_in a.words.now a.medium.now a.cache.now c.loop-page.page ≡ c.is_left.result
-q1 c = sym c.is_left.ensures
-
-pub returns-then-is_left : goal.returns-then-is_left
-returns-then-is_left c =
-    sym (first_least _ _ 0 c.loop-page.page (omega arith) (omega arith) (λ j _ h. c.loop-page.invariant j h) (q1 c ∙ c.if-is_left.true))
-
--- the answer for the page that is looked at
-q1_at_loop_page_preserved : (c : goal.Else-is_left) → let a = c.args in left_in a.words.now a.medium.now a.cache.now c.loop-page.page ≡ c.is_left.result
-q1_at_loop_page_preserved c = sym c.is_left.ensures
-
-pub loop-page-preserved : goal.loop-page-preserved
-loop-page-preserved c = below_more _ _ c.loop-page.invariant (q1_at_loop_page_preserved c ∙ c.if-is_left.false)
-
 pub returns : goal.returns
-returns c = sym (first_none _ _ 0 (λ j _ h. c.loop-page.invariant j (omega arith)))
+unfolding page_left
+returns c =
+    let a = c.args in
+    let p = λ (page : ℕ). all_yes (store_page_asks a.state.now a.medium.now a.cache.now page) in
+    found_first p a.state.now.pages c.find.result
+    (first_from_Range _ _ _ _ (λ k. p k ≡ true) (λ k. p k ≡ false) c.find.ensures.ran (λ x q k. search (rules, tests)) (λ x q k. search (rules, tests)))

@@ -4,7 +4,6 @@ use mathlib.Core.Path.{refl}
 use mathlib.Core.Bool.{true}
 use mathlib.Core.List.{[]}
 use borrow.Author.Tests.{not-true, not-false}
-use Rattle.memory.specs.Memory.{state_of}
 use Rattle.script.specs.Run.{stand}
 use Rattle.script.proofs.TakeLaws.{step_on}
 use Rattle.rooms.specs.Parts.{room_of}
@@ -16,7 +15,7 @@ use Rattle.striproom.proofs.play.play.Goals as goal
 pub returns-then-not-taken-clause-leads : goal.returns-then-not-taken-clause-leads
 returns-then-not-taken-clause-leads g c =
     let k = c.args in
-    let room = room_of k.run.standing k.medium.now k.cache.now (state_of k.words.now k.tail.now) in
+    let room = room_of k.run.standing k.medium.now k.cache.now k.state.now in
     λ o z. rw o
     (leads _ _ _ _ [] _
     (play_stop (stand k.run.line room true []) k.bytes.now _ _ _ 0 c.take-taken.result c.requires.bytes_nonzero c.take-taken.ensures
@@ -31,7 +30,7 @@ returns-then-reached-p-clause-next_nonzero g c =
 pub returns-then-reached-p-clause-leads : goal.returns-then-reached-p-clause-leads
 returns-then-reached-p-clause-leads g c =
     let k = c.args in
-    let room = room_of k.run.standing k.medium.now k.cache.now (state_of k.words.now k.tail.now) in
+    let room = room_of k.run.standing k.medium.now k.cache.now k.state.now in
     rw c.stops.ensures
     (λ o z. leads _ _ _ _ [] _
     (play_over (stand k.run.line room true []) k.bytes.now _ _ _ 0 c.take-taken.result c.requires.bytes_nonzero c.take-taken.ensures
@@ -48,7 +47,7 @@ returns-clause-next_nonzero g c =
 pub returns-clause-leads : goal.returns-clause-leads
 returns-clause-leads g c =
     let k = c.args in
-    let room = room_of k.run.standing k.medium.now k.cache.now (state_of k.words.now k.tail.now) in
+    let room = room_of k.run.standing k.medium.now k.cache.now k.state.now in
     rw c.turn.ensures.next_value
     (λ o z. let q = c.turn.ensures.line_value z in
     rw (q.0, q.1, o)
