@@ -10,7 +10,6 @@ use Rattle.store.specs.declared.Answer.{Answer}
 use Rattle.store.specs.declared.Answer.TheVariants.{Done, Begun, Written, Committed, Opened, Missing, Erased, Present, Listed}
 use Rattle.store.specs.Answer.{answer_number}
 use Rattle.handover.specs.declared.HandRefusal.{HandRefusal}
-use Rattle.handover.specs.declared.HandRefusal.TheVariants.{Denied, NotOwner, Handed}
 use Rattle.handover.specs.Hand.{hand_number}
 use Rattle.script.specs.Print.{decimal, hex_of}
 
@@ -47,9 +46,8 @@ answer_text letter answer v =
 
 -- replay: "`H 0 time` or `H n -`": the last word of a handover's line
 unfoldable pub handed_result : Result CommitTime HandRefusal → List ℕ
-handed_result (Denied r) = dash
-handed_result NotOwner = dash
-handed_result (Handed t) = decimal t.0
+handed_result (Err r) = dash
+handed_result (Ok t) = decimal t.0
 
 -- replay: "`H 0 time` or `H n -`", "17 is the handover's own refusal": a handover's line
 unfoldable pub handed_text : Result CommitTime HandRefusal → List ℕ

@@ -2,114 +2,137 @@
 ghost use Rattle.std.specs.Prelude.{◌≡◌, ◌++◌, ℕ, ◌+◌, ◌*◌, ◌≤◌, length, take, Ok};
 ghost use Rattle.store.specs.declared.Answer.TheVariants.{Listed};
 ghost use Rattle.store.specs.Answer.{answer_number};
+ghost use Rattle.store.specs.Reading.{answer_in, value_in};
 ghost use Rattle.handover.specs.Hand.{hand_number};
 ghost use Rattle.answers.specs.Text.{result_text, answer_text, handed_result, handed_text, change_text, changes_text};
 ghost use Rattle.answers.specs.Text.{all_are, kept_text, list_text, block_text, shown_text};
 
-use fields::block;
-use handover::HandAnswer;
+use handover::HandRefusal;
+use layout::{CommitTime, TxNumber};
 use script::print;
-use store::Answer;
+use store::{Answer, Reading, Refusal};
 
 // 0, or the number of the refusal.
-pub fn refusal(answer: Answer) -> u64
+#[tactic(auto, using(crate::proofs::TextLaws::no_number), unfolding(store::specs::Answer::answer_number))]
+pub fn refusal(answer: Result<Answer, Refusal>) -> u64
     ensures { result ≡ answer_number answer }
 {
     match answer {
-        Answer::Refused(r) => print::number_of(r),
-        _ => 0,
+        Ok(_) => 0,
+        Err(why) => print::number_of(why),
     }
 }
 
 // The last word of a call's line.
-fn put_result(out: &mut [u8], n: usize, answer: Answer, value: [u8; 16]) -> usize
+#[tactic(auto, unfolding(crate::specs::Text::result_text))]
+fn put_result(out: &mut [u8], n: usize, answer: Result<Answer, Refusal>, value: [u8; 16]) -> usize
     requires { n + 32 ≤ length out.old }
     ensures upper_bound { result ≤ n + 32 }
     ensures out_after { take result out.new ≡ take n out.old ++ result_text answer value }
 {
+    let Ok(answer) = answer else {
+        return print::byte(out, n, b'-');
+    };
     match answer {
-        Answer::Refused(_) => print::byte(out, n, b'-'),
         Answer::Done => print::number(out, n, 0),
-        Answer::Begun(number) => print::number(out, n, number.0),
-        Answer::Written(slot) => print::number(out, n, slot),
-        Answer::Committed(time) => print::number(out, n, time.0),
-        Answer::Opened(time) => print::number(out, n, time.0),
+        Answer::Begun(TxNumber(x))
+        | Answer::Written(x)
+        | Answer::Committed(CommitTime(x))
+        | Answer::Opened(CommitTime(x))
+        | Answer::Listed(x) => print::number(out, n, x),
         Answer::Missing => print::bytes(out, n, b"none"),
         Answer::Erased => print::bytes(out, n, b"erased"),
         Answer::Present => print::hex(out, n, &value),
-        Answer::Listed(count) => print::number(out, n, count),
     }
 }
 
 // A call's line: its letter, 0 or the refusal, and the result.
-pub fn put_answer(out: &mut [u8], n: usize, letter: u8, answer: Answer, value: [u8; 16]) -> usize
+#[tactic(auto, using(std::proofs::Common::append_assoc), unfolding(crate::specs::Text::answer_text))]
+pub fn put_answer(
+    out: &mut [u8],
+    n: usize,
+    letter: u8,
+    answer: Result<Answer, Refusal>,
+    value: [u8; 16],
+) -> usize
     requires { n + 56 ≤ length out.old }
     ensures upper_bound { result ≤ n + 56 }
     ensures out_after { take result out.new ≡ take n out.old ++ answer_text letter answer value }
 {
-    let number = refusal(answer);
-    let a = print::byte(out, n, letter);
-    let b = print::byte(out, a, b' ');
-    let c = print::number(out, b, number);
-    let d = print::byte(out, c, b' ');
-    let e = put_result(out, d, answer, value);
-    print::byte(out, e, b'\n')
+    let n = print::byte(out, n, letter);
+    let n = print::byte(out, n, b' ');
+    let n = print::number(out, n, refusal(answer));
+    let n = print::byte(out, n, b' ');
+    let n = put_result(out, n, answer, value);
+    print::byte(out, n, b'\n')
+}
+
+// A read's line: its letter, 0 or the refusal, and what was found.
+pub fn put_reading(out: &mut [u8], n: usize, letter: u8, reading: Result<Reading, Refusal>) -> usize
+    requires { n + 56 ≤ length out.old }
+    ensures upper_bound { result ≤ n + 56 }
+    ensures out_after { take result out.new ≡ take n out.old ++ answer_text letter (answer_in reading) (value_in reading) }
+{
+    match reading {
+        Ok(found) => put_answer(out, n, letter, Ok(found.answer()), found.value()),
+        Err(why) => put_answer(out, n, letter, Err(why), [0; 16]),
+    }
 }
 
 // 0, or the number of the refusal: the store's, or the handover's own.
-fn denial(answer: HandAnswer) -> u64
-    ensures { result ≡ hand_number answer }
+#[tactic(auto, unfolding(handover::specs::Hand::hand_number))]
+fn denial(handed: Result<CommitTime, HandRefusal>) -> u64
+    ensures { result ≡ hand_number handed }
 {
-    match answer {
-        HandAnswer::Denied(r) => print::number_of(r),
-        HandAnswer::NotOwner => 17,
-        HandAnswer::Handed(_) => 0,
+    match handed {
+        Ok(_) => 0,
+        Err(HandRefusal::Denied(why)) => print::number_of(why),
+        Err(HandRefusal::NotOwner) => 17,
     }
 }
 
 // The last word of a handover's line.
-fn put_time(out: &mut [u8], n: usize, answer: HandAnswer) -> usize
+#[tactic(auto, unfolding(crate::specs::Text::handed_result))]
+fn put_time(out: &mut [u8], n: usize, handed: Result<CommitTime, HandRefusal>) -> usize
     requires { n + 20 ≤ length out.old }
     ensures upper_bound { result ≤ n + 20 }
-    ensures out_after { take result out.new ≡ take n out.old ++ handed_result answer }
+    ensures out_after { take result out.new ≡ take n out.old ++ handed_result handed }
 {
-    match answer {
-        HandAnswer::Denied(_) => print::byte(out, n, b'-'),
-        HandAnswer::NotOwner => print::byte(out, n, b'-'),
-        HandAnswer::Handed(time) => print::number(out, n, time.0),
+    match handed {
+        Ok(time) => print::number(out, n, time.0),
+        Err(_) => print::byte(out, n, b'-'),
     }
 }
 
 // A handover's line: `H`, 0 or the refusal, and the time.
-pub fn put_handed(out: &mut [u8], n: usize, answer: HandAnswer) -> usize
+#[tactic(auto, using(std::proofs::Common::append_assoc), unfolding(crate::specs::Text::handed_text))]
+pub fn put_handed(out: &mut [u8], n: usize, handed: Result<CommitTime, HandRefusal>) -> usize
     requires { n + 56 ≤ length out.old }
     ensures upper_bound { result ≤ n + 56 }
-    ensures out_after { take result out.new ≡ take n out.old ++ handed_text answer }
+    ensures out_after { take result out.new ≡ take n out.old ++ handed_text handed }
 {
-    let number = denial(answer);
-    let a = print::byte(out, n, b'H');
-    let b = print::byte(out, a, b' ');
-    let c = print::number(out, b, number);
-    let d = print::byte(out, c, b' ');
-    let e = put_time(out, d, answer);
-    print::byte(out, e, b'\n')
+    let n = print::byte(out, n, b'H');
+    let n = print::byte(out, n, b' ');
+    let n = print::number(out, n, denial(handed));
+    let n = print::byte(out, n, b' ');
+    let n = put_time(out, n, handed);
+    print::byte(out, n, b'\n')
 }
 
 // One line of a list of changes, from its 32 bytes.
+#[tactic(auto, using(std::proofs::Common::append_assoc), unfolding(crate::specs::Text::change_text))]
 fn put_change(out: &mut [u8], n: usize, bytes: &[u8]) -> usize
     requires bytes_len { length bytes.now ≡ 32 }
     requires n_in_bounds { n + 75 ≤ length out.old }
     ensures upper_bound { result ≤ n + 75 }
     ensures out_after { take result out.new ≡ take n out.old ++ change_text bytes.now }
 {
-    let time = fields::field::get8(bytes, 0);
-    let kind = bytes[8] as u64;
-    let a = print::number(out, n, time);
-    let b = print::byte(out, a, b' ');
-    let c = print::number(out, b, kind);
-    let d = print::byte(out, c, b' ');
-    let e = print::hex(out, d, &bytes[16..32]);
-    print::byte(out, e, b'\n')
+    let n = print::number(out, n, fields::field::get8(bytes, 0));
+    let n = print::byte(out, n, b' ');
+    let n = print::number(out, n, u64::from(bytes[8]));
+    let n = print::byte(out, n, b' ');
+    let n = print::hex(out, n, &bytes[16..32]);
+    print::byte(out, n, b'\n')
 }
 
 // The lines of a list of changes.
@@ -120,82 +143,81 @@ fn put_changes(out: &mut [u8], n: usize, count: usize, buffer: &[u8]) -> usize
     ensures out_after { take result out.new ≡ take n out.old ++ changes_text count buffer.now }
 {
     let mut end = n;
-    let mut i: usize = 0;
-    while i < count {
-        let at = 32 * i;
-        let next = put_change(out, end, &buffer[at..at + 32]);
-        end = next;
-        i += 1;
+    for i in 0..count {
+        end = put_change(out, end, &buffer[32 * i..32 * i + 32]);
     }
     end
 }
 
-// Are all bytes this one? Every byte is looked at, so that the compiler can take many at once.
-fn all_are(bytes: &[u8], b: u8) -> bool
-    ensures { result ≡ all_are b bytes.now }
+// Are all bytes this one? `iter().all` stops at the first that is not, and so takes one byte at a time.
+fn all_are(bytes: &[u8], byte: u8) -> bool
+    ensures { result ≡ all_are byte bytes.now }
 {
-    let mut other: u8 = 0;
-    let mut i: usize = 0;
-    while i < bytes.len() {
-        other = block::difference(other, bytes[i], b);
-        i += 1;
+    let mut same = true;
+    for &b in bytes {
+        same &= b == byte;
     }
-    other == 0
+    same
 }
 
 // Whether the answer buffer behind a list was left as it was.
+#[tactic(auto, unfolding(crate::specs::Text::kept_text))]
 fn put_kept(out: &mut [u8], n: usize, kept: bool) -> usize
     requires { n + 9 ≤ length out.old }
     ensures upper_bound { result ≤ n + 9 }
     ensures out_after { take result out.new ≡ take n out.old ++ kept_text kept }
 {
     if kept {
-        return print::bytes(out, n, b"= kept\n");
+        print::bytes(out, n, b"= kept\n")
+    } else {
+        print::bytes(out, n, b"= spoilt\n")
     }
-    print::bytes(out, n, b"= spoilt\n")
 }
 
 // What stands behind the line of a list's answer.
-pub fn put_list(out: &mut [u8], n: usize, answer: Answer, buffer: &[u8]) -> usize
+pub fn put_list(out: &mut [u8], n: usize, answer: Result<Answer, Refusal>, buffer: &[u8]) -> usize
     requires buffer_len_bound { length buffer.now ≤ 40000 }
     requires n_in_bounds { n + 93759 ≤ length out.old }
     requires by_index { (k : ℕ) → answer ≡ Ok (Listed k) → 32 * k ≤ length buffer.now }
     ensures upper_bound { result ≤ n + 93759 }
     ensures out_after { take result out.new ≡ take n out.old ++ list_text answer buffer.now }
 {
-    match answer {
-        Answer::Listed(count) => {
-            let k = count as usize;
-            let a = put_changes(out, n, k, buffer);
-            let at = 32 * k;
-            let kept = all_are(&buffer[at..], 170);
-            put_kept(out, a, kept)
-        }
-        _ => n,
-    }
+    let Ok(answer) = answer else {
+        return n;
+    };
+    let Answer::Listed(count) = answer else {
+        return n;
+    };
+    let count = count as usize;
+    let end = put_changes(out, n, count, buffer);
+    let kept = all_are(&buffer[32 * count..], 170);
+    put_kept(out, end, kept)
 }
 
 // A block of the bytes in hex, or a dash where there is none.
+#[tactic(auto, unfolding(crate::specs::Text::block_text))]
 fn put_block(out: &mut [u8], n: usize, bytes: &[u8], k: u64) -> usize
     requires { n + 1024 ≤ length out.old }
     ensures upper_bound { result ≤ n + 1024 }
     ensures out_after { take result out.new ≡ take n out.old ++ block_text bytes.now k }
 {
-    if k < (bytes.len() as u64) / 512 {
-        let at = 512 * (k as usize);
-        return print::hex(out, n, &bytes[at..at + 512]);
+    if k < bytes.len() as u64 / 512 {
+        let at = 512 * k as usize;
+        print::hex(out, n, &bytes[at..at + 512])
+    } else {
+        print::byte(out, n, b'-')
     }
-    print::byte(out, n, b'-')
 }
 
 // The line that shows a block.
+#[tactic(auto, using(std::proofs::Common::append_assoc), unfolding(crate::specs::Text::shown_text))]
 pub fn put_shown(out: &mut [u8], n: usize, letter: u8, bytes: &[u8], k: u64) -> usize
     requires { n + 1027 ≤ length out.old }
     ensures upper_bound { result ≤ n + 1027 }
     ensures out_after { take result out.new ≡ take n out.old ++ shown_text letter bytes.now k }
 {
-    let a = print::byte(out, n, letter);
-    let b = print::byte(out, a, b' ');
-    let c = put_block(out, b, bytes, k);
-    print::byte(out, c, b'\n')
+    let n = print::byte(out, n, letter);
+    let n = print::byte(out, n, b' ');
+    let n = put_block(out, n, bytes, k);
+    print::byte(out, n, b'\n')
 }

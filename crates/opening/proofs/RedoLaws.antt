@@ -16,37 +16,14 @@ use Rattle.layout.specs.declared.item.Pair.{Pair}
 use Rattle.fields.proofs.Choose.{and_0, and_1}
 use Rattle.layout.proofs.CacheLaws.{length_put_version}
 use Rattle.layout.proofs.PlaceLaws.{slot_page_below}
-use Rattle.store.specs.declared.State.{State}
 use Rattle.store.specs.Write.{cell_for, touched}
 use Rattle.store.specs.OpenLog.{Placed}
 use Rattle.store.specs.OpenRedo.{Redone, applies, redo_one, redo}
-use Rattle.memory.specs.Memory.{first_of, state_by, state_of, with_first}
 use Rattle.conditions.specs.declared.cursor.Cursor.{Cursor}
 use Rattle.conditions.specs.Cursor.{rest_of, Valid}
 use Rattle.conditions.specs.Lookup.{slots_below}
 use Rattle.conditions.specs.Passes.{redo_ok}
 use Rattle.conditions.proofs.CursorLaws.{Next}
-
--- ---- the first changes in the words: v has others than w, and nothing else that differs
-
-abbrev pub Noted : List ℕ → List ℕ → Type 0
-Noted w v = (tail : List ℕ) → state_of v tail ≡ with_first (state_of w tail) (first_of v)
-
-pub noted_none : (w : List ℕ) → Noted w w
-unfolding state_of state_by with_first
-noted_none w = λ tail. refl
-
--- u is v with page p touched
-module _ (v u : List ℕ) (p s : ℕ) (touch : (tail : List ℕ) → state_of u tail ≡ with_first (state_of v tail) (touched (state_of v tail).first p s)) where
-  pub noted_first : first_of u ≡ touched (first_of v) p s
-  unfolding state_of state_by with_first
-  noted_first = ap (λ (x : State). x.first) (touch [])
-
-  pub noted_touch : (w : List ℕ) → Noted w v → Noted w u
-  unfolding state_of state_by with_first
-  noted_touch w n = λ tail. touch tail ∙ ap (λ (x : State). with_first x (touched (first_of v) p s)) (n tail) ∙ ap (with_first (state_of w tail)) (sym noted_first)
-
--- ---- the records
 
 -- a version that the page has already, and one that it lacks
 pass_is : (d : Redone) (x : Placed) (h : VersionHead) (v : List ℕ) → x.rec ≡ version h v → applies d.cache h x.end ≡ false → redo_one d x ≡ d

@@ -1,15 +1,15 @@
 -- What the survey of a medium goes by: its master, the end of its log, and what each finding makes of "well formed".
 -- By the definitions; assumes nothing.
 use mathlib.Core.Path.{◌≡◌, refl, sym, ap, ◌∙◌}
-use mathlib.Core.Bool.{Bool, true, false, not, ◌&&◌}
+use mathlib.Core.Bool.{Bool, true, false, ◌&&◌}
 use Prim.Native.Nat.{ℕ, zero, suc, ◌+◌, ◌-◌, ◌*◌, ◌≤◌, ◌<◌, ◌^◌}
 use native.Mathlib.Nat.{add-zero}
 use native.Mathlib.Numerals.{add-one}
 use native.Mathlib.Omega.{arith}
-use mathlib.Core.List.{List}
+use mathlib.Core.List.{List, []}
 use lib.ListN.{length, take, drop}
 use lib.Dec.{eqb, leb, ltb}
-use borrow.Author.Tests.{ltb-true, eqb-true, lt-ltb, le-ltb, le-leb, lt-leb, eq-eqb, ne_eqb, not-true, not-false}
+use borrow.Author.Tests.{ltb-true, eqb-true}
 use Rattle.fields.specs.Field.{dec}
 use Rattle.fields.specs.Block.{blk, log_block_at, end_place}
 use Rattle.layout.specs.Page.{page_used}
@@ -23,22 +23,13 @@ use Rattle.fields.proofs.PartLaws.{lent_part}
 use Rattle.fields.proofs.BlockLaws.{part_blk, length_blk}
 use Rattle.layout.proofs.MasterLaws.{MasterParts, master_parts, oldest_on_is}
 use Rattle.layout.proofs.JournalLaws.{sequence_empty_block, used_empty_block}
-use Rattle.store.specs.OpenLog.{next_on, block_of, matching, read_count, read_tail, log_end}
+use Rattle.store.specs.OpenLog.{next_on, block_of, matching, read_count, read_tail, log_end, next_number, last_time}
 use Rattle.store.specs.OpenRedo.{used_in}
-use Rattle.store.specs.OpenConditions.{sizes_are, low_after_all}
+use Rattle.store.specs.OpenConditions.{sizes_are, low_after_all, full_before}
 use Rattle.conditions.specs.Cursor.{Ready}
-use Rattle.conditions.specs.Passes.{all_of, page_ok, records_ok, master_ok, blocks_ok, medium_ok}
+use Rattle.conditions.specs.Passes.{all_of, page_ok, place_ok, slot_ok, records_ok, master_ok, blocks_ok, table_and_slots, medium_ok}
 use Rattle.conditions.proofs.BlockPasses.{bytes_blk}
-use Rattle.conditions.proofs.ChecksLaws.{one_up}
 use Rattle.conditions.proofs.CursorLaws.{block_lent, block_in, matching_low}
-
--- ---- the answer x, found as r, where `if !r` was taken or left
-
-pub told_no : (r x : Bool) → r ≡ x → r ≡ false → x ≡ false
-told_no r x e t = sym e ∙ t
-
-pub told_yes : (r x : Bool) → r ≡ x → r ≡ true → x ≡ true
-told_yes r x e t = sym e ∙ t
 
 -- ---- the master: r is what was read of it
 
@@ -57,28 +48,9 @@ module _ (m : List ℕ) (l d : ℕ) (r : Option Fields) (f : Fields) (read : r �
   unfolding next_on
   next_is = ap dec (sym (part_blk m 0 24 8 (omega arith))) ∙ sym fields.next
 
-  master_is : master_ok m l d ≡ ((eqb f.blocks l && eqb f.pages d) && (leb 1 f.oldest && (ltb f.oldest (2 ^ 48) && leb 1 f.next.0)))
+  pub master_is : master_ok m l d ≡ ((eqb f.blocks l && eqb f.pages d) && (leb 1 f.oldest && (ltb f.oldest (2 ^ 48) && leb 1 f.next.0)))
   unfolding master_ok
   master_is = rw (sym read ∙ whole, oldest_is, next_is)
-
-  pub master_blocks : (f.blocks ≡ l → ⊥) → false ≡ master_ok m l d
-  master_blocks a = sym (master_is ∙ rw (ne_eqb f.blocks l a))
-
-  pub master_pages : f.blocks ≡ l → (f.pages ≡ d → ⊥) → false ≡ master_ok m l d
-  master_pages a b = sym (master_is ∙ rw (eq-eqb f.blocks l a, ne_eqb f.pages d b))
-
-  module _ (a : f.blocks ≡ l) (b : f.pages ≡ d) where
-    pub master_none : f.oldest ≡ 0 → false ≡ master_ok m l d
-    master_none o = sym (master_is ∙ rw (eq-eqb f.blocks l a, eq-eqb f.pages d b, lt-leb 1 f.oldest (omega arith)))
-
-    module _ (o : f.oldest ≡ 0 → ⊥) where
-      pub master_high : 2 ^ 48 ≤ f.oldest → false ≡ master_ok m l d
-      master_high h =
-          sym (master_is ∙ rw (eq-eqb f.blocks l a, eq-eqb f.pages d b, le-leb 1 f.oldest (omega arith), le-ltb f.oldest (2 ^ 48) h))
-
-      pub master_next : f.oldest < 2 ^ 48 → not (eqb f.next.0 0) ≡ master_ok m l d
-      master_next h =
-          sym (master_is ∙ rw (eq-eqb f.blocks l a, eq-eqb f.pages d b, le-leb 1 f.oldest (omega arith), lt-ltb f.oldest (2 ^ 48) h, one_up))
 
 -- ---- the tail and the end of the log: s is the oldest sequence, k the count of blocks read
 
@@ -195,3 +167,10 @@ module _ (m : List ℕ) (l d : ℕ) where
       pub all_in_form : blocks_ok m l d 0 s k ≡ true → all_of (page_ok m l d) 0 d ≡ true → medium_ok m l d ≡ true
       unfolding medium_ok
       all_in_form e f = rw (master, ← oldest, ← count_is, e, f)
+
+-- ---- the table, the pages and the slots of the cache: t is what was found of the table
+
+pub kept_is : (m : List ℕ) (l d : ℕ) (c : List ℕ) (next last : ℕ) → next ≡ next_number m l → last ≡ last_time m l → (t : Bool) → t ≡ all_of (place_ok m next last) 0 64
+    → table_and_slots m l d c ≡ t && (all_of (full_before [] 0 d c) 0 d && all_of (slot_ok m l d c) 0 (15 * d))
+unfolding table_and_slots full_before
+kept_is m l d c next last e f t g = rw (g, e, f)

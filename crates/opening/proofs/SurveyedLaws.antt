@@ -1,77 +1,41 @@
--- What a survey finds: each finding is one part of "well formed", and where all of them are in order, words and tail hold
--- the opened state. By the definitions; assumes nothing.
-use mathlib.Core.Path.{◌≡◌, refl, sym, ap, subst, ◌∙◌}
+-- What a survey finds: each finding is one part of "well formed", and where all of them are in order, they give the opened
+-- state. By the definitions; assumes nothing.
+use mathlib.Core.Path.{◌≡◌, sym, ap, ◌∙◌}
 use mathlib.Core.Bool.{Bool, true, false, ◌&&◌}
 use Prim.Native.Nat.{ℕ, ◌*◌, ◌≤◌, ◌<◌, ◌^◌, max}
 use native.Mathlib.Omega.{arith}
 use mathlib.Core.List.{List, []}
-use lib.ListN.{length, replicate}
+use lib.ListN.{length}
 use lib.Dec.{leb}
 use Rattle.fields.specs.Field.{dec}
 use Rattle.fields.specs.Part.{part}
 use Rattle.fields.specs.Block.{medium_length}
 use Rattle.layout.specs.Master.{oldest_on}
-use Rattle.fields.proofs.Choose.{and_0, and_1, no}
+use Rattle.fields.proofs.Choose.{and_0, and_1}
 use Rattle.fields.proofs.FieldLaws.{Bytes}
-use Rattle.store.specs.declared.State.{State}
-use Rattle.store.specs.Places.{free_place}
+use Rattle.store.specs.declared.Phase.TheVariants.{Idle}
+use Rattle.store.specs.declared.Place.{Place}
 use Rattle.store.specs.OpenLog.{next_on, time_on, above_all, latest, read_count, read_log, read_tail, next_number, last_time}
 use Rattle.store.specs.OpenRedo.{Redone, pages_on, untouched, redo, used_in}
 use Rattle.store.specs.OpenPairs.{waiting_numbers, is_paired, open_places}
 use Rattle.store.specs.Open.{opened_state}
-use Rattle.store.specs.OpenConditions.{full_before, copied, redone, well_formed}
-use Rattle.memory.specs.Memory.{life_by, place_in, listed, places_of, first_of, phase_by, state_by, state_of, blank, with_first, with_places}
+use Rattle.store.specs.OpenConditions.{copied, redone, well_formed}
 use Rattle.conditions.specs.declared.cursor.Cursor.{Cursor}
+use Rattle.conditions.specs.declared.log.Commit.{Commit}
 use Rattle.conditions.specs.Cursor.{Valid, rest_of}
 use Rattle.conditions.specs.Lookup.{commits_of, Extent, Known, KeysBelow, slots_below}
-use Rattle.conditions.specs.Passes.{all_of, page_ok, redo_ok, log_ok, place_ok, master_ok, blocks_ok, slot_ok, table_and_slots, cache_ok, medium_ok, passes}
+use Rattle.conditions.specs.Passes.{all_of, page_ok, redo_ok, log_ok, master_ok, blocks_ok, table_and_slots, cache_ok, medium_ok, passes}
 use Rattle.conditions.proofs.BlockPasses.{blocks_slots}
 use Rattle.conditions.proofs.KeyLaws.{keys_redone}
 use Rattle.conditions.proofs.CursorLaws.{rest_block, matching_low}
 use Rattle.conditions.proofs.FormedLaws.{formed}
-use Rattle.opening.specs.declared.survey.LogFound.{LogFound}
-use Rattle.opening.specs.declared.survey.LogFound.TheVariants.{Good, Bad}
-use Rattle.opening.specs.Surveyed.{with_numbers, ReadGood, Applied, ReadAs}
-use Rattle.opening.proofs.RedoLaws.{Noted}
+use Rattle.opening.specs.Surveyed.{ReadGood, Applied}
 use Rattle.opening.proofs.SurveyLaws.{oldest_low}
 
--- ---- the table, the pages and the slots of the cache: t, f and s are what was found of them
-
-full_same : (m : List ℕ) (l d : ℕ) (c : List ℕ) → all_of (full_before [] 0 d c) 0 d ≡ all_of (full_before m l d c) 0 d
-unfolding full_before
-full_same m l d c = refl
-
-module _ (m : List ℕ) (l d : ℕ) (c : List ℕ) (next last : ℕ) (next_is : next ≡ next_number m l) (last_is : last ≡ last_time m l) (t : Bool) (table : t ≡ all_of (place_ok m next last) 0 64) where
-  table_is : all_of (place_ok m (next_number m l) (last_time m l)) 0 64 ≡ t
-  table_is = sym (rw (next_is, last_is) at table)
-
-  pub no_table : t ≡ false → false ≡ table_and_slots m l d c
-  unfolding table_and_slots
-  no_table e = sym (rw (table_is, e))
-
-  module _ (in_table : t ≡ true) (f : Bool) (full : f ≡ all_of (full_before [] 0 d c) 0 d) where
-    full_is : all_of (full_before m l d c) 0 d ≡ f
-    full_is = sym (full ∙ full_same m l d c)
-
-    pub not_full : f ≡ false → false ≡ table_and_slots m l d c
-    unfolding table_and_slots
-    not_full e = sym (rw (table_is, in_table, full_is, e))
-
-    pub slots_left : f ≡ true → (s : Bool) → s ≡ all_of (slot_ok m l d c) 0 (15 * d) → s ≡ table_and_slots m l d c
-    unfolding table_and_slots
-    slots_left e s g = sym (rw (table_is, in_table, full_is, e, ← g))
-
--- ---- a medium that is not well formed: `ok` is the survey's answer
-
-pub refused : {A : Type 0} (ok w : Bool) → ok ≡ false → w ≡ false → (ok ≡ w) × (ok ≡ true → A)
-refused ok w e f = (e ∙ sym f, λ t. no (sym e ∙ t))
-
-pub found_good : (m : List ℕ) (l d : ℕ) (r : LogFound) (log : Cursor) (e : ℕ) → ReadAs m l d r → r ≡ Good log e → ReadGood m l d log e
-found_good m l d r log e h f = rw f at h
-
-pub found_bad : (m : List ℕ) (l d : ℕ) (r : LogFound) → ReadAs m l d r → r ≡ Bad → well_formed m l d ≡ false
+-- a medium that is not in form
+pub not_read : (m : List ℕ) (l d : ℕ) → medium_ok m l d ≡ false → false ≡ well_formed m l d
 unfolding passes
-found_bad m l d r h f = let e : medium_ok m l d ≡ false = rw f at h in formed m l d ∙ rw e
+not_read m l d e = sym (formed m l d ∙ rw e)
 
 -- ---- the log that was read
 
@@ -103,27 +67,23 @@ module _ (m : List ℕ) (l d : ℕ) (log : Cursor) (end : ℕ) (good : ReadGood 
   unfolding read_log
   read_slots = rw read_rest (blocks_slots m l d 0 (oldest_on m) (read_count m l) blocks_good)
 
-  -- redo, from the cache `before` to the cache c, and from the first changes of the words w to those of v
-  module _ (before c w v : List ℕ) (pages : before ≡ pages_on m l d) (fresh : w ≡ blank) (ok : Bool)
-      (run : (ok ≡ redo_ok (record { cache = before; first = first_of w }) (rest_of m l log))
-      × (ok ≡ true → record { cache = c; first = first_of v } ≡ redo (record { cache = before; first = first_of w }) (rest_of m l log))) where
-    first_none : first_of w ≡ untouched
-    unfolding first_of blank untouched
-    first_none = ap first_of fresh
-
+  -- redo, from the cache `before` to the cache c, and from no first changes to those of `first`
+  module _ (before c fresh first : List ℕ) (pages : before ≡ pages_on m l d) (none : fresh ≡ untouched) (ok : Bool)
+      (run : (ok ≡ redo_ok (record { cache = before; first = fresh }) (rest_of m l log))
+      × (ok ≡ true → record { cache = c; first = first } ≡ redo (record { cache = before; first = fresh }) (rest_of m l log))) where
     redo_is : redo_ok (copied m l d) (read_log m l) ≡ ok
     unfolding copied
-    redo_is = sym (rw (pages, first_none, read_rest) at run.0)
+    redo_is = sym (rw (pages, none, read_rest) at run.0)
 
-    pub not_redone : ok ≡ false → well_formed m l d ≡ false
+    pub not_redone : ok ≡ false → false ≡ well_formed m l d
     unfolding passes
-    not_redone e = formed m l d ∙ rw (good.ok, redo_is, e)
+    not_redone e = sym (formed m l d ∙ rw (good.ok, redo_is, e))
 
-    redone_is : ok ≡ true → record { cache = c; first = first_of v } ≡ redone m l d
+    redone_is : ok ≡ true → record { cache = c; first = first } ≡ redone m l d
     unfolding redone copied
-    redone_is e = rw (pages, first_none, read_rest) at (run.1 e)
+    redone_is e = rw (pages, none, read_rest) at (run.1 e)
 
-    pub applied : ok ≡ true → Applied m l d log end c (first_of v)
+    pub applied : ok ≡ true → Applied m l d log end c first
     applied e = record {
       read = good;
       redo = redo_is ∙ e;
@@ -131,68 +91,47 @@ module _ (m : List ℕ) (l d : ℕ) (log : Cursor) (end : ℕ) (good : ReadGood 
       first = ap (λ (r : Redone). r.first) (redone_is e);
     }
 
+-- ---- the numbers, by the log's records
+
+pub next_found : (m : List ℕ) (l a above n : ℕ) → above ≡ above_all (read_log m l) → a ≡ dec (part m 24 8) → n ≡ max a above → n ≡ next_number m l
+unfolding next_number next_on
+next_found m l a above n t e g = g ∙ rw (e, t)
+
+pub last_found : (m : List ℕ) (l a late n : ℕ) → late ≡ latest (read_log m l) → a ≡ dec (part m 35 8) → n ≡ max a late → n ≡ last_time m l
+unfolding last_time time_on
+last_found m l a late n t e g = g ∙ rw (e, t)
+
 -- ---- the log that was applied: c is the cache that redo leaves
 
 module _ (m : List ℕ) (l d : ℕ) (log : Cursor) (end : ℕ) (c first : List ℕ) (done : Applied m l d log end c first) where
-  applied_rest : rest_of m l log ≡ read_log m l
-  applied_rest = read_rest m l d log end done.read
-
   passes_is : well_formed m l d ≡ cache_ok m l d c
   unfolding passes
   passes_is = formed m l d ∙ rw (done.read.ok, done.redo, ← done.cache)
 
-  pub applied_known : (used : ℕ) (commits : List ℕ) → Extent m used → commits ≡ commits_of (rest_of m l log) → Known m l used commits
-  applied_known used commits e f = record { table = e; log = f ∙ ap commits_of applied_rest }
+  pub applied_known : (used : ℕ) (commits : List Commit) → Extent m used → commits ≡ commits_of (rest_of m l log) → Known m l used commits
+  applied_known used commits e f = record { table = e; log = f ∙ ap commits_of (read_rest m l d log end done.read) }
 
   -- no slot has a record number of 1,024 or more
   pub applied_keys : length m ≡ medium_length l d → Bytes m → KeysBelow c d
   applied_keys long bytes = rw done.cache (keys_redone m l d long bytes done.read.ok)
 
-  -- the records
-  module _ (logged : Bool) (above late : ℕ)
-      (tally : (logged ≡ log_ok m [] (rest_of m l log)) × (logged ≡ true → (above ≡ above_all (rest_of m l log)) × (late ≡ latest (rest_of m l log)))) where
-    log_is : log_ok m [] (read_log m l) ≡ logged
-    log_is = sym (rw applied_rest at tally.0)
+  pub not_logged : false ≡ log_ok m [] (read_log m l) → false ≡ well_formed m l d
+  unfolding cache_ok
+  not_logged e = sym (passes_is ∙ rw (← e))
 
-    pub not_logged : logged ≡ false → well_formed m l d ≡ false
-    unfolding cache_ok
-    not_logged e = passes_is ∙ rw (log_is, e)
+  pub not_kept : true ≡ log_ok m [] (read_log m l) → false ≡ table_and_slots m l d c → false ≡ well_formed m l d
+  unfolding cache_ok
+  not_kept e f = sym (passes_is ∙ rw (← e, ← f))
 
-    module _ (fine : logged ≡ true) where
-      pub next_found : (a n : ℕ) → a ≡ dec (part m 24 8) → n ≡ max a above → n ≡ next_number m l
-      unfolding next_number next_on
-      next_found a n e g = g ∙ rw (e, (tally.1 fine).0, applied_rest)
+  -- the numbers that wait are all that is left to judge
+  pub few_is : true ≡ log_ok m [] (read_log m l) → true ≡ table_and_slots m l d c → (few : Bool) → few ≡ leb (length (waiting_numbers c (is_paired m (read_log m l)) (15 * d))) 64
+      → few ≡ well_formed m l d
+  unfolding cache_ok
+  few_is e f few waits = sym (passes_is ∙ rw (← e, ← f, ← waits))
 
-      pub last_found : (a n : ℕ) → a ≡ dec (part m 35 8) → n ≡ max a late → n ≡ last_time m l
-      unfolding last_time time_on
-      last_found a n e g = g ∙ rw (e, (tally.1 fine).1, applied_rest)
-
-      -- table, pages and slots
-      module _ (kept : Bool) (judged : kept ≡ table_and_slots m l d c) where
-        pub not_kept : kept ≡ false → well_formed m l d ≡ false
-        unfolding cache_ok
-        not_kept e = passes_is ∙ rw (log_is, fine, ← judged, e)
-
-        -- the numbers that wait
-        pub few_is : kept ≡ true → (few : Bool) → few ≡ leb (length (waiting_numbers c (is_paired m (read_log m l)) (15 * d))) 64 → well_formed m l d ≡ few
-        unfolding cache_ok
-        few_is e few waits = passes_is ∙ rw (log_is, fine, ← judged, e, ← waits)
-
--- ---- the state: the words w are blank but for the first changes, v has the places too, and u the numbers
-
-pub noted_blank : (w v : List ℕ) → w ≡ blank → Noted w v → Noted blank v
-noted_blank w v e n = subst (λ (x : List ℕ). Noted x v) e n
-
-pub places_none : (w : List ℕ) → Noted blank w → places_of w ≡ replicate 64 free_place
-unfolding state_of state_by with_first places_of listed place_in life_by blank
-places_none w noted = ap (λ (s : State). s.places) (noted [])
-
-module _ (m : List ℕ) (l d : ℕ) (log : Cursor) (end : ℕ) (c w v u tail : List ℕ) (done : Applied m l d log end c (first_of w)) (noted : Noted blank w)
-    (laid : (tail : List ℕ) → state_of v tail ≡ with_places (state_of w tail) (open_places m (read_log m l) c (15 * d)))
-    (slots next last : ℕ) (numbered : (tail : List ℕ) → state_of u tail ≡ with_numbers (state_of v tail) l d slots next last end) where
-  pub opened_is : slots ≡ used_in c d → next ≡ next_number m l → last ≡ last_time m l → tail ≡ read_tail m l → state_of u tail ≡ opened_state m l d
-  unfolding state_of state_by phase_by blank with_first with_places with_numbers opened_state
-  opened_is a e f t =
-      numbered tail
-      ∙ ap (λ (s : State). with_numbers s l d slots next last end) (laid tail ∙ ap (λ (s : State). with_places s (open_places m (read_log m l) c (15 * d))) (noted tail))
-      ∙ rw (a, e, f, t, done.read.end, done.first, done.cache)
+  pub opened_is : (slots next last : ℕ) (tail : List ℕ) (places : List Place) → slots ≡ used_in c d → next ≡ next_number m l → last ≡ last_time m l → tail ≡ read_tail m l
+      → places ≡ open_places m (read_log m l) c (15 * d)
+      → record { blocks = l; pages = d; slots = slots; next = record { 0 = next }; last = record { 0 = last }; saved = record { 0 = last }; end = record { 0 = end }; tail = tail; places = places; ring = 0; first = first; phase = Idle }
+      ≡ opened_state m l d
+  unfolding opened_state
+  opened_is slots next last tail places a e f t p = rw (a, e, f, t, p, done.read.end, done.first, done.cache)

@@ -7,7 +7,8 @@ use Rattle.store.specs.declared.Life.TheVariants.{Committed}
 use Rattle.store.specs.declared.Place.{Place}
 use Rattle.store.specs.Places.{first, is_free, place_at, free_place}
 use Rattle.store.specs.OpenLog.{Placed, Commitment, commit_under}
-use Rattle.store.specs.OpenPairs.{end_of_commitment, table_find, live_place, take_at, time_or_zero}
+use Rattle.opening.specs.declared.waiting.Waiting.{Waiting}
+use Rattle.store.specs.OpenPairs.{end_of_commitment, table_find, take_at, time_or_zero}
 
 -- a live committed transaction's place, with its commit in the log, if there is one, and its waiting versions counted
 unfoldable pub place_of : Option Commitment → TxNumber → CommitTime → ℕ → Place
@@ -29,10 +30,11 @@ free_unless (Some i) ps = None
 free_unless None ps = first (λ i. is_free (place_at ps i).life) 64 0
 
 -- the places with a number's, and with those of a list
-unfoldable pub take_one : List ℕ → List Placed → List ℕ → ℕ → List Place → ℕ → List Place
-take_one m log c slots ps n =
-    take_at (free_unless (table_find m n) ps) ps (live_place m log c slots n (time_or_zero (commit_under log n)))
+unfoldable pub take_one : List ℕ → List Placed → List Place → Waiting → List Place
+take_one m log ps w =
+    take_at (free_unless (table_find m w.number) ps) ps
+    (place_of (commit_under log w.number) (record { 0 = w.number }) (record { 0 = time_or_zero (commit_under log w.number) }) w.count)
 
-unfoldable pub take_all : List ℕ → List Placed → List ℕ → ℕ → List Place → List ℕ → List Place
-take_all m log c slots ps [] = ps
-take_all m log c slots ps (n ∷ ns) = take_all m log c slots (take_one m log c slots ps n) ns
+unfoldable pub take_all : List ℕ → List Placed → List Place → List Waiting → List Place
+take_all m log ps [] = ps
+take_all m log ps (w ∷ ws) = take_all m log (take_one m log ps w) ws

@@ -1,49 +1,34 @@
 // Opening as a whole: is the medium well formed, and the state that it gives.
-ghost use Rattle.std.specs.Prelude.{◌≡◌, true, false, List, ℕ, ◌+◌, ◌*◌, ◌<◌, ◌≤◌, ◌^◌, length};
+ghost use Rattle.std.specs.Prelude.{◌≡◌, List, ℕ, ◌+◌, ◌*◌, ◌<◌, ◌≤◌, ◌^◌, length, is_some, IfSome, IfNone};
 ghost use Rattle.fields.specs.Block.{medium_length};
 ghost use Rattle.layout.specs.Master.{oldest_on};
 ghost use Rattle.store.specs.OpenLog.{read_count, log_end, read_tail, next_number, last_time};
 ghost use Rattle.store.specs.OpenRedo.{pages_on, used_in};
 ghost use Rattle.store.specs.OpenConditions.{well_formed, redone};
 ghost use Rattle.store.specs.Open.{opened_state};
-ghost use Rattle.memory.specs.Memory.{blank, with_first};
 ghost use Rattle.conditions.specs.Cursor.{Ready, Valid};
-ghost use Rattle.conditions.specs.Lookup.{Known, KeysBelow};
+ghost use Rattle.conditions.specs.Lookup.{KeysBelow};
 ghost use Rattle.conditions.specs.Passes.{master_ok, table_and_slots};
-ghost use Rattle.opening.specs.Surveyed.{with_numbers, ReadAs, Applied, OpenedAs};
+ghost use Rattle.opening.specs.Surveyed.{ReadAs, Applied};
 
 use conditions::cursor::Cursor;
-use store::State;
-
-// Whether a medium is well formed, and its last time.
-#[derive(Clone, Copy)]
-pub struct Opened {
-    pub ok: bool,
-    pub last: u64,
-}
+use conditions::log::Commit;
+use conditions::pairs::Pairs;
+use layout::{CommitTime, EndPlace, TxNumber};
+use store::{Phase, State};
 
 // Are the master's fields in form, the sizes those given, and its numbers in range?
 fn master_ok(medium: &[u8], blocks: u64, pages: u64) -> bool
     requires { 1536 ≤ length medium.now }
     ensures { result ≡ master_ok medium.now blocks pages }
 {
-    let found = layout::master::read(&medium[0..512]);
-    let Some(f) = found else {
+    let Some(fields) = layout::master::read(&medium[..512]) else {
         return false;
     };
-    if f.blocks != blocks {
-        return false;
-    }
-    if f.pages != pages {
-        return false;
-    }
-    if f.oldest == 0 {
-        return false;
-    }
-    if 281474976710656 <= f.oldest {
-        return false;
-    }
-    f.next.0 != 0
+    fields.blocks == blocks
+        && fields.pages == pages
+        && (1..1 << 48).contains(&fields.oldest)
+        && fields.next.0 != 0
 }
 
 // The end of the log: behind the last block read, or of an empty one under the oldest sequence.
@@ -56,51 +41,36 @@ fn log_end(medium: &[u8], blocks: u64, oldest: u64, count: u64) -> u64
     if count == 0 {
         return 512 * oldest + 10;
     }
-    let s = oldest + count - 1;
-    let start = conditions::cursor::block_start(blocks, s);
-    512 * s + layout::journal::used(&medium[start..start + 512])
+    let last = oldest + count - 1;
+    let start = conditions::cursor::block_start(blocks, last);
+    512 * last + layout::journal::used(&medium[start..start + 512])
 }
 
-// The log of a medium whose master, blocks and pages are in form: where its records begin, and its end.
-#[derive(Clone, Copy)]
-pub enum LogFound {
-    Good(Cursor, u64),
-    Bad,
-}
-
-// The master, the log blocks and the pages as they lie on the medium.
-fn read_log(medium: &[u8], blocks: u64, pages: u64) -> LogFound
+// Where the log's records begin, and the log's end, if the master, the log blocks and the pages are in form as they lie on
+// the medium.
+fn read_log(medium: &[u8], blocks: u64, pages: u64) -> Option<(Cursor, u64)>
     requires ready { Ready blocks (length medium.now) }
     requires pages_bound { (pages ≤ 64) × (length medium.now ≡ medium_length blocks pages) }
     ensures { ReadAs medium.now blocks pages result }
 {
     if !master_ok(medium, blocks, pages) {
-        return LogFound::Bad;
+        return None;
     }
     let oldest = layout::master::oldest(medium);
     let count = conditions::log::read_count(medium, blocks, oldest);
     if !conditions::blocks::blocks_ok(medium, blocks, pages, oldest, count) {
-        return LogFound::Bad;
+        return None;
     }
     let end = log_end(medium, blocks, oldest, count);
     if !conditions::blocks::pages_ok(medium, blocks, pages, end) {
-        return LogFound::Bad;
+        return None;
     }
-    LogFound::Good(
-        Cursor {
-            sequence: oldest,
-            at: 10,
-            left: count,
-        },
-        end,
-    )
-}
-
-// What is said of a medium that is not well formed.
-fn malformed() -> Opened
-    ensures { result.ok ≡ false }
-{
-    Opened { ok: false, last: 0 }
+    let start = Cursor {
+        sequence: oldest,
+        at: 10,
+        left: count,
+    };
+    Some((start, end))
 }
 
 // Copies the pages into the cache.
@@ -110,36 +80,21 @@ fn copy_pages(medium: &[u8], blocks: u64, pages: u64, cache: &mut [u8])
     requires cache_len { length cache.old ≡ 512 * pages }
     ensures { cache.new ≡ pages_on medium.now blocks pages }
 {
-    let a = (512 * (3 + blocks)) as usize;
-    let n = (512 * pages) as usize;
-    fields::block::copy(cache, &medium[a..a + n]);
+    let start = (512 * (3 + blocks)) as usize;
+    let length = (512 * pages) as usize;
+    cache.copy_from_slice(&medium[start..start + length]);
 }
 
 // The table and the slots of the cache.
-fn cache_ok(
-    medium: &[u8],
-    blocks: u64,
-    pages: u64,
-    used: usize,
-    commits: &[u64],
-    cache: &[u8],
-    next: u64,
-    last: u64,
-) -> bool
-    requires ready { Ready blocks (length medium.now) }
-    requires known { Known medium.now blocks used commits.now }
+fn cache_ok(pairs: &Pairs, pages: u64, cache: &[u8], next: u64, last: u64) -> bool
     requires pages_bound { (pages ≤ 64) × (length cache.now ≡ 512 * pages) }
     requires keys_below { KeysBelow cache.now pages }
-    requires next_value { (next ≡ next_number medium.now blocks) × (last ≡ last_time medium.now blocks) }
-    ensures { result ≡ table_and_slots medium.now blocks pages cache.now }
+    requires next_value { (next ≡ next_number pairs.now.medium.now pairs.now.blocks) × (last ≡ last_time pairs.now.medium.now pairs.now.blocks) }
+    ensures { result ≡ table_and_slots pairs.now.medium.now pairs.now.blocks pages cache.now }
 {
-    if !conditions::table::all_ok(medium, next, last) {
-        return false;
-    }
-    if !conditions::slots::pages_full(cache, pages) {
-        return false;
-    }
-    conditions::slots::all_ok(medium, blocks, pages, used, commits, cache, next, last)
+    conditions::table::all_ok(pairs.medium, next, last)
+        && conditions::slots::pages_full(cache, pages)
+        && conditions::slots::all_ok(pairs, pages, cache, next, last)
 }
 
 // How many slots are used.
@@ -147,54 +102,32 @@ fn used_slots(cache: &[u8], pages: u64) -> u64
     requires { (pages ≤ 64) × (length cache.now ≡ 512 * pages) }
     ensures { result ≡ used_in cache.now pages }
 {
-    let mut n: u64 = 0;
-    let mut p: u64 = 0;
-    while p < pages {
-        let a = (512 * p) as usize;
-        n = n + layout::page::used(&cache[a..a + 512]) as u64;
-        p += 1;
+    let mut used = 0;
+    for page in 0..pages {
+        let start = (512 * page) as usize;
+        used += u64::from(layout::page::used(&cache[start..start + 512]));
     }
-    n
+    used
 }
 
-// Lays the tail: the last block read, or an empty one.
-fn lay_tail(medium: &[u8], blocks: u64, log: Cursor, tail: &mut [u8; 512])
+// The tail: the last block read, or an empty one under the oldest sequence.
+fn read_tail(medium: &[u8], blocks: u64, log: Cursor) -> [u8; 512]
     requires ready { Ready blocks (length medium.now) }
     requires valid { Valid log }
-    requires sequence_value { (log.sequence ≡ oldest_on medium.now) × (log.left ≡ read_count medium.now blocks) }
-    ensures { tail.new ≡ read_tail medium.now blocks }
+    requires log_value { (log.sequence ≡ oldest_on medium.now) × (log.left ≡ read_count medium.now blocks) }
+    ensures { result ≡ read_tail medium.now blocks }
 {
-    let left = log.left;
-    if left == 0 {
-        layout::journal::begin(tail, log.sequence);
-        return;
+    let mut tail = [0; 512];
+    if log.left == 0 {
+        layout::journal::begin(&mut tail, log.sequence);
+    } else {
+        let start = conditions::cursor::block_start(blocks, log.sequence + log.left - 1);
+        tail.copy_from_slice(&medium[start..start + 512]);
     }
-    let start = conditions::cursor::block_start(blocks, log.sequence + left - 1);
-    fields::block::copy(tail, &medium[start..start + 512]);
+    tail
 }
 
-// Sets the numbers of an opened medium.
-fn put_numbers(
-    state: &mut State,
-    blocks: u64,
-    pages: u64,
-    slots: u64,
-    next: u64,
-    last: u64,
-    end: u64,
-)
-    ensures { state.new ≡ with_numbers state.old blocks pages slots next last end }
-{
-    state.blocks = blocks;
-    state.pages = pages;
-    state.slots = slots;
-    state.next.0 = next;
-    state.last.0 = last;
-    state.saved.0 = last;
-    state.end.0 = end;
-}
-
-// Judges log, table and slots once redo is done, and puts into words and tail what the state is made of.
+// Judges log, table and slots once redo is done: the state, if they are in order.
 fn judge(
     medium: &[u8],
     blocks: u64,
@@ -202,63 +135,74 @@ fn judge(
     log: Cursor,
     end: u64,
     cache: &[u8],
-    state: &mut State,
-) -> Opened
+    first: [u64; 64],
+) -> Option<State>
     requires ready { Ready blocks (length medium.now) }
     requires pages_bound { (pages ≤ 64) × (length cache.now ≡ 512 * pages) }
-    requires applied { Applied medium.now blocks pages log end cache.now state.old.first }
-    requires by_index { (t : List ℕ) → state_of words.old t ≡ with_first (state_of blank t) state.old.first }
+    requires applied { Applied medium.now blocks pages log end cache.now first }
     requires medium_len { length medium.now ≡ medium_length blocks pages }
-    ensures { OpenedAs medium.now blocks pages words.new tail.new result }
+    ensures verdict { is_some result ≡ well_formed medium.now blocks pages }
+    ensures value { IfSome result (λ state. state ≡ opened_state medium.now blocks pages) }
 {
-    let mut gathered = [0u64; 2592];
-    let used = conditions::table::extent(medium);
-    let n = conditions::log::gather(medium, blocks, log, &mut gathered);
-    let commits = &gathered[..n];
-    let tally = conditions::records::all_ok(medium, blocks, log, used, commits);
-    if !tally.ok {
-        return malformed();
-    }
+    let mut gathered = [Commit {
+        number: TxNumber(0),
+        time: CommitTime(0),
+        end: EndPlace(0),
+    }; 864];
+    let count = conditions::log::gather(medium, blocks, log, &mut gathered);
+    let pairs = Pairs {
+        medium,
+        blocks,
+        used: conditions::table::extent(medium),
+        commits: &gathered[..count],
+    };
+    let tally = conditions::records::all_ok(&pairs, log)?;
     let given = fields::field::get8(medium, 24);
     let stored = fields::field::get8(medium, 35);
-    let next = live::times::larger(given, tally.above);
-    let last = live::times::larger(stored, tally.latest);
-    if !cache_ok(medium, blocks, pages, used, commits, cache, next, last) {
-        return malformed();
+    let next = given.max(tally.above);
+    let last = stored.max(tally.latest);
+    if !cache_ok(&pairs, pages, cache, next, last) {
+        return None;
     }
-    if !crate::places::lay(medium, blocks, pages, used, commits, cache, words) {
-        return malformed();
-    }
-    lay_tail(medium, blocks, log, tail);
-    let slots = used_slots(cache, pages);
-    put_numbers(words, blocks, pages, slots, next, last, end);
-    Opened {
-        ok: true,
-        last: last,
-    }
+    let places = crate::places::lay(&pairs, pages, cache)?;
+    Some(State {
+        blocks,
+        pages,
+        slots: used_slots(cache, pages),
+        next: TxNumber(next),
+        last: CommitTime(last),
+        saved: CommitTime(last),
+        end: EndPlace(end),
+        tail: read_tail(medium, blocks, log),
+        places,
+        ring: 0,
+        first,
+        phase: Phase::Idle,
+    })
 }
 
-// Opens a medium, if it is well formed: the cache then holds the pages as redo leaves them, words and tail the state.
+// Opens a medium, if it is well formed: the cache then holds the pages as redo leaves them, the state what the medium gives,
+// and the answer is the last time. Else the state is left as it was.
 pub fn open_state(
     medium: &[u8],
     blocks: u64,
     pages: u64,
     cache: &mut [u8],
     state: &mut State,
-) -> Opened
+) -> Option<CommitTime>
     requires ready { Ready blocks (length medium.now) }
     requires pages_bound { (pages ≤ 64) × (length medium.now ≡ medium_length blocks pages) }
     requires cache_len { length cache.old ≡ 512 * pages }
-    requires words_value { words.old ≡ blank }
-    ensures { (result.ok ≡ well_formed medium.now blocks pages) × (result.ok ≡ true → (cache.new ≡ (redone medium.now blocks pages).cache) × (state.new ≡ opened_state medium.now blocks pages) × (result.last ≡ last_time medium.now blocks)) }
+    ensures found { is_some result ≡ well_formed medium.now blocks pages }
+    ensures opened { IfSome result (λ time. (cache.new ≡ (redone medium.now blocks pages).cache) × (state.new ≡ opened_state medium.now blocks pages) × (time.0 ≡ last_time medium.now blocks)) }
+    ensures refused { IfNone result (state.new ≡ state.old) }
 {
-    let found = read_log(medium, blocks, pages);
-    let LogFound::Good(log, end) = found else {
-        return malformed();
-    };
+    let (log, end) = read_log(medium, blocks, pages)?;
     copy_pages(medium, blocks, pages, cache);
-    if !crate::redo::run(medium, blocks, pages, log, cache, words) {
-        return malformed();
+    let mut first = [0; 64];
+    if !crate::redo::run(medium, blocks, pages, log, cache, &mut first) {
+        return None;
     }
-    judge(medium, blocks, pages, log, end, cache, state)
+    *state = judge(medium, blocks, pages, log, end, cache, first)?;
+    Some(state.last)
 }

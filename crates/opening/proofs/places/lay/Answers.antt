@@ -1,79 +1,25 @@
--- The table's places, and then those of the numbers that wait, taken in turn: from the i-th number on they give the places of
--- all live transactions. Assumes nothing.
-use mathlib.Core.Path.{sym, ◌∙◌}
+-- The table's places, and then those of the numbers that wait, taken in turn: from the next number on they give the places of
+-- all live transactions.
+use mathlib.Core.Path.{◌∙◌}
 use native.Mathlib.Omega.{arith}
 use borrow.Author.Rules.{rules}
-use borrow.Author.Tests.{le-leb, lt-leb}
-use Rattle.fields.proofs.Choose.{no}
-use Rattle.conditions.proofs.TableLaws.{ready_table}
-use Rattle.opening.proofs.WaitLaws.{gathered_few, collected_count, collected_full}
-use Rattle.opening.proofs.PlacesLaws.{laid_none, laid_all, laid_over, all_places, taken_start, taken_turn, taken_end}
+use Rattle.opening.proofs.WaitLaws.{few_numbers}
+use Rattle.opening.proofs.PlacesLaws.{taken_start, taken_turn, taken_end}
 use Rattle.opening.proofs.places.lay.Goals as goal
 
-pub overflow_mul-slots : goal.overflow_mul-slots
-overflow_mul-slots c = omega (arith, c.requires.pages_bound.0)
+pub loop-waiting-init : goal.loop-waiting-init
+loop-waiting-init c =
+    rw c.deref-waiting-items.ensures.0
+    (taken_start _ _ _ _ c.from_fn-places.result c.in_ok-list.list.items c.in_ok-list.ensures c.from_fn-places.ensures.items (λ i y q k. search rules))
 
-pub collect-found-requires : goal.collect-found-requires
-collect-found-requires c =
-    record {
-      ready = c.requires.ready;
-      known = c.requires.known;
-      room = record { pages = c.args.pages; few = c.requires.pages_bound.0; size = c.requires.pages_bound.1; below = omega arith };
-      list_len = search rules;
-    }
+pub loop-waiting-preserved : goal.loop-waiting-preserved
+loop-waiting-preserved c =
+    taken_turn _ _ c.loop-waiting.places _ c.deref-waiting-items.result.now c.loop-waiting.waiting-index _ c.loop-waiting-test.true c.take_log.ensures
+    ∙ c.loop-waiting.invariant
 
-pub returns-in_default : goal.returns-in_default
-returns-in_default c =
-    (sym (lt-leb _ 64 (collected_full _ _ _ _ _ c.in_default.is c.collect-found.ensures)), no)
+pub returns-clause-verdict : goal.returns-clause-verdict
+returns-clause-verdict c =
+    few_numbers _ _ _ c.deref-waiting-items.result.now (c.deref-waiting-items.ensures.0 ∙ c.in_ok-list.ensures) c.deref-waiting-items.ensures.1
 
-pub table_places-requires : goal.table_places-requires
-table_places-requires c =
-    record {
-      ready = c.requires.ready;
-      known = c.requires.known;
-      total_bound = (collected_count _ _ _ _ _ _ c.in-Count.is c.collect-found.ensures).few;
-      words_value = c.requires.words_value;
-    }
-
-pub loop-i-init : goal.loop-i-init
-loop-i-init c =
-    let g = collected_count _ _ _ _ _ _ c.in-Count.is c.collect-found.ensures in
-    (omega arith, g, laid_none _, taken_start _ _ _ _ _ _ _ g (all_places _ _ _ c.table_places.ensures))
-
-pub offset_bounds-list-k : goal.offset_bounds-list-k
-offset_bounds-list-k c = omega (arith, c.loop-i.invariant.1.few)
-
-pub bounds-list-k : goal.bounds-list-k
-bounds-list-k c = omega (arith, c.loop-i.invariant.1.few)
-
-pub overflow_add-k : goal.overflow_add-k
-overflow_add-k c = omega (arith, c.loop-i.invariant.1.few)
-
-pub offset_bounds-list-k-in-loop-i : goal.offset_bounds-list-k-in-loop-i
-offset_bounds-list-k-in-loop-i c = omega (arith, c.loop-i.invariant.1.few)
-
-pub bounds-list-k-in-loop-i : goal.bounds-list-k-in-loop-i
-bounds-list-k-in-loop-i c = omega (arith, c.loop-i.invariant.1.few)
-
-pub take_log-requires : goal.take_log-requires
-take_log-requires c =
-    record {
-      in_bounds = ready_table _ _ c.requires.ready;
-      extent = c.requires.known.table;
-    }
-
-pub loop-i-preserved : goal.loop-i-preserved
-loop-i-preserved c =
-    let v = c.loop-i.invariant in (
-      omega arith,
-      v.1,
-      laid_all _ _ _ c.take_log.ensures _ v.2,
-      taken_turn _ _ _ _ _ _ _ _ c.loop-i.i _ c.loop-i-test.true v.1 c.requires.known.log (all_places _ _ _ c.take_log.ensures) ∙ v.3,
-    )
-
-pub returns : goal.returns
-returns c =
-    let v = c.loop-i.invariant in (
-      sym (le-leb _ 64 (gathered_few _ _ _ _ _ v.1)),
-      λ _. laid_over _ _ _ c.table_places.ensures _ _ v.2 (taken_end _ _ _ _ _ _ c.loop-i.i _ v.0 c.loop-i-test.false ∙ v.3),
-    )
+pub returns-clause-value : goal.returns-clause-value
+returns-clause-value c = taken_end _ _ _ _ c.loop-waiting.waiting-index (omega arith) ∙ c.loop-waiting.invariant

@@ -7,10 +7,10 @@ use Rattle.store.specs.OpenRedo.{pages_on}
 use Rattle.fields.proofs.PartLaws.{lent_part}
 use Rattle.opening.proofs.survey.copy_pages.Goals as goal
 
-pub slice_bounds-copy-end : goal.slice_bounds-copy-end
+pub slice_bounds-copy_from_slice-end : goal.slice_bounds-copy_from_slice-end
 unfolding medium_length
-slice_bounds-copy-end c = omega arith
+slice_bounds-copy_from_slice-end c = omega arith
 
 pub returns : goal.returns
 unfolding pages_on
-returns c = c.copy.ensures ∙ lent_part _ (512 * (3 + c.args.blocks)) (512 * c.args.pages)
+returns c = c.copy_from_slice.ensures.after ∙ lent_part _ (512 * (3 + c.args.blocks)) (512 * c.args.pages)
