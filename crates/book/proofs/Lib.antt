@@ -1,3 +1,2 @@
-pub mod ShowLaws
 pub mod LineLaws
 pub mod PlayLaws

@@ -16,13 +16,12 @@ use Rattle.script.specs.Form.{limited, form_of}
 use Rattle.script.specs.Reader.{no_line, is_number, grown_by, done_of, last_word}
 use Rattle.fields.proofs.Choose.{bool_case, no}
 use Rattle.script.proofs.Meaning.{after_case, line_form}
-use Rattle.script.proofs.ReaderLaws.{done_4, done_5, seen_bad, seen_none, seen_bare, seen_words}
-use Rattle.book.specs.declared.call.Call.TheVariants.{Other}
+use Rattle.script.proofs.ReaderLaws.{seen_bad, seen_none}
 use Rattle.book.specs.Line.{call_of, call_if, by_words, line_of, closed, form_call, meaning_of}
 
 -- the five letters
 module _ (k : ℕ) {P : Type 0} (b : k ≡ 66 → P) (w : k ≡ 87 → P) (c : k ≡ 67 → P) (q : k ≡ 81 → P) (x : k ≡ 88 → P)
-    (r : ((ns : List ℕ) → call_of k ns ≡ Other) → P) where
+    (r : ((ns : List ℕ) → call_of k ns ≡ None) → P) where
   letter_case : P
   unfolding call_of
   letter_case =
@@ -32,39 +31,17 @@ module _ (k : ℕ) {P : Type 0} (b : k ≡ 66 → P) (w : k ≡ 87 → P) (c : k
       bool_case (eqb k 81) (λ e. q (eqb-true k 81 e)) (λ e4.
       bool_case (eqb k 88) (λ e. x (eqb-true k 88 e)) (λ e5. r (λ ns. simp (e1, e2, e3, e4, e5)))))))
 
-four : (k a b c d : ℕ) (ns : List ℕ) → call_of k (a ∷ (b ∷ (c ∷ (d ∷ ns)))) ≡ Other
+four : (k a b c d : ℕ) (ns : List ℕ) → call_of k (a ∷ (b ∷ (c ∷ (d ∷ ns)))) ≡ None
 unfolding call_of
 four k a b c d ns =
     letter_case k (λ e. simp e) (λ e. simp e) (λ e. simp e) (λ e. simp e) (λ e. simp e)
     (λ f. f (a ∷ (b ∷ (c ∷ (d ∷ ns)))))
 
-not_letter : (k : ℕ) (ns : List ℕ) → is_letter k ≡ false → call_of k ns ≡ Other
+not_letter : (k : ℕ) (ns : List ℕ) → is_letter k ≡ false → call_of k ns ≡ None
 unfolding is_letter is_in
 not_letter k ns t =
     letter_case k (λ e. no (sym (simp e at t))) (λ e. no (sym (simp e at t))) (λ e. no (sym (simp e at t)))
     (λ e. no (sym (simp e at t))) (λ e. no (sym (simp e at t))) (λ f. f ns)
-
--- how many numbers a letter takes
-pub none_not : (k : ℕ) → (k ≡ 88 → ⊥) → call_of k [] ≡ Other
-unfolding call_of
-none_not k h = letter_case k (λ e. simp e) (λ e. simp e) (λ e. simp e) (λ e. simp e) (λ e. absurd (h e)) (λ f. f [])
-
-pub one_not : (k n : ℕ) → (k ≡ 66 → ⊥) → call_of k (n ∷ []) ≡ Other
-unfolding call_of
-one_not k n h =
-    letter_case k (λ e. absurd (h e)) (λ e. simp e) (λ e. simp e) (λ e. simp e) (λ e. simp e) (λ f. f (n ∷ []))
-
-pub two_not : (k a n : ℕ) → (k ≡ 67 → ⊥) → (k ≡ 81 → ⊥) → call_of k (a ∷ (n ∷ [])) ≡ Other
-unfolding call_of
-two_not k a n g h =
-    letter_case k (λ e. simp e) (λ e. simp e) (λ e. absurd (g e)) (λ e. absurd (h e)) (λ e. simp e)
-    (λ f. f (a ∷ (n ∷ [])))
-
-pub three_not : (k a b n : ℕ) → (k ≡ 87 → ⊥) → call_of k (a ∷ (b ∷ (n ∷ []))) ≡ Other
-unfolding call_of
-three_not k a b n h =
-    letter_case k (λ e. simp e) (λ e. absurd (h e)) (λ e. simp e) (λ e. simp e) (λ e. simp e)
-    (λ f. f (a ∷ (b ∷ (n ∷ []))))
 
 -- the numbers of a form
 abbrev numbers_in : Form → Option (List ℕ)
@@ -101,7 +78,7 @@ form_call_law k [] = refl
 form_call_law k (v ∷ vs) = after_case (λ f. form_call f ≡ call_if k (numbers_in f)) k v vs refl (λ ns x. refl)
 
 -- no letter takes more than three numbers
-many_closed : (k a b c d : ℕ) (ns : List ℕ) (o : Option ℕ) → call_if k (closed (a ∷ (b ∷ (c ∷ (d ∷ ns)))) o) ≡ Other
+many_closed : (k a b c d : ℕ) (ns : List ℕ) (o : Option ℕ) → call_if k (closed (a ∷ (b ∷ (c ∷ (d ∷ ns)))) o) ≡ None
 many_closed k a b c d ns None = refl
 many_closed k a b c d ns (Some n) = four k a b c d (ns ++ (n ∷ []))
 
@@ -118,7 +95,7 @@ limited_call (ending k (a ∷ (b ∷ (c ∷ (d ∷ (e ∷ ns))))) w) =
     let h : 4 < suc (suc (suc (suc (suc (length ns))))) = omega arith in
     simp (lt-ltb _ _ h) (sym (many_closed k a b c d (e ∷ ns) w.number))
 
-not_call : (k : ℕ) (o : Option (List ℕ)) → is_letter k ≡ false → call_if k o ≡ Other
+not_call : (k : ℕ) (o : Option (List ℕ)) → is_letter k ≡ false → call_if k o ≡ None
 not_call k None t = refl
 not_call k (Some ns) t = not_letter k ns t
 
@@ -138,36 +115,6 @@ unfolding meaning_of line_of form_of
 line_call bs = ap form_call (line_form bs) ∙ limited_call (form_by (words_of bs)) ∙ words_call (words_of bs)
 
 module _ (l : Line) where
-  pub no_letter : l.letter ≡ 0 → meaning_of l ≡ Other
+  pub no_letter : l.letter ≡ 0 → meaning_of l ≡ None
   unfolding meaning_of form_call
   no_letter h = bool_case l.bad (λ b. simp (seen_bad l b)) (λ b. simp (seen_none l b h))
-
-  pub bad_call : l.bad ≡ true → meaning_of l ≡ Other
-  unfolding meaning_of form_call
-  bad_call b = simp (seen_bad l b)
-
-  pub bare_call : l.bad ≡ false → (l.letter ≡ 0 → ⊥) → l.count ≡ 0 → meaning_of l ≡ call_of l.letter []
-  unfolding meaning_of form_call
-  bare_call b h e = simp (seen_bare l b h e)
-
-  -- past the first questions
-  module _ (b : l.bad ≡ false) (h : l.letter ≡ 0 → ⊥) (e : l.count ≡ 0 → ⊥) (r : Bool) (g : r ≡ is_number l) where
-    pub word_call : r ≡ false → meaning_of l ≡ Other
-    unfolding meaning_of form_call last_word
-    word_call t = simp (seen_words l b h e, ← g, t)
-
-    pub number_call : r ≡ true → (ns : List ℕ) → done_of l [] ≡ ns
-        → meaning_of l ≡ call_of l.letter (ns ++ (l.last ∷ []))
-    unfolding meaning_of form_call last_word
-    number_call t ns d = simp (seen_words l b h e, ← g, t, d)
-
-    pub many_call : r ≡ true → 4 ≤ l.count → meaning_of l ≡ Other
-    many_call t k =
-        bool_case (eqb l.count 4)
-        (λ n.
-        number_call t (l.fourth ∷ (l.third ∷ (l.second ∷ []))) (done_4 l (eqb-true l.count 4 n))
-        ∙ four l.letter l.fourth l.third l.second l.last [])
-        (λ n.
-        let m = eqb-false l.count 4 n in
-        number_call t (l.fifth ∷ (l.fourth ∷ (l.third ∷ (l.second ∷ [])))) (done_5 l (omega arith))
-        ∙ four l.letter l.fifth l.fourth l.third l.second (l.last ∷ []))

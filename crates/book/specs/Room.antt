@@ -5,7 +5,7 @@ use Rattle.fields.specs.Block.{zeros}
 use Rattle.store.specs.declared.Answer.{Answer}
 use Rattle.store.specs.declared.Answer.TheVariants.{Done, Begun, Written, Committed, Opened, Missing, Erased, Present, Listed}
 use Rattle.store.specs.declared.State.{State}
-use Rattle.store.specs.Answer.{Outcome, answer_number, leaves}
+use Rattle.store.specs.Answer.{Outcome, refusal_number, answer_number}
 use Rattle.store.specs.Begin.{begin_of}
 use Rattle.store.specs.Write.{write_of}
 use Rattle.store.specs.Commit.{commit_of}
@@ -13,7 +13,7 @@ use Rattle.store.specs.AsOf.{as_of_of}
 use Rattle.store.specs.Open.{open_of}
 use Rattle.script.specs.Print.{decimal}
 use Rattle.book.specs.declared.call.Call.{Call}
-use Rattle.book.specs.declared.call.Call.TheVariants.{Begin, Write, Commit, Query, Cut, Other}
+use Rattle.book.specs.declared.call.Call.TheVariants.{Begin, Write, Commit, Query, Cut}
 
 -- 01: "B clock; W number record byte (sixteen equal bytes); C number clock; Q record time; X (cut, open)": the call
 -- that a line makes; L = 4 and D = 2, and a cut leaves the medium only
@@ -23,7 +23,6 @@ outcome_of (Write number key byte) s m c = write_of s m c number key (replicate 
 outcome_of (Commit number clock) s m c = commit_of s m c number clock
 outcome_of (Query key time) s m c = as_of_of s m c key time
 outcome_of Cut s m c = open_of m (zeros (length c)) 4 2
-outcome_of Other s m c = leaves (Ok Done) s m c
 
 -- 01: "a result (number, slot, time, byte, last time; `-` for none, no time, erased or refused)"
 unfoldable pub result_of : Result Answer Refusal → ℕ → Option ℕ
@@ -47,14 +46,32 @@ result_text (Some n) = decimal n
 unfoldable pub line_text : ℕ → ℕ → Option ℕ → List ℕ
 line_text letter refusal result = letter ∷ (32 ∷ (decimal refusal ++ (32 ∷ (result_text result ++ (10 ∷ [])))))
 
--- 01: "per line the letter"; 0 for a line of another form, which prints nothing
+-- 01: "per line the letter"
 unfoldable pub letter_of : Call → ℕ
 letter_of (Begin clock) = 66
 letter_of (Write number key byte) = 87
 letter_of (Commit number clock) = 67
 letter_of (Query key time) = 81
 letter_of Cut = 88
-letter_of Other = 0
+
+-- 01: "0 or the refusal, and a result": what is said of an answer, beside a value whose first byte is this
+abbrev pub said_by : Result Answer Refusal → ℕ → Result (Option ℕ) Refusal
+said_by (Err r) byte = Err r
+said_by (Ok a) byte = Ok (result_of (Ok a) byte)
+
+-- 01: "0 or the refusal, and a result": what is said of a call with this outcome
+unfoldable pub said_of : Outcome → Result (Option ℕ) Refusal
+said_of o = said_by o.answer (get_or o.value 0 0)
+
+-- 01: "0 or the refusal": of a call of which this is said
+abbrev pub said_number : Result (Option ℕ) Refusal → ℕ
+said_number (Err r) = refusal_number r
+said_number (Ok result) = 0
+
+-- 01: "a result, .. `-` for none, .. or refused": the same
+abbrev pub said_result : Result (Option ℕ) Refusal → Option ℕ
+said_result (Err r) = None
+said_result (Ok result) = result
 
 -- 01: "per line": what a line prints whose call has this outcome
 unfoldable pub printed : Call → Outcome → List ℕ

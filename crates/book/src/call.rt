@@ -1,11 +1,10 @@
 // What a line of the script asks for.
-ghost use Rattle.std.specs.Prelude.{◌≡◌, [], ◌∷◌};
-ghost use Rattle.book.specs.Line.{call_of, meaning_of};
+ghost use Rattle.std.specs.Prelude.{◌≡◌};
+ghost use Rattle.book.specs.Line.{meaning_of};
 
-use script::line;
 use script::line::Line;
 
-// A call, a cut, or a line of another form.
+// A call, or a cut.
 #[derive(Clone, Copy)]
 pub enum Call {
     Begin(u64),
@@ -13,85 +12,49 @@ pub enum Call {
     Commit(u64, u64),
     Query(u16, u64),
     Cut,
-    Other,
 }
 
-// What a letter alone asks for.
-fn bare(letter: u8) -> Call
-    ensures { result ≡ call_of letter [] }
-{
-    if letter != b'X' {
-        return Call::Other;
+impl Call {
+    ghost use Rattle.book.specs.Room.{letter_of};
+
+    #[tactic(auto, unfolding(crate::specs::Room::letter_of))]
+    pub fn letter(self) -> u8
+        ensures { result ≡ letter_of self }
+    {
+        match self {
+            Call::Begin(_) => b'B',
+            Call::Write(_, _, _) => b'W',
+            Call::Commit(_, _) => b'C',
+            Call::Query(_, _) => b'Q',
+            Call::Cut => b'X',
+        }
     }
-    Call::Cut
 }
 
-// What a letter and a number ask for.
-fn one_number(letter: u8, n: u64) -> Call
-    ensures { result ≡ call_of letter (n ∷ []) }
-{
-    if letter != b'B' {
-        return Call::Other;
-    }
-    Call::Begin(n)
-}
-
-// What a letter and two numbers ask for; a record is at most 255.
-fn two_numbers(letter: u8, a: u64, n: u64) -> Call
-    ensures { result ≡ call_of letter (a ∷ (n ∷ [])) }
-{
-    if letter == b'C' {
-        return Call::Commit(a, n);
-    }
-    if letter != b'Q' {
-        return Call::Other;
-    }
-    if 255 < a {
-        return Call::Other;
-    }
-    Call::Query(a as u16, n)
-}
-
-// What a letter and three numbers ask for; a record or byte is at most 255.
-fn three_numbers(letter: u8, a: u64, b: u64, n: u64) -> Call
-    ensures { result ≡ call_of letter (a ∷ (b ∷ (n ∷ []))) }
-{
-    if letter != b'W' {
-        return Call::Other;
-    }
-    if 255 < b {
-        return Call::Other;
-    }
-    if 255 < n {
-        return Call::Other;
-    }
-    Call::Write(a, b as u16, n as u8)
-}
-
-// What a line asks for that ends here.
-pub fn meaning(line: Line) -> Call
+// What a line asks for that ends here, if it is of no other form; a record is at most 255.
+#[tactic(auto, using(script::proofs::ReaderLaws::seen), unfolding(crate::specs::Line::meaning_of, crate::specs::Line::form_call, crate::specs::Line::call_of, crate::specs::Line::write_if, crate::specs::Line::query_if))]
+pub fn meaning(line: Line) -> Option<Call>
     ensures { result ≡ meaning_of line }
 {
-    if line.bad {
-        return Call::Other;
-    }
-    if line.letter == 0 {
-        return Call::Other;
+    if line.bad || line.letter == 0 {
+        return None;
     }
     if line.count == 0 {
-        return bare(line.letter);
+        return (line.letter == b'X').then_some(Call::Cut);
     }
-    if !line::is_number(line) {
-        return Call::Other;
+    let last = line.last_number()?;
+    match (line.letter, line.count) {
+        (b'B', 1) => Some(Call::Begin(last)),
+        (b'C', 2) => Some(Call::Commit(line.second, last)),
+        (b'Q', 2) => {
+            let key = u8::try_from(line.second).ok()?;
+            Some(Call::Query(u16::from(key), last))
+        }
+        (b'W', 3) => {
+            let key = u8::try_from(line.second).ok()?;
+            let byte = u8::try_from(last).ok()?;
+            Some(Call::Write(line.third, u16::from(key), byte))
+        }
+        _ => None,
     }
-    if line.count == 1 {
-        return one_number(line.letter, line.last);
-    }
-    if line.count == 2 {
-        return two_numbers(line.letter, line.second, line.last);
-    }
-    if line.count == 3 {
-        return three_numbers(line.letter, line.third, line.second, line.last);
-    }
-    Call::Other
 }

@@ -15,7 +15,7 @@ use store::State;
 pub struct Run {
     pub line: Line,
     pub on: bool,
-    pub n: usize,
+    pub printed: usize,
 }
 
 // Takes the bytes of a read: at the end of each line its call is made.
@@ -28,47 +28,38 @@ pub fn play(
     out: &mut [u8],
 ) -> Run
     requires { 44 * length bytes.now ≤ length out.old }
-    ensures n_in_bounds { result.n ≤ length out.new }
+    ensures printed_bound { result.printed ≤ length out.new }
     ensures out_after { stand result.line (world state.new medium.new cache.new)
-        result.on (take result.n out.new)
+        result.on (take result.printed out.new)
         ≡ play_of does (stand begun (world state.old medium.old cache.old) true []) bytes.now }
 {
     let mut line = begun;
-    let mut n: usize = 0;
-    let mut i: usize = 0;
-    while i < bytes.len() {
-        let taken = line::take(line, bytes, i);
-        let longer = taken.line;
+    let mut printed = 0;
+    let mut at = 0;
+    while at < bytes.len() {
+        let taken = line::take(line, bytes, at);
         if !taken.ended {
             return Run {
-                line: longer,
+                line: taken.line,
                 on: true,
-                n: n,
+                printed,
             };
         }
-        i = taken.next;
-        let asked = call::meaning(longer);
-        let letter = room::letter(asked);
+        at = taken.next;
         line = line::empty();
-        if letter == 0 {
+        let Some(call) = call::meaning(taken.line) else {
             return Run {
-                line: line,
+                line,
                 on: false,
-                n: n,
+                printed,
             };
-        }
-        if letter == b'Q' {
-            let reading = room::query(asked, state, medium, cache);
-            let answer = reading.answer;
-            n = room::put(out, n, letter, answer, reading.value[0]);
-        } else {
-            let answer = room::change(asked, state, medium, cache);
-            n = room::put(out, n, letter, answer, 0);
-        }
+        };
+        let said = room::make(call, state, medium, cache);
+        printed = room::put(out, printed, call.letter(), said);
     }
     Run {
-        line: line,
+        line,
         on: true,
-        n: n,
+        printed,
     }
 }

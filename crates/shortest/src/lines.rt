@@ -1,5 +1,5 @@
 // The chosen lines of an input, as they stand there.
-ghost use Rattle.std.specs.Prelude.{◌≡◌, cond, [], ◌∷◌, ◌++◌, ◌+◌, ◌<◌, ◌≤◌, length, take, drop};
+ghost use Rattle.std.specs.Prelude.{◌≡◌, [], ◌∷◌, ◌++◌, ◌+◌, ◌<◌, ◌≤◌, length, take, drop};
 ghost use Rattle.script.specs.Words.{lines_of};
 ghost use Rattle.shortest.specs.Script.{text_of};
 ghost use Rattle.shortest.specs.Choice.{picked};
@@ -13,25 +13,16 @@ fn line_end(bytes: &[u8], from: usize) -> usize
     ensures upper_bound { result ≤ length bytes.now }
     ensures value { result ≡ from + length (line_in (drop from bytes.now)) }
 {
-    let mut i = from;
-    while i < bytes.len() {
-        if bytes[i] == b'\n' {
-            return i;
-        }
-        i += 1;
-    }
-    i
+    let rest = &bytes[from..];
+    from + rest.iter().position(|&b| b == b'\n').unwrap_or(rest.len())
 }
 
-// Puts a line that is chosen behind the first n bytes of the output, with a newline.
-fn put_line(out: &mut [u8], n: usize, chosen: bool, text: &[u8]) -> usize
+// Puts a line behind the first n bytes of the output, with a newline.
+fn put_line(out: &mut [u8], n: usize, text: &[u8]) -> usize
     requires { n + length text.now < length out.old }
-    ensures upper_bound { result ≤ n + length text.now + 1 }
-    ensures out_after { take result out.new ≡ take n out.old ++ cond chosen (text_of (text.now ∷ [])) [] }
+    ensures value { result ≡ n + length text.now + 1 }
+    ensures out_after { take result out.new ≡ take n out.old ++ text_of (text.now ∷ []) }
 {
-    if !chosen {
-        return n;
-    }
     let end = print::bytes(out, n, text);
     print::byte(out, end, b'\n')
 }
@@ -42,18 +33,17 @@ pub fn put(out: &mut [u8], bytes: &[u8], flags: [bool; 12]) -> usize
     ensures upper_bound { result ≤ length out.new }
     ensures out_after { take result out.new ≡ text_of (picked flags (lines_of bytes.now)) }
 {
-    let mut n: usize = 0;
-    let mut at: usize = 0;
-    let mut i: usize = 0;
-    while i < 12 {
+    let mut n = 0;
+    let mut at = 0;
+    for chosen in flags {
         if bytes.len() <= at {
-            return n;
+            break;
         }
         let end = line_end(bytes, at);
-        let next = put_line(out, n, flags[i], &bytes[at..end]);
-        n = next;
+        if chosen {
+            n = put_line(out, n, &bytes[at..end]);
+        }
         at = end + 1;
-        i += 1;
     }
     n
 }

@@ -1,82 +1,44 @@
 // Playing chosen lines on a store of their own.
-ghost use Rattle.std.specs.Prelude.{◌≡◌, cond};
+ghost use Rattle.std.specs.Prelude.{◌≡◌};
 ghost use Rattle.book.specs.Steps.{world};
 ghost use Rattle.shortest.specs.Script.{end_of};
 ghost use Rattle.shortest.specs.Choice.{picked};
 ghost use Rattle.shortest.specs.Made.{made, made_of};
-ghost use Rattle.shortest.specs.Kept.{calls_in};
 
-use crate::keep::Kept;
 use book::call::Call;
 use book::room;
 use store::State;
 
-// Makes a call; answers 0 or its refusal.
+// Makes the call of a line; answers 0 or its refusal. A place without a line makes none.
 fn make(
-    call: Call,
+    line: Option<Call>,
     state: &mut State,
     medium: &mut [u8],
     cache: &mut [u8],
 ) -> u64
-    ensures { made (world state.new medium.new cache.new) result
-        ≡ made_of (world state.old medium.old cache.old) call }
+    ensures { made (world state.new medium.new cache.new) result ≡ made_of (world state.old medium.old cache.old) line }
 {
-    if room::letter(call) == b'Q' {
-        let reading = room::query(call, state, medium, cache);
-        let read = reading.answer;
-        let shown = room::show(read, 0);
-        return shown.refusal;
+    match line {
+        Some(call) => room::number(room::make(call, state, medium, cache)),
+        None => 0,
     }
-    let answer = room::change(call, state, medium, cache);
-    let shown = room::show(answer, 0);
-    shown.refusal
-}
-
-// Makes the call of a line that is chosen; last is the number of the call before it.
-fn make_if(
-    chosen: bool,
-    call: Call,
-    last: u64,
-    state: &mut State,
-    medium: &mut [u8],
-    cache: &mut [u8],
-) -> u64
-    ensures { made (world state.new medium.new cache.new) result
-        ≡ cond chosen (made_of (world state.old medium.old cache.old) call)
-        (made (world state.old medium.old cache.old) last) }
-{
-    if !chosen {
-        return last;
-    }
-    make(call, state, medium, cache)
 }
 
 // Plays the chosen lines on a store with 4 log blocks and 2 pages that is formatted and opened for them; answers 0 or
 // the refusal that they end in.
-pub fn play(flags: [bool; 12], lines: [Kept; 12]) -> u64
-    ensures { result ≡ end_of (picked flags (calls_in lines)) }
+pub fn play(flags: [bool; 12], calls: &[Option<Call>; 12]) -> u64
+    ensures { result ≡ end_of (picked flags calls.now) }
 {
-    let mut words = [0u64; 448];
-    let mut tail = [0u8; 512];
-    let mut medium = [0u8; 4608];
-    let mut cache = [0u8; 1024];
-    media::format::format(&mut medium, 4, 2);
-    media::open::open(&medium, &mut cache, &mut state, 4, 2);
-    let mut last: u64 = 0;
-    let mut i: usize = 0;
-    while i < 12 {
-        let kept = lines[i];
-        let call = kept.call;
-        let next = make_if(
-            flags[i],
-            call,
-            last,
-            &mut state,
-            &mut medium,
-            &mut cache,
-        );
-        last = next;
-        i += 1;
+    let mut state = State::none();
+    let mut medium = [0; 4608];
+    let mut cache = [0; 1024];
+    let _ = media::format::format(&mut medium, 4, 2);
+    let _ = media::open::open(&medium, &mut cache, &mut state, 4, 2);
+    let mut number = 0;
+    for i in 0..12 {
+        if flags[i] {
+            number = make(calls[i], &mut state, &mut medium, &mut cache);
+        }
     }
-    last
+    number
 }

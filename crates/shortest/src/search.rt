@@ -1,57 +1,45 @@
 // The search for the shortest choice.
-ghost use Rattle.std.specs.Prelude.{◌≡◌, ◌≤◌, ◌<◌, ◌^◌};
-ghost use Rattle.shortest.specs.Search.{better_of};
-ghost use Rattle.shortest.specs.Kept.{calls_in, size_in, ends_in, best_in, kept_flags};
+ghost use Rattle.std.specs.Prelude.{◌≡◌, ◌≤◌, ◌<◌, ◌^◌, ◌&&◌, ltb};
+ghost use Rattle.shortest.specs.Kept.{size_in, ends_in, best_in, kept_flags};
 
-use crate::keep::Kept;
-use crate::{choice, play};
+use crate::choice::{choices, chosen, size};
+use crate::play::play;
+use book::call::Call;
 
-// Choice j of m + 1 lines, if it has fewer lines than the best so far and ends in r; else the best so far.
-fn better(best: usize, j: usize, m: usize, r: u64, lines: [Kept; 12]) -> usize
+// Has choice j of m + 1 lines fewer than the best so far, and does it end in the number?
+fn is_better(j: usize, best: usize, m: usize, number: u64, calls: &[Option<Call>; 12]) -> bool
     requires m_bound { m ≤ 11 }
     requires j_bound { j < 2 ^ m }
     requires best_bound { best < 2 ^ m }
-    ensures upper_bound { result < 2 ^ m }
-    ensures value { result ≡ better_of (size_in m) (ends_in (calls_in lines) m r) best j }
+    ensures { result ≡ (ltb (size_in m j) (size_in m best) && ends_in calls.now m number j) }
 {
-    let flags = choice::chosen(m, j);
-    let least = choice::chosen(m, best);
-    let count = choice::size(flags);
-    if choice::size(least) <= count {
-        return best;
-    }
-    if play::play(flags, lines) != r {
-        return best;
-    }
-    j
+    let flags = chosen(m, j);
+    size(flags) < size(chosen(m, best)) && play(flags, calls) == number
 }
 
-// The best of all choices of m + 1 lines that end in r.
-fn search(m: usize, r: u64, lines: [Kept; 12]) -> usize
+// The best of all choices of m + 1 lines that end in the number.
+fn search(m: usize, number: u64, calls: &[Option<Call>; 12]) -> usize
     requires { m ≤ 11 }
     ensures upper_bound { result < 2 ^ m }
-    ensures value { result ≡ best_in (calls_in lines) m r }
+    ensures value { result ≡ best_in calls.now m number }
 {
-    let span = choice::choices(m);
-    let mut best: usize = 0;
-    let mut j: usize = 0;
-    while j < span {
-        let next = better(best, j, m, r, lines);
-        best = next;
-        j += 1;
+    let mut best = 0;
+    for j in 0..choices(m) {
+        if is_better(j, best, m, number, calls) {
+            best = j;
+        }
     }
     best
 }
 
 // The lines to be printed of m + 1: those of the shortest choice, and none where the last is not refused.
-pub fn shortest(m: usize, lines: [Kept; 12]) -> [bool; 12]
+pub fn shortest(m: usize, calls: &[Option<Call>; 12]) -> [bool; 12]
     requires { m ≤ 11 }
-    ensures { result ≡ kept_flags (calls_in lines) m }
+    ensures { result ≡ kept_flags calls.now m }
 {
-    let r = play::play(choice::chosen(m, 0), lines);
-    if r == 0 {
+    let number = play(chosen(m, 0), calls);
+    if number == 0 {
         return [false; 12];
     }
-    let best = search(m, r, lines);
-    choice::chosen(m, best)
+    chosen(m, search(m, number, calls))
 }

@@ -7,6 +7,7 @@ ghost use Rattle.book.specs.Steps.{world, does};
 
 use book::play;
 use book::play::Run;
+use script::line;
 use std::io::{Print, Read};
 use store::State;
 
@@ -21,12 +22,10 @@ fn play_out(
     out: &mut [u8],
 ) -> Run
     requires { 44 * length bytes.now ≤ length out.old }
-    ensures { stand result.line (world state.new medium.new cache.new) result.on (take result.n out.new) ≡ play_of does (stand run.line (world state.old medium.old cache.old) true []) bytes.now }
+    ensures { stand result.line (world state.new medium.new cache.new) result.on (take result.printed out.new) ≡ play_of does (stand run.line (world state.old medium.old cache.old) true []) bytes.now }
 {
-    let line = run.line;
-    let next = play::play(line, state, bytes, medium, cache, out);
-    let n = next.n;
-    let _ = output.write_all(&out[..n]);
+    let next = play::play(run.line, state, bytes, medium, cache, out);
+    let _ = output.write_all(&out[..next.printed]);
     next
 }
 
@@ -41,18 +40,17 @@ fn finish(
 ) -> Run
     requires { length out.old ≡ 180224 }
     ensures on_value { result.on ≡ false }
-    ensures out_after { take result.n out.new ≡ finished does (stand run.line (world state.old medium.old cache.old) true []) }
+    ensures out_after { take result.printed out.new ≡ finished does (stand run.line (world state.old medium.old cache.old) true []) }
 {
-    let line = run.line;
-    if line.letter == 0 {
-        let mut same = run;
-        same.on = false;
-        same.n = 0;
-        return same;
+    if run.line.letter == 0 {
+        return Run {
+            on: false,
+            printed: 0,
+            ..run
+        };
     }
-    let mut last = play_out(output, run, b"\n", state, medium, cache, out);
-    last.on = false;
-    last
+    let last = play_out(output, run, b"\n", state, medium, cache, out);
+    Run { on: false, ..last }
 }
 
 // Reads once and takes what came.
@@ -67,7 +65,7 @@ fn read_some(
 ) -> Run
     requires { length out.old ≡ 180224 }
 {
-    let mut bytes = [0u8; 4096];
+    let mut bytes = [0; 4096];
     match input.read(&mut bytes) {
         Ok(0) | Err(_) => finish(output, run, state, medium, cache, out),
         Ok(n) => play_out(output, run, &bytes[..n], state, medium, cache, out),
@@ -77,25 +75,23 @@ fn read_some(
 // 4 log blocks and 2 pages: a medium of 9 blocks and a cache of 2. A byte of input prints at most 44.
 fn main(rt: HostRuntime) {
     let mut input = rt.stdin();
-    let mut words = [0u64; 448];
-    let mut tail = [0u8; 512];
-    let mut medium = [0u8; 4608];
-    let mut cache = [0u8; 1024];
-    let mut out = [0u8; 180224];
-    media::format::format(&mut medium, 4, 2);
-    media::open::open(&medium, &mut cache, &mut state, 4, 2);
+    let mut state = State::none();
+    let mut medium = [0; 4608];
+    let mut cache = [0; 1024];
+    let mut out = [0; 180224];
+    let _ = media::format::format(&mut medium, 4, 2);
+    let _ = media::open::open(&medium, &mut cache, &mut state, 4, 2);
     let mut run = Run {
-        line: script::line::empty(),
+        line: line::empty(),
         on: true,
-        n: 0,
+        printed: 0,
     };
-    // A proved loop has to end: it counts its turns down, from a number that no run uses up.
-    let mut turns = u64::MAX;
-    while turns > 0 {
+    // A proved loop has to end: no input takes that many reads.
+    for _ in 0..u64::MAX {
         if !run.on {
             return;
         }
-        let next = read_some(
+        run = read_some(
             &mut input,
             &rt,
             run,
@@ -104,7 +100,5 @@ fn main(rt: HostRuntime) {
             &mut cache,
             &mut out,
         );
-        run = next;
-        turns -= 1;
     }
 }

@@ -6,17 +6,17 @@ use Rattle.script.proofs.TakeLaws.{end_line}
 use Rattle.book.specs.Steps.{does}
 use Rattle.stripbook.proofs.finish.Goals as goal
 
-pub returns-then-line-eq0 : goal.returns-then-line-eq0
+pub returns-then-run-eq0 : goal.returns-then-run-eq0
 unfolding finished
-returns-then-line-eq0 g c =
+returns-then-run-eq0 g c =
     record {
       on_value = refl;
-      out_after = simp (eq-eqb _ _ c.if-line-eq0.true);
+      out_after = simp (eq-eqb _ _ c.if-run-eq0.true);
     }
 
 pub returns : goal.returns
 returns g c =
     record {
       on_value = refl;
-      out_after = end_line does _ _ _ c.if-line-eq0.false c.play_out-last.ensures;
+      out_after = end_line does _ _ _ c.if-run-eq0.false c.play_out-last.ensures;
     }

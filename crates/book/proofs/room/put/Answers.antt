@@ -1,15 +1,18 @@
 -- Each part stands behind the one before.
-use native.Mathlib.Omega.{arith}
-use lib.ListN.{take}
-use Rattle.book.proofs.ShowLaws.{put_line}
+use mathlib.Core.List.{append_assoc}
+use Rattle.book.specs.Room.{line_text}
 use Rattle.book.proofs.room.put.Goals as goal
 
-pub returns : goal.returns
-returns c =
-    record {
-      upper_bound = omega arith;
-      out_after =
-          put_line (take c.args.n c.args.out.now) _ _ _ _ _ _ c.args.letter c.args.byte c.args.answer _ c.show-s.ensures
-          c.byte-a.ensures.out_after c.byte-b.ensures.out_after c.number-c.ensures.out_after c.byte-d.ensures.out_after
-          c.put_result-e.ensures.out_after c.byte.ensures.out_after;
-    }
+pub returns-clause-out_after : goal.returns-clause-out_after
+unfolding line_text
+returns-clause-out_after c =
+    simp (
+      c.byte.ensures.out_after,
+      c.put_result-n.ensures.out_after,
+      c.byte-n-3.ensures.out_after,
+      c.number-n.ensures.out_after,
+      c.number.ensures,
+      c.byte-n-2.ensures.out_after,
+      c.byte-n.ensures.out_after,
+      append_assoc,
+    )
