@@ -1,4 +1,1 @@
-pub mod CodeLaws
-pub mod Lines
-pub mod Signs
 pub mod FolderLaws

@@ -18,14 +18,11 @@ fn line(out: &mut [u8], name: &[u8], what: &[u8]) -> usize
     print::byte(out, d, b'\n')
 }
 
-// Says what is wrong with a file, in one line on standard error and by one write, so that lines of two programs do not mix.
-// A longer line than the buffer holds is not said. Where standard error takes no line, nobody can be told so.
+// Says what is wrong with a file, in one line on standard error and by one write, so that lines of two programs do not
+// mix. A longer line than the buffer holds is not said. Where standard error takes no line, nobody can be told so.
 pub fn complain(err: &impl Print, name: &[u8], what: &[u8]) {
     let mut out = [0u8; 8192];
-    if name.len() > 4096 {
-        return;
-    }
-    if what.len() > 4000 {
+    if name.len() > 4096 || what.len() > 4000 {
         return;
     }
     let n = line(&mut out, name, what);
@@ -34,5 +31,5 @@ pub fn complain(err: &impl Print, name: &[u8], what: &[u8]) {
 
 // Writes an exit code, in decimal, to a descriptor.
 pub fn code(fd: i32, code: u8) {
-    io::print_decimal(fd, code as u64);
+    io::print_decimal(fd, u64::from(code));
 }

@@ -1,2 +1,2 @@
-pub mod FreeLaws
 pub mod FormLaws
+pub mod WordLaws

@@ -17,8 +17,8 @@ fn changing(letter: u8, stage: u8) -> Plan
     ensures { result ≡ record { letter = letter; stage = stage; looks = false } }
 {
     Plan {
-        letter: letter,
-        stage: stage,
+        letter,
+        stage,
         looks: false,
     }
 }
@@ -28,22 +28,21 @@ fn looking(letter: u8, stage: u8) -> Plan
     ensures { result ≡ record { letter = letter; stage = stage; looks = true } }
 {
     Plan {
-        letter: letter,
-        stage: stage,
+        letter,
+        stage,
         looks: true,
     }
 }
 
 // No stage plays a line that asks for a longer buffer than there is.
+#[tactic(auto, unfolding(crate::specs::Room::within_buffer))]
 fn within(bytes: u64, stage: u8) -> u8
     ensures { result ≡ within_buffer bytes stage }
 {
-    if bytes <= 40000 {
-        return stage;
-    }
-    4
+    if bytes <= 40000 { stage } else { 4 }
 }
 
+#[tactic(auto, unfolding(crate::specs::Room::plan_of))]
 pub fn of(call: Call) -> Plan
     ensures { result ≡ plan_of call }
 {

@@ -3,7 +3,7 @@ use mathlib.Core.Path.{◌≡◌, ap, ◌∙◌}
 use mathlib.Core.List.{List, ◌++◌}
 use Prim.Native.Nat.{ℕ, ◌+◌, ◌-◌, ◌*◌}
 use native.Mathlib.Omega.{arith}
-use lib.ListN.{length}
+use lib.ListN.{length, length-take}
 use Rattle.fields.specs.Block.{zeros, medium_length}
 use Rattle.fields.specs.Part.{splice}
 use Rattle.layout.specs.Master.{master_bytes}
@@ -26,11 +26,19 @@ fresh l d z v ez ev =
 
 pub slice_bounds-write-end : goal.slice_bounds-write-end
 unfolding medium_length
-slice_bounds-write-end c = let k = c.clear.auto.dst ∙ c.requires in omega arith
+slice_bounds-write-end c = let k = c.fill.auto.self ∙ c.requires in omega arith
+
+pub slice_bounds-write-end-2 : goal.slice_bounds-write-end-2
+unfolding medium_length
+slice_bounds-write-end-2 c = let k = c.fill.auto.self ∙ c.requires in simp length-take (omega arith)
+
+pub write-requires : goal.write-requires
+unfolding medium_length
+write-requires c = let k = c.fill.auto.self ∙ c.requires in simp length-take (omega arith)
 
 pub returns : goal.returns
 unfolding medium_length
 returns c =
-    let h = c.clear.auto.dst ∙ c.requires in
+    let h = c.fill.auto.self ∙ c.requires in
     lent_back _ _ 0 512 (omega arith) c.write.auto.block
-    ∙ fresh c.args.blocks c.args.pages _ _ (c.clear.ensures ∙ ap zeros c.requires) c.write.ensures
+    ∙ fresh c.args.blocks c.args.pages _ _ (c.fill.ensures.after (λ y e. e) ∙ ap zeros c.requires) c.write.ensures

@@ -31,7 +31,13 @@ open_state-requires c =
     }
 
 pub returns-in-None : goal.returns-in-None
-returns-in-None c = ?
+returns-in-None c =
+    refused_is _ _ _ _ (c.in-None.ensures.refused ∙ c.none.ensures)
+    ∙ bad_medium _ _ _ _ _ c.sizes_fit.ensures c.if-not-sizes_fit.false (c.if-cache-cache_length.false ∙ c.cache_length.ensures)
+    (sym c.in-None.ensures.found) _ (c.fill.ensures.after (λ y e. e) ∙ ap zeros c.cache-1.given)
 
 pub returns-in-Some : goal.returns-in-Some
-returns-in-Some c = ?
+returns-in-Some c =
+    let h = c.in-Some.ensures.opened in
+    opens _ _ _ _ _ c.sizes_fit.ensures c.if-not-sizes_fit.false (c.if-cache-cache_length.false ∙ c.cache_length.ensures)
+    (sym c.in-Some.ensures.found) _ _ _ h.1 h.2 h.0

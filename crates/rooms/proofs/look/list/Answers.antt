@@ -8,24 +8,14 @@ use Rattle.store.specs.Answer.{Outcome}
 use Rattle.rooms.proofs.LookLaws.{list_prints, list_fits}
 use Rattle.rooms.proofs.look.list.Goals as goal
 
-pub put_list-requires : goal.put_list-requires
-put_list-requires c =
+pub put_list-requires-clause-by_index : goal.put_list-requires-clause-by_index
+put_list-requires-clause-by_index c k e =
     let b : List ℕ = replicate (length c.args.buffer.now) 170 in
-    record {
-      buffer_len_bound = omega arith;
-      n_in_bounds = omega arith;
-      by_index =
-          λ k e. let f = rw length-replicate at
-          (list_fits _ _ _ b _ _ _ k _ (ap (λ (o : Outcome). o.answer) (rw c.fill.ensures at c.changes-answer.ensures))
-          e) in omega arith;
-    }
+    let a = rw (c.fill.ensures.after (λ y e. e)) at c.changes-answer.ensures in
+    let f = rw length-replicate at (list_fits _ _ _ b _ _ _ k _ (ap (λ (o : Outcome). o.answer) a) e) in
+    omega arith
 
-pub returns : goal.returns
-returns c =
-    let k = c.args in
-    record {
-      upper_bound = omega arith;
-      by_index =
-          λ l d. list_prints (take k.n k.out.now) _ _ _ _ _ _ _ _ l d c.put_answer-a.ensures.out_after
-          c.put_list.ensures.out_after (rw c.fill.ensures at c.changes-answer.ensures);
-    }
+pub returns-clause-by_index : goal.returns-clause-by_index
+returns-clause-by_index c l d =
+    list_prints (take c.args.n c.args.out.now) _ _ _ _ _ _ _ _ l d c.put_answer-n.ensures.out_after c.put_list.ensures.out_after
+    (rw (c.fill.ensures.after (λ y e. e)) at c.changes-answer.ensures)
