@@ -1,13 +1,14 @@
 -- A room is put into the output part by part, each behind the one before, and what was put is read again as the same room.
+use Rattle.std.specs.Prelude.{Some}
+use Rattle.std.proofs.lemmas.List.FromFn.{length-map-range_with_len, get_or-map-range_with_len}
 use mathlib.Core.Path.{◌≡◌, refl, sym, ap, ◌∙◌}
-use mathlib.Core.Bool.{true}
-use mathlib.Core.List.{List, [], ◌++◌, append-nil, append_assoc}
+use mathlib.Core.List.{List, [], ◌++◌, append_assoc}
 use Prim.Native.Nat.{ℕ, ◌+◌, ◌*◌, ◌^◌, ◌≤◌, ◌<◌}
 use native.Mathlib.Omega.{arith}
 use native.Mathlib.Numerals.{add-one}
 use native.Mathlib.Nat.{zero-add}
-use lib.ListN.{length, take, drop, get_or, length-append, drop_of_length-le}
-use lib.Seq.{take_at, drop_at, drop-cons, length-take-le, ext_get_or}
+use lib.ListN.{length, take, drop, get_or, length-append}
+use lib.Seq.{take_at, drop_at, take-suc, length-take-le, ext_get_or}
 use borrow.Author.Tests.{le-leb}
 use Rattle.fields.specs.Field.{enc, dec}
 use Rattle.fields.specs.Part.{part, splice}
@@ -15,8 +16,7 @@ use Rattle.fields.specs.Cells.{flat}
 use Rattle.fields.proofs.PartLaws.{splice_is, part_part}
 use Rattle.fields.proofs.FieldLaws.{length_enc, dec_enc}
 use Rattle.fields.proofs.ReadLaws.{part_mid, dec_mid}
-use Rattle.fields.proofs.CellLaws.{Each, each_of, each_at, length_flat, cell_at, part_behind}
-use Rattle.memory.proofs.ColumnLaws.{length_listed, get_d_listed}
+use Rattle.fields.proofs.CellLaws.{Each, flat_snoc, each_of, each_at, length_flat, cell_at, part_behind}
 use Rattle.relief.specs.Form.{sizes_of, words_in, tail_in, room_bytes}
 
 -- a number of 8 bytes
@@ -27,25 +27,18 @@ put_number l n x h =
     ap (take (n + 8)) (splice_is l n (enc 8 x) (omega arith) ∙ sym (append_assoc (take n l) (enc 8 x) _))
     ∙ take_at (take n l ++ enc 8 x) _ (n + 8) f
 
--- the words: what is put, and the words that are left, make up w
-module _ (ws w : List ℕ) (i : ℕ) where
-  pub words_turn : (x y : List ℕ) → i < length ws → y ≡ x ++ enc 8 (get_or ws i 0) → x ++ flat (enc 8) (drop i ws) ≡ w
-      → y ++ flat (enc 8) (drop (i + 1) ws) ≡ w
-  unfolding flat
-  words_turn x y h e g = simp (e, append_assoc, add-one) (rw (drop-cons ws i 0 h) at g)
-
-  pub words_end : (x : List ℕ) → length ws ≤ i → x ++ flat (enc 8) (drop i ws) ≡ w → x ≡ w
-  unfolding flat
-  words_end x h g = sym (append-nil x) ∙ (rw (drop_of_length-le ws h) at g)
+-- one word more is put
+pub flat_turn : (ws : List ℕ) (i : ℕ) → i < length ws → flat (enc 8) (take (i + 1) ws) ≡ flat (enc 8) (take i ws) ++ enc 8 (get_or ws i 0)
+flat_turn ws i h = rw (add-one, take-suc ws i 0 h, flat_snoc (enc 8) (take i ws) (get_or ws i 0))
 
 -- the words that are taken
 pub length_words : (head : List ℕ) → length (words_in head) ≡ 448
 unfolding words_in
-length_words head = length_listed _ 0 448
+length_words head = length-map-range_with_len (λ j. dec (part head (16 + 8 * j) 8)) 0 448
 
 pub word_at : (head : List ℕ) (i : ℕ) → i < 448 → get_or (words_in head) i 0 ≡ dec (part head (16 + 8 * i) 8)
 unfolding words_in
-word_at head i h = get_d_listed (λ j. dec (part head (16 + 8 * j) 8)) 0 448 i 0 h ∙ rw zero-add
+word_at head i h = get_or-map-range_with_len (λ j. dec (part head (16 + 8 * j) 8)) 0 448 i i 0 h (zero-add i)
 
 -- what is put is read again as the same room: of its 4112 bytes in front the sizes, the words and the tail
 module _ (w t m c : List ℕ) (hw : length w ≡ 448) (ht : length t ≡ 512) where
@@ -58,7 +51,7 @@ module _ (w t m c : List ℕ) (hw : length w ≡ 448) (ht : length t ≡ 512) wh
   in_head : (at n : ℕ) → at + n ≤ 4112 → part head at n ≡ part (room_bytes w t m c) at n
   in_head at n h = part_part (room_bytes w t m c) 0 4112 at n h ∙ rw zero-add
 
-  pub sizes_again : length m ≤ 50688 → length c ≤ 32768 → sizes_of head ≡ record { taken = true; medium = length m; cache = length c }
+  pub sizes_again : length m ≤ 50688 → length c ≤ 32768 → sizes_of head ≡ Some (record { medium = length m; cache = length c })
   unfolding sizes_of room_bytes
   sizes_again hm hc =
       let a : dec (part head 0 8) ≡ length m = ap dec (in_head 0 8 (omega arith)) ∙ dec_mid [] _ 0 8 (length m) refl (omega arith) in

@@ -1,9 +1,9 @@
 -- The bytes of a room, in the input and in the output.
-use Rattle.std.specs.Prelude.{ℕ, ◌+◌, ◌*◌, true, false, cond, ◌&&◌, List, ◌++◌, length, leb}
+use Rattle.std.specs.Prelude.{ℕ, ◌+◌, ◌*◌, cond, ◌&&◌, List, ◌++◌, length, map, leb, Option, Some, None}
 use Rattle.fields.specs.Field.{enc, dec}
 use Rattle.fields.specs.Part.{part}
 use Rattle.fields.specs.Cells.{flat}
-use Rattle.memory.specs.Memory.{listed}
+use Rattle.std.specs.List.{range_with_len}
 use Rattle.relief.specs.declared.form.Sizes.{Sizes}
 
 -- relief: "the length of the medium and that of the cache (8 bytes each ..)"
@@ -15,15 +15,14 @@ abbrev pub cache_in : List ℕ → ℕ
 cache_in head = dec (part head 8 8)
 
 -- relief: "The run ends .. at a medium above 50,688 bytes or a cache above 32,768"
-unfoldable pub sizes_of : List ℕ → Sizes
+unfoldable pub sizes_of : List ℕ → Option Sizes
 sizes_of head =
     cond (leb (medium_in head) 50688 && leb (cache_in head) 32768)
-    (record { taken = true; medium = medium_in head; cache = cache_in head })
-    (record { taken = false; medium = 0; cache = 0 })
+    (Some (record { medium = medium_in head; cache = cache_in head })) None
 
 -- relief: "the 448 words of the state (8 bytes each)"
 unfoldable pub words_in : List ℕ → List ℕ
-words_in head = listed (λ i. dec (part head (16 + 8 * i) 8)) 0 448
+words_in head = map (λ i. dec (part head (16 + 8 * i) 8)) (range_with_len 0 448)
 
 -- relief: "the tail (512 bytes)"
 unfoldable pub tail_in : List ℕ → List ℕ

@@ -1,10 +1,9 @@
 -- What `relief` does with a room: it asks which call comes next and makes it, until none is left or 70 are made.
-use Rattle.std.specs.Prelude.{ℕ, zero, suc, ◌≡◌, Bool, true, false, cond, List, [], ◌∷◌, ◌++◌, Ok}
-use Rattle.store.specs.declared.Answer.TheVariants.{Done}
+use Rattle.std.specs.Prelude.{ℕ, zero, suc, ◌≡◌, List, [], ◌∷◌, ◌++◌, Option, Some, None}
 use Rattle.store.specs.declared.Relief.{Relief}
-use Rattle.store.specs.declared.Relief.TheVariants.{StoreLog, StorePage, Checkpoint, NothingLeft}
+use Rattle.store.specs.declared.Relief.TheVariants.{StoreLog, StorePage, Checkpoint}
 use Rattle.store.specs.declared.State.{State}
-use Rattle.store.specs.Answer.{Outcome, answer_number, leaves}
+use Rattle.store.specs.Answer.{Outcome, answer_number}
 use Rattle.store.specs.StoreLog.{store_log_of}
 use Rattle.store.specs.StorePage.{store_page_of}
 use Rattle.store.specs.Checkpoint.{checkpoint_of}
@@ -16,14 +15,6 @@ unfoldable pub made_of : Relief → State → List ℕ → List ℕ → Outcome
 made_of StoreLog s m c = store_log_of s m c
 made_of (StorePage p) s m c = store_page_of s m c p
 made_of Checkpoint s m c = checkpoint_of s m c
-made_of NothingLeft s m c = leaves (Ok Done) s m c
-
--- relief: "until nothing is left": is a call named?
-unfoldable pub is_left : Relief → Bool
-is_left StoreLog = true
-is_left (StorePage p) = true
-is_left Checkpoint = true
-is_left NothingLeft = false
 
 -- relief: "`S r`", "`K r`": a letter and a number
 unfoldable pub line_text : ℕ → ℕ → List ℕ
@@ -38,11 +29,11 @@ unfoldable pub call_text : Relief → ℕ → List ℕ
 call_text StoreLog r = line_text 83 r
 call_text (StorePage p) r = page_text p r
 call_text Checkpoint r = line_text 75 r
-call_text NothingLeft r = []
 
 -- relief: "`N` if nothing is left, `M` if more is left"
-unfoldable pub end_text : Relief → List ℕ
-end_text next = cond (is_left next) (77 ∷ 10 ∷ []) (78 ∷ 10 ∷ [])
+unfoldable pub end_text : Option Relief → List ℕ
+end_text (Some next) = 77 ∷ 10 ∷ []
+end_text None = 78 ∷ 10 ∷ []
 
 -- relief: "prints a line for each", "the room as the calls left it": what is printed, and what is left
 pub record Freed : Type 0 where
@@ -63,12 +54,15 @@ behind t f = freed (t ++ f.text) f.state f.medium f.cache
 abbrev pub goes_on : Relief → Outcome → (State → List ℕ → List ℕ → Freed) → Freed
 goes_on next o rest = behind (call_text next (answer_number o.answer)) (rest o.state o.medium o.cache)
 
+-- relief: "makes the call that is named, until nothing is left": by what comes next
+abbrev pub freed_by : Option Relief → (State → List ℕ → List ℕ → Freed) → State → List ℕ → List ℕ → Freed
+freed_by (Some next) rest s m c = goes_on next (made_of next s m c) rest
+freed_by None rest s m c = freed (end_text None) s m c
+
 -- relief: "makes the call that is named, until nothing is left, at most 70 times": at most n times
 unfoldable pub freed_from : ℕ → State → List ℕ → List ℕ → Freed
 freed_from zero s m c = freed (end_text (relief_of s m c)) s m c
-freed_from (suc n) s m c =
-    cond (is_left (relief_of s m c)) (goes_on (relief_of s m c) (made_of (relief_of s m c) s m c) (freed_from n))
-    (freed (end_text (relief_of s m c)) s m c)
+freed_from (suc n) s m c = freed_by (relief_of s m c) (freed_from n) s m c
 
 -- relief: "the room as the calls left it"
 abbrev pub LeftAs : Freed → State → List ℕ → List ℕ → Type 0

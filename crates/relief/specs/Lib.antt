@@ -1,2 +1,3 @@
+pub mod Words
 pub mod Free
 pub mod Form

@@ -1,6 +1,7 @@
--- The state as a caller lends it to a call: 448 words, seven rows of 64, and the tail block. Row 0 has the numbers of the
+-- The state as the input and the output have it: 448 words, seven rows of 64, and the tail block. Row 0 has the numbers of the
 -- state, row 1 the first changes of the pages, rows 2 to 6 the places: kind, number, time, end place, waiting versions.
-use Rattle.std.specs.Prelude.{ℕ, zero, suc, ◌+◌, cond, List, [], ◌∷◌, get_or, replicate, eqb}
+use Rattle.std.specs.Prelude.{ℕ, ◌+◌, ◌%◌, ◌≤◌, ◌≡◌, cond, List, get_or, map, eqb}
+use Rattle.std.specs.List.{range_with_len}
 use Rattle.fields.specs.Part.{part}
 use Rattle.store.specs.declared.Life.{Life}
 use Rattle.store.specs.declared.Life.TheVariants.{Free, Active, Committed}
@@ -22,13 +23,8 @@ place_in w i = record {
   waiting = get_or w (384 + i) 0;
 }
 
--- what f says of the k numbers from i on
-unfoldable pub listed : {A : Type 0} → (ℕ → A) → ℕ → ℕ → List A
-listed f i zero = []
-listed f i (suc k) = f i ∷ listed f (i + 1) k
-
 unfoldable pub places_of : List ℕ → List Place
-places_of w = listed (place_in w) 0 64
+places_of w = map (place_in w) (range_with_len 0 64)
 
 unfoldable pub first_of : List ℕ → List ℕ
 first_of w = part w 64 64
@@ -38,47 +34,26 @@ unfoldable pub phase_by : ℕ → ℕ → ℕ → Phase
 phase_by kind o t =
     cond (eqb kind 1) (FirstStored o (record { 0 = t })) (cond (eqb kind 2) (SecondStored o (record { 0 = t })) Idle)
 
--- the state with the numbers that n gives
-unfoldable pub state_by : (ℕ → ℕ) → List ℕ → List Place → List ℕ → State
-state_by n first ps tail = record {
-  blocks = n 0;
-  pages = n 1;
-  slots = n 2;
-  next = record { 0 = n 3 };
-  last = record { 0 = n 4 };
-  saved = record { 0 = n 5 };
-  end = record { 0 = n 6 };
+-- the state of words with these places, and this tail
+unfoldable pub state_by : List ℕ → List Place → List ℕ → State
+state_by w ps tail = record {
+  blocks = get_or w 0 0;
+  pages = get_or w 1 0;
+  slots = get_or w 2 0;
+  next = record { 0 = get_or w 3 0 };
+  last = record { 0 = get_or w 4 0 };
+  saved = record { 0 = get_or w 5 0 };
+  end = record { 0 = get_or w 6 0 };
   tail = tail;
   places = ps;
-  ring = n 7;
-  first = first;
-  phase = phase_by (n 8) (n 9) (n 10);
+  ring = get_or w 7 0;
+  first = first_of w;
+  phase = phase_by (get_or w 8 0) (get_or w 9 0) (get_or w 10 0);
 }
 
 -- the state that words and tail hold
 unfoldable pub state_of : List ℕ → List ℕ → State
-state_of w tail = state_by (λ k. get_or w k 0) (first_of w) (places_of w) tail
-
--- words of zeros: the state of zeros, with a tail of zeros
-unfoldable pub blank : List ℕ
-blank = replicate 448 0
-
--- the state with other first changes
-unfoldable pub with_first : State → List ℕ → State
-with_first s first = record {
-  blocks = s.blocks;
-  pages = s.pages;
-  slots = s.slots;
-  next = s.next;
-  last = s.last;
-  saved = s.saved;
-  end = s.end;
-  tail = s.tail;
-  places = s.places;
-  ring = s.ring;
-  first = first;
-  phase = s.phase;
-}
+state_of w tail = state_by w (places_of w) tail
 
 -- the state with other places
 unfoldable pub with_places : State → List Place → State
@@ -96,3 +71,7 @@ with_places s ps = record {
   first = s.first;
   phase = s.phase;
 }
+
+-- only words of place i are others
+abbrev pub KeepsOthers : List ℕ → List ℕ → ℕ → Type 0
+KeepsOthers w v i = (k : ℕ) → (128 ≤ k → k % 64 ≡ i → ⊥) → get_or v k 0 ≡ get_or w k 0

@@ -1,71 +1,58 @@
 // A room in the bytes of the input, and in those of the output.
-ghost use Rattle.std.specs.Prelude.{◌≡◌, ◌++◌, ◌+◌, ◌*◌, ◌≤◌, length, take};
+#![tactic(auto, unfolding(crate::specs::Form::sizes_of, crate::specs::Form::tail_in, crate::specs::Form::room_bytes, fields::specs::Part::part))]
+
+ghost use Rattle.std.specs.Prelude.{◌≡◌, ◌++◌, ◌+◌, ◌*◌, ◌≤◌, length, take, IfSome};
 ghost use Rattle.fields.specs.Field.{enc};
 ghost use Rattle.fields.specs.Cells.{flat};
 ghost use Rattle.relief.specs.Form.{sizes_of, words_in, tail_in, room_bytes};
 
-use fields::{block, field};
+use fields::field;
 use script::print;
-use store::State;
 
-// How long medium and cache are, and whether the program takes such a room.
+// How long medium and cache are.
 #[derive(Clone, Copy)]
 pub struct Sizes {
-    pub taken: bool,
     pub medium: usize,
     pub cache: usize,
 }
 
-// The sizes of a room, from the bytes in front of its medium.
-pub fn read_sizes(head: &[u8]) -> Sizes
-    requires { length head.now ≡ 4112 }
-    ensures medium_bound { (result.medium ≤ 50688) × (result.cache ≤ 32768) }
+// The sizes of a room, from the bytes in front of its medium; none where the program does not take such a room.
+pub fn read_sizes(head: &[u8; 4112]) -> Option<Sizes>
+    ensures bound { IfSome result (λ sizes. (sizes.medium ≤ 50688) × (sizes.cache ≤ 32768)) }
     ensures value { result ≡ sizes_of head.now }
 {
     let medium = field::get8(head, 0);
     let cache = field::get8(head, 8);
-    if 50688 < medium {
-        return Sizes {
-            taken: false,
-            medium: 0,
-            cache: 0,
-        };
+    if medium > 50688 || cache > 32768 {
+        return None;
     }
-    if 32768 < cache {
-        return Sizes {
-            taken: false,
-            medium: 0,
-            cache: 0,
-        };
-    }
-    Sizes {
-        taken: true,
+    Some(Sizes {
         medium: medium as usize,
         cache: cache as usize,
-    }
+    })
 }
 
-// Takes the words of the state from the bytes in front of the medium.
-fn take_words(state: &mut State, head: &[u8])
-    requires { (length words.old ≡ 448) × (length head.now ≡ 4112) }
-    ensures { words.new ≡ words_in head.now }
+// The words of its state, from there.
+pub fn read_words(head: &[u8; 4112]) -> [u64; 448]
+    ensures { result ≡ words_in head.now }
 {
-    let mut i: usize = 0;
-    while i < words.len() {
-        words[i] = field::get8(head, 16 + 8 * i);
-        i += 1;
+    let mut words = [0; 448];
+    for (i, word) in words.iter_mut().enumerate() {
+        *word = field::get8(head, 16 + 8 * i);
     }
+    words
 }
 
-// Takes the state of a room from there.
-pub fn take_state(state: &mut State, head: &[u8])
-    requires { length head.now ≡ 4112 }
-    ensures { (words.new ≡ words_in head.now) × (tail.new ≡ tail_in head.now) }
+// Its tail.
+pub fn read_tail(head: &[u8; 4112]) -> [u8; 512]
+    ensures { result ≡ tail_in head.now }
 {
-    take_words(words, head);
-    block::copy(tail, &head[3600..4112]);
+    let mut tail = [0; 512];
+    tail.copy_from_slice(&head[3600..]);
+    tail
 }
 
+#[tactic(auto, using(crate::proofs::FormLaws::put_number))]
 // Puts a number of 8 bytes behind the first n of the output.
 fn put_number(out: &mut [u8], n: usize, x: u64) -> usize
     requires { n + 8 ≤ length out.old }
@@ -76,18 +63,16 @@ fn put_number(out: &mut [u8], n: usize, x: u64) -> usize
     n + 8
 }
 
+#[tactic(auto, using(crate::proofs::FormLaws::flat_turn, std::proofs::Common::append_assoc))]
 // Puts the words of a state behind the first n bytes.
-fn put_words(out: &mut [u8], n: usize, state: &State) -> usize
+fn put_words(out: &mut [u8], n: usize, words: &[u64; 448]) -> usize
     requires { n + 8 * length words.now ≤ length out.old }
     ensures value { result ≡ n + 8 * length words.now }
     ensures out_after { take result out.new ≡ take n out.old ++ flat (enc 8) words.now }
 {
     let mut end = n;
-    let mut i: usize = 0;
-    while i < words.len() {
-        let next = put_number(out, end, words[i]);
-        end = next;
-        i += 1;
+    for &word in words {
+        end = put_number(out, end, word);
     }
     end
 }
@@ -96,7 +81,8 @@ fn put_words(out: &mut [u8], n: usize, state: &State) -> usize
 pub fn put_room(
     out: &mut [u8],
     n: usize,
-    state: &State,
+    words: &[u64; 448],
+    tail: &[u8; 512],
     medium: &[u8],
     cache: &[u8],
 ) -> usize
@@ -104,10 +90,10 @@ pub fn put_room(
     ensures value { result ≡ n + (4112 + (length medium.now + length cache.now)) }
     ensures out_after { take result out.new ≡ take n out.old ++ room_bytes words.now tail.now medium.now cache.now }
 {
-    let a = put_number(out, n, medium.len() as u64);
-    let b = put_number(out, a, cache.len() as u64);
-    let c = put_words(out, b, words);
-    let d = print::bytes(out, c, tail);
-    let e = print::bytes(out, d, medium);
-    print::bytes(out, e, cache)
+    let n = put_number(out, n, medium.len() as u64);
+    let n = put_number(out, n, cache.len() as u64);
+    let n = put_words(out, n, words);
+    let n = print::bytes(out, n, tail);
+    let n = print::bytes(out, n, medium);
+    print::bytes(out, n, cache)
 }

@@ -1,12 +1,13 @@
--- The room as the calls left it stands behind their lines.
-use native.Mathlib.Omega.{arith}
-use Rattle.relief.proofs.FreeLaws.{left_as, text_behind}
+-- The room as the calls left it stands behind their lines, and no call changes the tail.
+use Rattle.relief.specs.Words.{state_of, state_by}
+use Rattle.relief.proofs.FreeLaws.{freed_tail, left_as}
 use Rattle.relief.proofs.free.freed_room.Goals as goal
 
-pub returns : goal.returns
-returns c =
-    record {
-      upper_bound = omega (arith, c.put_room.ensures.value, c.free-n.ensures.upper_bound);
-      left_as = left_as c.free-n.ensures.cache_after;
-      out_after = text_behind c.free-n.ensures.cache_after _ _ c.put_room.ensures.out_after;
-    }
+pub free-n-requires-clause-words_value : goal.free-n-requires-clause-words_value
+unfolding state_of state_by
+free-n-requires-clause-words_value c = rw c.state_of-state.ensures
+
+pub returns-clause-left_as : goal.returns-clause-left_as
+unfolding state_of state_by
+returns-clause-left_as c =
+    left_as (rw c.state_of-state.ensures at c.free-n.ensures.value) _ _ (freed_tail 70 _ _ _) c.free-n.ensures.words_after

@@ -1,0 +1,26 @@
+-- The places before place i are those of the words.
+use Rattle.std.proofs.Common.{below_more, ◌≢◌, ◌<◌, length}
+use Rattle.std.proofs.lemmas.List.{get_or-set_same, get_or-set_other}
+use Rattle.std.proofs.lemmas.List.FromFn.{fill_by_all}
+use mathlib.Core.Path.{◌∙◌}
+use lib.ListN.{length-set}
+use native.Mathlib.Omega.{arith}
+use Rattle.store.specs.Places.{free_place}
+use Rattle.relief.specs.Words.{place_in, places_of, first_of, state_by, state_of}
+use Rattle.relief.proofs.words.state_of.Goals as goal
+
+pub loop-i-preserved : goal.loop-i-preserved
+loop-i-preserved c =
+    let within : c.loop-i.i < length c.loop-i.place-items = omega arith in (
+      length-set _ _ _ ∙ c.loop-i.invariant.0,
+      below_more _ _
+          (λ k h. let other : k ≢ c.loop-i.i = omega arith in rw get_or-set_other (c.loop-i.invariant.1 k h))
+          (get_or-set_same _ _ _ _ within ∙ c.place_in.ensures),
+    )
+
+pub returns : goal.returns
+unfolding state_of state_by places_of first_of
+returns c =
+    let a = c.args in
+    let e = fill_by_all (place_in a.words.now) c.loop-i.place-items 64 free_place (omega arith) (λ k h. c.loop-i.invariant.1 k (omega arith)) in
+    rw (e, c.copy_from_slice.ensures.after, c.phase_by.ensures)

@@ -1,0 +1,165 @@
+// The state in its 448 words, seven rows of 64: the numbers, the first changes of the pages, and of the places kind,
+// number, time, end place and waiting versions.
+#![tactic(auto, unfolding(crate::specs::Words::life_by, crate::specs::Words::place_in, crate::specs::Words::phase_by))]
+
+ghost use Rattle.std.specs.Prelude.{◌≡◌, ◌<◌, ◌+◌, get_or, List, ℕ};
+ghost use Rattle.store.specs.declared.Place.{Place};
+ghost use Rattle.relief.specs.Words.{life_by, place_in, phase_by, places_of, state_by, state_of, with_places, KeepsOthers};
+
+use layout::{CommitTime, EndPlace, TxNumber};
+use store::{Life, Phase, Place, State};
+
+const FIRSTS: usize = 64;
+
+const KINDS: usize = 128;
+
+const NUMBERS: usize = 192;
+
+const TIMES: usize = 256;
+
+const ENDS: usize = 320;
+
+const COUNTS: usize = 384;
+
+// What the words of place i say.
+fn place_in(words: &[u64; 448], i: usize) -> Place
+    requires { i < 64 }
+    ensures { result ≡ place_in words.now i }
+{
+    let number = TxNumber(words[NUMBERS + i]);
+    let time = words[TIMES + i];
+    let life = match words[KINDS + i] {
+        1 => Life::Active(number, time),
+        2 => Life::Committed(number, CommitTime(time), EndPlace(words[ENDS + i])),
+        _ => Life::Free,
+    };
+    Place {
+        life,
+        waiting: words[COUNTS + i],
+    }
+}
+
+// A checkpoint under way, by its kind, oldest sequence and time.
+fn phase_by(kind: u64, oldest: u64, time: u64) -> Phase
+    ensures { result ≡ phase_by kind oldest time }
+{
+    match kind {
+        1 => Phase::FirstStored(oldest, CommitTime(time)),
+        2 => Phase::SecondStored(oldest, CommitTime(time)),
+        _ => Phase::Idle,
+    }
+}
+
+// The state that words and tail hold.
+pub fn state_of(words: &[u64; 448], tail: &[u8; 512]) -> State
+    ensures { result ≡ state_of words.now tail.now }
+{
+    let mut places = [Place::free(); 64];
+    for (i, place) in places.iter_mut().enumerate() {
+        *place = place_in(words, i);
+    }
+    let mut first = [0; 64];
+    first.copy_from_slice(&words[FIRSTS..FIRSTS + 64]);
+    State {
+        blocks: words[0],
+        pages: words[1],
+        slots: words[2],
+        next: TxNumber(words[3]),
+        last: CommitTime(words[4]),
+        saved: CommitTime(words[5]),
+        end: EndPlace(words[6]),
+        tail: *tail,
+        places,
+        ring: words[7],
+        first,
+        phase: phase_by(words[8], words[9], words[10]),
+    }
+}
+
+// The words of a life. Those that say nothing of it stay, as the number of a place that is free.
+fn life_words(life: Life, before: [u64; 4]) -> [u64; 4]
+    ensures { life_by (get_or result 0 0) (get_or result 1 0) (get_or result 2 0) (get_or result 3 0) ≡ life }
+{
+    let [kind, number, time, end] = before;
+    match life {
+        Life::Free => [
+            if kind == 1 || kind == 2 { 0 } else { kind },
+            number,
+            time,
+            end,
+        ],
+        Life::Active(number, clock) => [1, number.0, clock, end],
+        Life::Committed(number, time, end) => [2, number.0, time.0, end.0],
+    }
+}
+
+// The words of a phase, likewise.
+fn phase_words(phase: Phase, before: [u64; 3]) -> [u64; 3]
+    ensures { phase_by (get_or result 0 0) (get_or result 1 0) (get_or result 2 0) ≡ phase }
+{
+    let [kind, oldest, time] = before;
+    match phase {
+        Phase::Idle => [if kind == 1 || kind == 2 { 0 } else { kind }, oldest, time],
+        Phase::FirstStored(oldest, time) => [1, oldest, time.0],
+        Phase::SecondStored(oldest, time) => [2, oldest, time.0],
+    }
+}
+
+// Lays a place over its words.
+fn lay_place(words: &mut [u64; 448], i: usize, place: Place)
+    requires { i < 64 }
+    ensures here { place_in words.new i ≡ place }
+    ensures beside { KeepsOthers words.old words.new i }
+{
+    let before = [
+        words[KINDS + i],
+        words[NUMBERS + i],
+        words[TIMES + i],
+        words[ENDS + i],
+    ];
+    let [kind, number, time, end] = life_words(place.life, before);
+    words[KINDS + i] = kind;
+    words[NUMBERS + i] = number;
+    words[TIMES + i] = time;
+    words[ENDS + i] = end;
+    words[COUNTS + i] = place.waiting;
+}
+
+// Lays the numbers of a state over the front of its words.
+fn lay_numbers(words: &mut [u64; 448], state: &State)
+    ensures { (places : List Place) → state_by words.new places state.now.tail ≡ with_places state.now places }
+{
+    let [kind, oldest, time] = phase_words(state.phase, [words[8], words[9], words[10]]);
+    words[FIRSTS..FIRSTS + 64].copy_from_slice(&state.first);
+    words[..11].copy_from_slice(&[
+        state.blocks,
+        state.pages,
+        state.slots,
+        state.next.0,
+        state.last.0,
+        state.saved.0,
+        state.end.0,
+        state.ring,
+        kind,
+        oldest,
+        time,
+    ]);
+}
+
+// Lays the places over theirs.
+fn lay_places(words: &mut [u64; 448], places: &[Place; 64])
+    ensures placed { places_of words.new ≡ places.now }
+    ensures front { (k : ℕ) → k < 128 → get_or words.new k 0 ≡ get_or words.old k 0 }
+{
+    for (i, &place) in places.iter().enumerate() {
+        lay_place(words, i, place);
+    }
+}
+
+// Lays a state over its words.
+pub fn lay(words: &mut [u64; 448], state: &State)
+    ensures { state_of words.new state.now.tail ≡ state.now }
+{
+    lay_numbers(words, state);
+    lay_places(words, &state.places);
+}
