@@ -48,10 +48,11 @@ pub fn play(
     ensures out_after { stand run.new.line (room_of run.new.standing medium.new cache.new state.new) result.on (take result.printed out.new)
         ≡ play_of does (stand run.old.line (room_of run.old.standing medium.old cache.old state.old) true []) (take result.taken bytes.now) }
 {
+    let mut line = run.line;
     let mut taken: usize = 0;
     let mut printed: usize = 0;
     while taken < bytes.len() && printed <= 100000 {
-        let more = line::take(run.line, bytes, taken);
+        let more = line::take(line, bytes, taken);
         if !more.ended {
             run.line = more.line;
             return Played {
@@ -61,10 +62,11 @@ pub fn play(
             };
         }
         taken = more.next;
-        run.line = line::empty();
+        line = line::empty();
         let asked = call::meaning(more.line);
         let plan = plan::of(asked.call);
         if run.standing.reached() < plan.stage {
+            run.line = line;
             return Played {
                 taken,
                 printed,
@@ -76,6 +78,7 @@ pub fn play(
             asked, plan, standing, state, medium, cache, buffer, out, printed,
         );
     }
+    run.line = line;
     Played {
         taken,
         printed,

@@ -30,7 +30,7 @@ returns-then-reached-plan-clause-out_after c =
     let a = c.args in
     play_over (stand a.run.now.line (room_of a.run.now.standing a.medium.now a.cache.now a.state.now) true []) a.bytes.now _ _ _ c.loop-taken.taken
     c.take-more.result c.loop-taken-test.true c.take-more.ensures c.loop-taken.invariant.leads (not-false c.take-more.result.ended c.if-not-more.false)
-    c.meaning-asked.result c.empty-run.result c.meaning-asked.ensures c.empty-run.ensures
+    c.meaning-asked.result c.empty-line.result c.meaning-asked.ensures c.empty-line.ensures
     (not_played c.meaning-asked.result c.of-plan.result _ _ _ _ c.of-plan.ensures (rw c.reached.ensures at c.if-reached-plan.true))
 
 pub loop-taken-smaller : goal.loop-taken-smaller
@@ -48,8 +48,8 @@ loop-taken-preserved c =
       leads =
           play_goes (stand a.run.now.line (room_of a.run.now.standing a.medium.now a.cache.now a.state.now) true []) a.bytes.now _ _ _ c.loop-taken.taken
           c.take-more.result c.loop-taken-test.true c.take-more.ensures c.loop-taken.invariant.leads
-          (not-false c.take-more.result.ended c.if-not-more.false) c.meaning-asked.result c.empty-run.result c.meaning-asked.ensures
-          c.empty-run.ensures _ _
+          (not-false c.take-more.result.ended c.if-not-more.false) c.meaning-asked.result c.empty-line.result c.meaning-asked.ensures
+          c.empty-line.ensures _ _
           (is_played c.meaning-asked.result c.of-plan.result _ _ _ _ c.of-plan.ensures (rw c.reached.ensures at c.if-reached-plan.false))
           c.step-printed.ensures.out_after c.step-printed.ensures.room_after;
     }

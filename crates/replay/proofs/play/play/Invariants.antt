@@ -14,7 +14,7 @@ invariant-loop-taken l = record {
   inside : l.taken ≤ length l.bytes;
   fits : l.printed ≤ 194000;
   some : l.printed ≤ 194000 * l.taken;
-  leads : stand l.run.line (room_of l.run.standing l.medium l.cache l.state) true (take l.printed l.out)
+  leads : stand l.line (room_of l.run.standing l.medium l.cache l.state) true (take l.printed l.out)
       ≡ play_of does (stand l.initial.run.line (room_of l.initial.run.standing l.initial.medium l.initial.cache l.initial.state) true [])
       (take l.taken l.bytes);
 }
