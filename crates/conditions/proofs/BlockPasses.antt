@@ -5,7 +5,6 @@ use mathlib.Core.Bool.{Bool, true, false, ◌&&◌}
 use mathlib.Core.Logic.{◌⊎◌, ⊎_elim}
 use Prim.Native.Nat.{ℕ, zero, suc, ◌+◌, ◌-◌, ◌*◌, ◌≤◌, ◌<◌, ◌^◌, min}
 use native.Mathlib.Nat.{add-zero, sub-zero}
-use native.Mathlib.Numerals.{add-one}
 use native.Mathlib.Omega.{arith}
 use mathlib.Core.List.{List, [], ◌∷◌, ◌++◌}
 use lib.ListN.{length, take, drop, length-take, length-drop, drop_of_length-le}
@@ -198,9 +197,6 @@ module _ (b : List ℕ) (at : ℕ) (from : 10 ≤ at) (i : Item) (read : i ≡ i
   pub commit_stop : (p : Pair) → i ≡ Commit p → t ≡ leb low p.time.0 → t ≡ false → false ≡ records_ok d start q.records && q.whole
   unfolding record_form
   commit_stop p e f g = same_stop (commit p) s (left_commit b at from i read p e) t f g
-
-pub ltb_low : (a b : ℕ) → ltb a b ≡ leb (a + 1) b
-ltb_low a b = rw add-one
 
 -- ---- the blocks
 

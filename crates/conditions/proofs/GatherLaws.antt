@@ -3,14 +3,13 @@
 use Rattle.std.specs.Prelude.{Option, None, Some}
 use Rattle.std.specs.List.{find}
 use Rattle.std.specs.Option.{option_map, MatchOption}
-use mathlib.Core.Path.{◌≡◌, refl, sym, ◌∙◌}
+use mathlib.Core.Path.{◌≡◌, refl, sym, ap, ◌∙◌}
 use mathlib.Core.Bool.{Bool, true, false, cond}
 use mathlib.Core.List.{List, [], ◌∷◌, ◌++◌, append-nil}
 use Prim.Native.Nat.{ℕ, ◌+◌, ◌*◌, ◌≤◌, ◌<◌}
 use native.Mathlib.Omega.{arith}
-use native.Mathlib.Numerals.{add-one}
-use lib.ListN.{length, take, set, length-set}
-use lib.Seq.{take-suc-set, append_snoc}
+use lib.ListN.{length, length-append}
+use lib.Seq.{append_snoc}
 use lib.Dec.{eqb}
 use Rattle.layout.specs.Journal.{Record, version, commit}
 use Rattle.layout.specs.declared.CommitTime.{CommitTime}
@@ -61,53 +60,49 @@ among_commits (x ∷ xs) n = go x.rec (among_commits xs n)
 pub known_commit : (m : List ℕ) (l used : ℕ) (cs : List Commit) → Known m l used cs → (n : ℕ) → commit_among cs n ≡ commit_under (read_log m l) n
 known_commit m l used cs k n = rw k.log (among_commits (read_log m l) n)
 
--- ---- the loop that gathers: n commits stand in front of `buffer`, and the records from the cursor c on are left
+-- ---- the loop that gathers: `commits` are those before the cursor c, and the records from there on are left
 
-pub record Gathering (m : List ℕ) (l : ℕ) (from c : Cursor) (n : ℕ) (buffer : List Commit) : Type 0 where
+pub record Gathering (m : List ℕ) (l : ℕ) (from c : Cursor) (commits : List Commit) : Type 0 where
   pub valid : Valid c
-  pub room : 19 * n + measure c ≤ 16416
-  pub size : length buffer ≡ 864
-  pub same : take n buffer ++ commits_of (rest_of m l c) ≡ commits_of (rest_of m l from)
+  pub room : 19 * length commits + measure c ≤ 16416
+  pub same : commits ++ commits_of (rest_of m l c) ≡ commits_of (rest_of m l from)
 
 module _ (m : List ℕ) (l : ℕ) (from : Cursor) where
-  pub gather_start : (buffer : List Commit) → Valid from → length buffer ≡ 864 → Gathering m l from from 0 buffer
-  gather_start buffer v h =
+  pub gather_start : Valid from → Gathering m l from from []
+  gather_start v =
       let k : from.left ≤ 32 = v.blocks in
-      record { valid = v; room = omega arith; size = h; same = refl }
+      record { valid = v; room = omega arith; same = refl }
 
-  module _ (c : Cursor) (n : ℕ) (buffer : List Commit) (g : Gathering m l from c n buffer) where
-    pub gather_end : rest_of m l c ≡ [] → (n ≤ 864) × (take n buffer ≡ commits_of (rest_of m l from))
+  module _ (c : Cursor) (commits : List Commit) (g : Gathering m l from c commits) where
+    pub gather_end : rest_of m l c ≡ [] → commits ≡ commits_of (rest_of m l from)
     unfolding commits_of
-    gather_end e =
-        let r : 19 * n + measure c ≤ 16416 = g.room in
-        (omega arith, sym (append-nil (take n buffer)) ∙ (rw e at g.same))
+    gather_end e = sym (append-nil commits) ∙ (rw e at g.same)
 
-    pub gather_skip : (d : Cursor) → Next m l c d [] → Gathering m l from d n buffer
+    pub gather_skip : (d : Cursor) → Next m l c d [] → Gathering m l from d commits
     gather_skip d w =
-        let r : 19 * n + measure c ≤ 16416 = g.room in
+        let r : 19 * length commits + measure c ≤ 16416 = g.room in
         let k : measure d < measure c = w.less in
-        record { valid = w.valid; room = omega arith; size = g.size; same = rw w.rest at g.same }
+        record { valid = w.valid; room = omega arith; same = rw w.rest at g.same }
 
-    pub gather_written : (d : Cursor) (s e : ℕ) (h : VersionHead) (v : List ℕ) → Next m l c d (record { seq = s; end = e; rec = version h v } ∷ []) → Gathering m l from d n buffer
+    pub gather_written : (d : Cursor) (s e : ℕ) (h : VersionHead) (v : List ℕ) → Next m l c d (record { seq = s; end = e; rec = version h v } ∷ []) → Gathering m l from d commits
     unfolding commits_of
     gather_written d s e h v w =
-        let r : 19 * n + measure c ≤ 16416 = g.room in
+        let r : 19 * length commits + measure c ≤ 16416 = g.room in
         let k : measure d < measure c = w.less in
-        record { valid = w.valid; room = omega arith; size = g.size; same = rw w.rest at g.same }
+        record { valid = w.valid; room = omega arith; same = rw w.rest at g.same }
 
     module _ (d : Cursor) (far : measure d + 19 ≤ measure c) where
-      pub gather_room : n < 864
-      gather_room = let r : 19 * n + measure c ≤ 16416 = g.room in omega arith
+      pub gather_room : length commits < 864
+      gather_room = let r : 19 * length commits + measure c ≤ 16416 = g.room in omega arith
 
-      pub gather_committed : (s : ℕ) (e : EndPlace) (p : Pair) → Next m l c d (record { seq = s; end = e.0; rec = commit p } ∷ [])
-          → Gathering m l from d (n + 1) (set buffer n (record { number = p.number; time = p.time; end = e }))
+      pub gather_committed : (s : ℕ) (e : EndPlace) (p : Pair) (new : List Commit) → Next m l c d (record { seq = s; end = e.0; rec = commit p } ∷ [])
+          → new ≡ commits ++ record { number = p.number; time = p.time; end = e } ∷ [] → Gathering m l from d new
       unfolding commits_of
-      gather_committed s e p w =
-          let r : 19 * n + measure c ≤ 16416 = g.room in
-          let z : n < length buffer = omega (arith, gather_room, g.size) in
-          let x : Commit = record { number = p.number; time = p.time; end = e } in record {
+      gather_committed s e p new w q =
+          let r : 19 * length commits + measure c ≤ 16416 = g.room in
+          let x : Commit = record { number = p.number; time = p.time; end = e } in
+          let n : length new ≡ length commits + 1 = ap length q ∙ length-append commits (x ∷ []) in record {
             valid = w.valid;
             room = omega arith;
-            size = simp length-set g.size;
-            same = rw (add-one, take-suc-set buffer n x z) (append_snoc (take n buffer) x (commits_of (rest_of m l d)) ∙ (rw w.rest at g.same));
+            same = rw q (append_snoc commits x (commits_of (rest_of m l d)) ∙ (rw w.rest at g.same));
           }

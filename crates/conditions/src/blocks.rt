@@ -84,11 +84,11 @@ pub fn blocks_ok(medium: &[u8], blocks: u64, pages: u64, oldest: u64, count: u64
 }
 
 // A page as it lies on the medium: its form, and an end place that is not above the log's end.
-fn page_ok(medium: &[u8], blocks: u64, pages: u64, end: u64, page: u64) -> bool
-    requires in_bounds { 512 * (3 + blocks + pages) ≤ length medium.now }
-    requires blocks_bound { (blocks ≤ 32) × (pages ≤ 64) × (page < pages) }
+fn page_ok(medium: &[u8], blocks: u64, end: u64, page: u64) -> bool
+    requires bounds { (blocks ≤ 32) × (page < 64) }
+    requires in_bounds { 512 * (3 + blocks + page) + 512 ≤ length medium.now }
     requires end_value { end ≡ log_end medium.now blocks }
-    ensures { result ≡ page_ok medium.now blocks pages page }
+    ensures { result ≡ page_ok medium.now blocks 0 page }
 {
     let start = 512 * layout::place::page_block(blocks, page);
     let bytes = &medium[start..start + 512];
@@ -103,5 +103,5 @@ pub fn pages_ok(medium: &[u8], blocks: u64, pages: u64, end: u64) -> bool
     requires end_value { end ≡ log_end medium.now blocks }
     ensures { result ≡ all_of (page_ok medium.now blocks pages) 0 pages }
 {
-    (0..pages).all(|page| page_ok(medium, blocks, pages, end, page))
+    (0..pages).all(|page| page_ok(medium, blocks, end, page))
 }

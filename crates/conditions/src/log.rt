@@ -1,11 +1,12 @@
 // The blocks that are read, and their commit records.
-ghost use Rattle.std.specs.Prelude.{◌≡◌, ◌+◌, ◌<◌, ◌≤◌, ◌^◌, length, take};
+ghost use Rattle.std.specs.Prelude.{◌≡◌, ◌+◌, ◌<◌, ◌≤◌, ◌^◌, length};
 ghost use Rattle.store.specs.OpenLog.{matching};
 ghost use Rattle.store.specs.OpenPairs.{end_of_commitment};
 ghost use Rattle.conditions.specs.Cursor.{Ready, Valid, rest_of};
 ghost use Rattle.conditions.specs.Lookup.{match_of, commits_of, commit_among};
 
 use crate::cursor::{Cursor, Step};
+use arrayvec::ArrayVec;
 use layout::{CommitTime, EndPlace, TxNumber};
 
 // A commit record, with its end place.
@@ -14,6 +15,18 @@ pub struct Commit {
     pub number: TxNumber,
     pub time: CommitTime,
     pub end: EndPlace,
+}
+
+impl Default for Commit {
+    ghost is_default = { λ commit. commit ≡ record { number = record { 0 = 0 }; time = record { 0 = 0 }; end = record { 0 = 0 } } };
+
+    fn default() -> Self {
+        Commit {
+            number: TxNumber(0),
+            time: CommitTime(0),
+            end: EndPlace(0),
+        }
+    }
 }
 
 // How many blocks are read: from the oldest on while sequences match.
@@ -31,27 +44,26 @@ pub fn read_count(medium: &[u8], blocks: u64, oldest: u64) -> u64
     blocks
 }
 
-// Gathers the commit records from the cursor on, so that each is read from the log once, and answers how many there are.
-// A record takes 19 of a block's 512 bytes, so that a log of 32 blocks holds fewer than 864.
-pub fn gather(medium: &[u8], blocks: u64, from: Cursor, commits: &mut [Commit; 864]) -> usize
+// Gathers the commit records from the cursor on, so that each is read from the log once. A record takes 19 of a block's
+// 512 bytes, so that a log of 32 blocks has no more than 864.
+pub fn gather(medium: &[u8], blocks: u64, from: Cursor) -> ArrayVec<Commit, 864>
     requires ready { Ready blocks (length medium.now) }
     requires valid { Valid from }
-    ensures { (result ≤ 864) × (take result commits.new ≡ commits_of (rest_of medium.now blocks from)) }
+    ensures { result.items ≡ commits_of (rest_of medium.now blocks from) }
 {
-    let mut count = 0;
+    let mut commits = ArrayVec::new();
     let mut cursor = from;
     loop {
         match crate::cursor::next(medium, blocks, cursor) {
-            Step::Done => return count,
+            Step::Done => return commits,
             Step::Skip(next) => cursor = next,
             Step::Written(_, _, _, next) => cursor = next,
             Step::Committed(pair, end, next) => {
-                commits[count] = Commit {
+                commits.push(Commit {
                     number: pair.number,
                     time: pair.time,
                     end,
-                };
-                count += 1;
+                });
                 cursor = next;
             }
         }

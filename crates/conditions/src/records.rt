@@ -31,7 +31,7 @@ fn same_time(pairs: &Pairs, pair: Pair) -> bool
     ensures { result ≡ same_time (table_find pairs.now.medium.now pair.number.0) pairs.now.medium.now pair.time.0 }
 {
     match pairs.place(pair.number.0) {
-        Some(i) => layout::table::read(pairs.medium, i).time.0 == pair.time.0,
+        Some(i) => layout::table::read(pairs.medium, i).time == pair.time,
         None => true,
     }
 }
@@ -77,5 +77,5 @@ fn commit_ok(pairs: &Pairs, pair: Pair, end: EndPlace) -> bool
     number_ok(pair.number)
         && pair.time.0 != 0
         && same_time(pairs, pair)
-        && crate::log::end_under(pairs.commits, pair.number.0).0 == end.0
+        && crate::log::end_under(pairs.commits, pair.number.0) == end
 }

@@ -1,16 +1,23 @@
 // The slots of the cache once redo is done: pages full, earlier slots, times and bounds.
-ghost use Rattle.std.specs.Prelude.{◌≡◌, true, ◌&&◌, [], suc, ◌+◌, ◌*◌, ◌<◌, ◌≤◌, length};
+ghost use Rattle.std.specs.Prelude.{◌≡◌, ◌&&◌, [], suc, ◌+◌, ◌*◌, ◌<◌, ◌≤◌, length};
 ghost use Rattle.store.specs.Chain.{cell_at, version_time};
 ghost use Rattle.store.specs.OpenLog.{read_log, next_number, last_time};
 ghost use Rattle.store.specs.OpenPairs.{pair_time};
-ghost use Rattle.store.specs.OpenConditions.{slot_in_bounds, slot_at_least_one, full_before};
+ghost use Rattle.store.specs.OpenConditions.{slot_in_bounds, slot_at_least_one, full_before, not_above};
 ghost use Rattle.cached.specs.Room.{Room};
-ghost use Rattle.conditions.specs.Lookup.{KeysBelow, Tracks, time_fits, times_after};
+ghost use Rattle.conditions.specs.Lookup.{KeysBelow, Tracks};
 ghost use Rattle.conditions.specs.Passes.{all_of, slot_ok};
 
 use crate::pairs::Pairs;
 use layout::CommitTime;
 use layout::slot::Slot;
+
+// A record's newest version of the slots seen, 65535 for none, and the newest time of its versions.
+#[derive(Clone, Copy)]
+struct Newest {
+    slot: u16,
+    time: Option<CommitTime>,
+}
 
 // Is the page full, the last one, or the one behind it unused?
 fn page_full(cache: &[u8], pages: u64, page: u64) -> bool
@@ -60,52 +67,47 @@ fn time_of(pairs: &Pairs, slot: Slot) -> Option<CommitTime>
     }
 }
 
-// Is the time not below the record's newest one before it? It is then the newest.
-fn follows(times: &mut [u64; 1024], key: u16, time: Option<CommitTime>) -> bool
-    requires { key < 1024 }
-    ensures { (result ≡ time_fits times.old key time) × (times.new ≡ times_after times.old key time) }
+// Is a time not above a later one, where both are there?
+fn not_above(before: Option<CommitTime>, time: Option<CommitTime>) -> bool
+    ensures { result ≡ not_above before time }
 {
-    let Some(time) = time else {
-        return true;
-    };
-    let newest = &mut times[key as usize];
-    let follows = *newest <= time.0;
-    *newest = time.0;
-    follows
+    match (before, time) {
+        (Some(before), Some(time)) => before.0 <= time.0,
+        _ => true,
+    }
 }
 
-// A slot: its earlier slot and its time against those of its record before it, and its bounds.
+// A slot: its earlier slot and its time against those of its record before it, and its bounds. It is then its record's
+// newest.
 fn slot_ok(
     pairs: &Pairs,
-    pages: u64,
     cache: &[u8],
     n: u64,
     next: u64,
     last: u64,
-    newest: &mut [u16; 1024],
-    times: &mut [u64; 1024],
+    newest: &mut [Newest; 1024],
 ) -> bool
     requires room { Room (length cache.now) (suc n) }
     requires n_bound { (cell_at cache.now n).key < 1024 }
     requires next_value { (next ≡ next_number pairs.now.medium.now pairs.now.blocks) × (last ≡ last_time pairs.now.medium.now pairs.now.blocks) }
-    requires tracks { Tracks pairs.now.medium.now pairs.now.blocks pages cache.now n newest.old times.old }
-    ensures { (result ≡ slot_ok pairs.now.medium.now pairs.now.blocks pages cache.now n) × (result ≡ true → Tracks pairs.now.medium.now pairs.now.blocks pages cache.now (suc n) newest.new times.new) }
+    requires tracks { Tracks pairs.now.medium.now pairs.now.blocks cache.now n newest.old }
+    ensures value { result ≡ slot_ok pairs.now.medium.now pairs.now.blocks 0 cache.now n }
+    ensures tracks { Tracks pairs.now.medium.now pairs.now.blocks cache.now (suc n) newest.new }
 {
     let slot = cached::state_at(cache, n);
     if !cached::is_version(slot) {
         return true;
     }
-    let key = cached::key_at(cache, n);
-    let k = key as usize;
-    if u64::from(newest[k]) != cached::earlier_at(cache, n) {
-        return false;
-    }
-    newest[k] = n as u16;
+    let key = cached::key_at(cache, n) as usize;
+    let before = newest[key];
     let time = time_of(pairs, slot);
-    if !follows(times, key, time) {
-        return false;
-    }
-    in_bounds(slot, next, last)
+    newest[key] = Newest {
+        slot: n as u16,
+        time: time.or(before.time),
+    };
+    u64::from(before.slot) == cached::earlier_at(cache, n)
+        && not_above(before.time, time)
+        && in_bounds(slot, next, last)
 }
 
 // All slots of the cache.
@@ -115,10 +117,13 @@ pub fn all_ok(pairs: &Pairs, pages: u64, cache: &[u8], next: u64, last: u64) -> 
     requires next_value { (next ≡ next_number pairs.now.medium.now pairs.now.blocks) × (last ≡ last_time pairs.now.medium.now pairs.now.blocks) }
     ensures { result ≡ all_of (slot_ok pairs.now.medium.now pairs.now.blocks pages cache.now) 0 (15 * pages) }
 {
-    let mut newest = [65535; 1024];
-    let mut times = [0; 1024];
+    let none = Newest {
+        slot: 65535,
+        time: None,
+    };
+    let mut newest = [none; 1024];
     for n in 0..15 * pages {
-        if !slot_ok(pairs, pages, cache, n, next, last, &mut newest, &mut times) {
+        if !slot_ok(pairs, cache, n, next, last, &mut newest) {
             return false;
         }
     }

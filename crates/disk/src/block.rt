@@ -20,7 +20,10 @@ fn of_log(state: &State) -> u64
     ensures { result ≡ log_block state.now }
 {
     if memory::fit::in_range(state.blocks, state.pages) {
-        return layout::place::log_block(state.blocks, layout::journal::sequence(&state.tail)) as u64;
+        return layout::place::log_block(
+            state.blocks,
+            layout::journal::sequence(&state.tail),
+        ) as u64;
     }
     0
 }

@@ -7,7 +7,6 @@ ghost use Rattle.rooms.specs.Parts.{stage_of, room_of};
 ghost use Rattle.disk.specs.Stored.{is_format, stored, Whole};
 
 use crate::block;
-use rooms::parts;
 use rooms::parts::Standing;
 use rooms::plan::Plan;
 use script::call::Asked;
@@ -60,14 +59,24 @@ pub fn play(
         ≡ medium_in (room_of result.standing medium.new cache.new state.new) }
 {
     let call = asked.call;
-    let e = block::extent_of(block::of(call, state), parts::medium_part(t));
+    let e = block::extent_of(block::of(call, state), t.medium_part());
     let mut before = [0u8; 512];
     block::keep(e, medium, &mut before);
-    let stepped = turns::step::step(asked, p, t, state, medium, cache, buffer, out, n);
-    let standing = stepped.standing;
+    let mut standing = t;
+    let n = turns::step::step(
+        asked,
+        p,
+        &mut standing,
+        state,
+        medium,
+        cache,
+        buffer,
+        out,
+        n,
+    );
     Played {
-        standing: standing,
-        n: stepped.n,
+        standing,
+        n,
         changed: block::differ(e, medium, &before),
         at: e.at,
         len: e.len,

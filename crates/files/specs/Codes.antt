@@ -42,9 +42,11 @@ abbrev pub store_failure : StoreError → Failure
 store_failure untaken = Unwritten
 store_failure unsaid = Unsynced
 
--- striproom, "Program and launcher": a descriptor that is neither a standard stream's nor that of the exit code
-abbrev pub is_free : ℤ → ℕ → Bool
-is_free (pos k) to = cond (ltb k 3) false (not (eqb k to))
+-- striproom, "Program and launcher": a descriptor that is neither a standard stream's nor that of the exit code, if that
+-- is written to one
+abbrev pub is_free : ℤ → Option ℕ → Bool
+is_free (pos k) (Some to) = cond (ltb k 3) false (not (eqb k to))
+is_free (pos k) None = not (ltb k 3)
 is_free (negsuc k) to = false
 
 -- striproom, the table of the exit codes: what each says behind the file's name; how to use the program is said by itself

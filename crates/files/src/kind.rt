@@ -20,8 +20,8 @@ pub fn is_regular(file: &File) -> bool {
 
 // May the file have this descriptor? The first three are those of the standard streams and `to` that of the exit code:
 // one of them that was closed goes to the next file that is opened, and what is written there would go into the medium.
-pub fn is_free(fd: i32, to: u8) -> bool
+pub fn is_free(fd: i32, to: Option<u8>) -> bool
     ensures { result ≡ is_free fd to }
 {
-    fd >= 3 && fd != i32::from(to)
+    fd >= 3 && to.is_none_or(|to| fd != i32::from(to))
 }

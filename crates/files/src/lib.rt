@@ -1,5 +1,5 @@
-// A medium in a file: std's calls on an open file. Their contracts tell what a call may answer, not which bytes it reads
-// or writes or what the disk then holds. So the statements here are about the answers: which outcome each of them has.
+// A medium in a file: std's calls on an open file. Their contracts tell what a call may answer, not which bytes it
+// reads or writes or what the disk then holds. So the statements here are about the answers: which outcome each has.
 #![tactic(auto)]
 
 mod failure;

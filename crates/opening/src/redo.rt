@@ -49,8 +49,8 @@ fn apply(cache: &mut [u8], head: VersionHead, end: EndPlace, value: &[u8])
     );
 }
 
-// Applies the version records from the cursor on, and notes for each page the block of the first applied. Answers whether
-// every one stood in the next slot of its page.
+// Applies the version records from the cursor on, and notes for each page the block of the first applied. Answers
+// whether every one stood in the next slot of its page.
 pub fn run(
     medium: &[u8],
     blocks: u64,

@@ -12,7 +12,6 @@ ghost use Rattle.conditions.specs.Passes.{master_ok, table_and_slots};
 ghost use Rattle.opening.specs.Surveyed.{ReadAs, Applied};
 
 use conditions::cursor::Cursor;
-use conditions::log::Commit;
 use conditions::pairs::Pairs;
 use layout::{CommitTime, EndPlace, TxNumber};
 use store::{Phase, State};
@@ -46,8 +45,8 @@ fn log_end(medium: &[u8], blocks: u64, oldest: u64, count: u64) -> u64
     512 * last + layout::journal::used(&medium[start..start + 512])
 }
 
-// Where the log's records begin, and the log's end, if the master, the log blocks and the pages are in form as they lie on
-// the medium.
+// Where the log's records begin, and the log's end, if the master, the log blocks and the pages are in form as they lie
+// on the medium.
 fn read_log(medium: &[u8], blocks: u64, pages: u64) -> Option<(Cursor, u64)>
     requires ready { Ready blocks (length medium.now) }
     requires pages_bound { (pages ≤ 64) × (length medium.now ≡ medium_length blocks pages) }
@@ -144,17 +143,12 @@ fn judge(
     ensures verdict { is_some result ≡ well_formed medium.now blocks pages }
     ensures value { IfSome result (λ state. state ≡ opened_state medium.now blocks pages) }
 {
-    let mut gathered = [Commit {
-        number: TxNumber(0),
-        time: CommitTime(0),
-        end: EndPlace(0),
-    }; 864];
-    let count = conditions::log::gather(medium, blocks, log, &mut gathered);
+    let commits = conditions::log::gather(medium, blocks, log);
     let pairs = Pairs {
         medium,
         blocks,
         used: conditions::table::extent(medium),
-        commits: &gathered[..count],
+        commits: &commits,
     };
     let tally = conditions::records::all_ok(&pairs, log)?;
     let given = fields::field::get8(medium, 24);
@@ -181,8 +175,8 @@ fn judge(
     })
 }
 
-// Opens a medium, if it is well formed: the cache then holds the pages as redo leaves them, the state what the medium gives,
-// and the answer is the last time. Else the state is left as it was.
+// Opens a medium, if it is well formed: the cache then holds the pages as redo leaves them, the state what the medium
+// gives, and the answer is the last time. Else the state is left as it was.
 pub fn open_state(
     medium: &[u8],
     blocks: u64,

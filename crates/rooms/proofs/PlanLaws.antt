@@ -88,31 +88,31 @@ no_call (Page page) v s m c x y z u w f g h e = refl
 no_call (Poke offset byte) v s m c x y z u w f g h e = refl
 no_call Other v s m c x y z u w f g h e = refl
 
--- the lines that the match on those that change a room leaves to its last arm
-pub no_rest : (k : Call) (n : ℕ) → ((a b : ℕ) → k ≡ Format a b → ⊥) → ((a : ℕ) → k ≡ Open a → ⊥)
+-- the lines that the match on those that change a room leaves to its last arm are calls of an opened store
+pub rest_stage : (k : Call) (n : ℕ) → ((a b : ℕ) → k ≡ Format a b → ⊥) → ((a : ℕ) → k ≡ Open a → ⊥)
     → ((a : ℕ) → k ≡ OpenSized a → ⊥) → (k ≡ Cut → ⊥) → ((a b : ℕ) → k ≡ Poke a b → ⊥)
-    → (plan_of k).looks ≡ false → ((plan_of k).stage ≡ 3 → ⊥) → (plan_of k).stage ≤ n → n ≤ 3 → ⊥
+    → (plan_of k).looks ≡ false → (plan_of k).stage ≤ n → n ≤ 3 → (plan_of k).stage ≡ 3
 unfolding plan_of
-no_rest (Format l d) n x y z u w e f h g = x l d refl
-no_rest (Open byte) n x y z u w e f h g = y byte refl
-no_rest (OpenSized bytes) n x y z u w e f h g = z bytes refl
-no_rest Cut n x y z u w e f h g = u refl
-no_rest (Begin clock) n x y z u w e f h g = f refl
-no_rest (Write number key) n x y z u w e f h g = f refl
-no_rest (Erase number key) n x y z u w e f h g = f refl
-no_rest (Read number key) n x y z u w e f h g = no (sym e)
-no_rest (Commit number clock) n x y z u w e f h g = f refl
-no_rest (Abort number) n x y z u w e f h g = f refl
-no_rest (Hand flight from to began ended) n x y z u w e f h g = f refl
-no_rest (AsOf key time) n x y z u w e f h g = no (sym e)
-no_rest (Changes key t1 t2 bytes) n x y z u w e f h g = no (sym e)
-no_rest StoreLog n x y z u w e f h g = f refl
-no_rest (StorePage page) n x y z u w e f h g = f refl
-no_rest Checkpoint n x y z u w e f h g = f refl
-no_rest (Block block) n x y z u w e f h g = no (sym e)
-no_rest (Page page) n x y z u w e f h g = no (sym e)
-no_rest (Poke offset byte) n x y z u w e f h g = w offset byte refl
-no_rest Other n x y z u w e f h g = omega arith
+rest_stage (Format l d) n x y z u w e h g = absurd (x l d refl)
+rest_stage (Open byte) n x y z u w e h g = absurd (y byte refl)
+rest_stage (OpenSized bytes) n x y z u w e h g = absurd (z bytes refl)
+rest_stage Cut n x y z u w e h g = absurd (u refl)
+rest_stage (Begin clock) n x y z u w e h g = refl
+rest_stage (Write number key) n x y z u w e h g = refl
+rest_stage (Erase number key) n x y z u w e h g = refl
+rest_stage (Read number key) n x y z u w e h g = no (sym e)
+rest_stage (Commit number clock) n x y z u w e h g = refl
+rest_stage (Abort number) n x y z u w e h g = refl
+rest_stage (Hand flight from to began ended) n x y z u w e h g = refl
+rest_stage (AsOf key time) n x y z u w e h g = no (sym e)
+rest_stage (Changes key t1 t2 bytes) n x y z u w e h g = no (sym e)
+rest_stage StoreLog n x y z u w e h g = refl
+rest_stage (StorePage page) n x y z u w e h g = refl
+rest_stage Checkpoint n x y z u w e h g = refl
+rest_stage (Block block) n x y z u w e h g = no (sym e)
+rest_stage (Page page) n x y z u w e h g = no (sym e)
+rest_stage (Poke offset byte) n x y z u w e h g = absurd (w offset byte refl)
+rest_stage Other n x y z u w e h g = absurd (omega arith)
 
 -- a cache of the right length
 pub open_right : (t : Standing) (m c : List ℕ) (s : State) (n byte : ℕ) (x : Turn) → 2 ≤ stage_of t

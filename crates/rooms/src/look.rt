@@ -38,7 +38,7 @@ fn list(
 // Plays a line that looks: puts what it prints behind the first n bytes of the output.
 pub fn look(
     asked: Asked,
-    t: Standing,
+    standing: Standing,
     state: &State,
     medium: &[u8],
     cache: &[u8],
@@ -51,14 +51,14 @@ pub fn look(
     requires buffer_len { length buffer.old ≡ 40000 }
     requires n_in_bounds { n + 94000 ≤ length out.old }
     requires call_value { (plan_of asked.call).looks ≡ true }
-    requires call_bound { (plan_of asked.call).stage ≤ stage_of t }
+    requires call_bound { (plan_of asked.call).stage ≤ stage_of standing }
     ensures upper_bound { result ≤ n + 94000 }
     ensures prints { Prints (take n out.old) (take result out.new)
-        (room_of t medium.now cache.now state.now)
-        (turn_of asked (room_of t medium.now cache.now state.now)) }
+        (room_of standing medium.now cache.now state.now)
+        (turn_of asked (room_of standing medium.now cache.now state.now)) }
 {
-    let medium = &medium[..t.medium_part()];
-    let cache = &cache[..t.cache_part()];
+    let medium = &medium[..standing.medium_part()];
+    let cache = &cache[..standing.cache_part()];
     match asked.call {
         Call::Read(number, key) => {
             let reading = reads::current_read::current_read(state, medium, cache, number, key);

@@ -1,14 +1,18 @@
 -- The lines of bytes one after the other: the first ends at the first newline, and the others are those of the bytes
 -- behind it.
 use mathlib.Core.Path.{◌≡◌, refl, sym, ap, ◌∙◌}
+use mathlib.Core.Bool.{Bool}
 use mathlib.Core.List.{List, [], ◌∷◌}
 use Prim.Native.Nat.{ℕ, suc, ◌+◌, ◌-◌, ◌≤◌, ◌<◌}
 use native.Mathlib.Omega.{arith}
 use native.Mathlib.Numerals.{add-one}
 use lib.ListN.{length, take, drop, get_or, drop_of_length-le}
 use lib.Seq.{drop-cons, drop-drop}
-use lib.Dec.{eqb}
-use borrow.Author.Tests.{eq-eqb, ne_eqb}
+use lib.Dec.{eqb, ltb}
+use borrow.Author.Tests.{ltb-false}
+use Rattle.std.specs.Prelude.{unwrap_or, position}
+use Rattle.std.specs.List.{position_or_len}
+use Rattle.std.proofs.lemmas.List.Recursion.{is_position_or_len}
 use Rattle.script.specs.declared.line.Line.{Line}
 use Rattle.script.specs.declared.line.Taken.{Taken}
 use Rattle.script.specs.Words.{ahead, lines_of}
@@ -38,17 +42,29 @@ module _ (bs : List ℕ) (i : ℕ) (h : i < length bs) where
   pub lines_past : lines_of (drop i bs) ≡ line_in (drop i bs) ∷ lines_of (past_line (drop i bs))
   lines_past = rw (drop-cons bs i 0 h) (lines_cons (get_or bs i 0) (drop (suc i) bs))
 
-  pub line_stops : get_or bs i 0 ≡ 10 → line_in (drop i bs) ≡ []
-  unfolding line_in
-  line_stops e = ap line_in (drop-cons bs i 0 h) ∙ simp (eq-eqb _ _ e)
-
-  pub line_goes : (get_or bs i 0 ≡ 10 → ⊥) → length (line_in (drop i bs)) ≡ suc (length (line_in (drop (i + 1) bs)))
-  unfolding line_in
-  line_goes e = ap (λ (t : List ℕ). length (line_in t)) (drop-cons bs i 0 h) ∙ simp (ne_eqb _ _ e, add-one)
-
-pub line_none : (bs : List ℕ) (i : ℕ) → length bs ≤ i → length (line_in (drop i bs)) ≡ 0
+line_short : (bs : List ℕ) → length (line_in bs) ≤ length bs
 unfolding line_in
-line_none bs i h = ap (λ (t : List ℕ). length (line_in t)) (drop_of_length-le bs h)
+line_short [] = omega arith
+line_short (b ∷ bs) =
+    bool_case (eqb b 10) (λ e. simp e (omega arith)) (λ e. let h = line_short bs in simp e (omega arith))
+
+abbrev pub is_newline : ℕ → Bool
+is_newline b = eqb b 10
+
+line_position : (bs : List ℕ) → length (line_in bs) ≡ position_or_len is_newline bs
+unfolding line_in
+line_position =
+    is_position_or_len (λ (bs : List ℕ). length (line_in bs)) is_newline refl
+    (λ b bs. bool_case (eqb b 10) (λ e. simp e) (λ e. simp e (omega arith)))
+
+-- the first newline is where the line ends
+pub line_len : (bs : List ℕ) → unwrap_or (position is_newline bs) (length bs) ≡ length (line_in bs)
+line_len bs =
+    let e = line_position bs in
+    let h = line_short bs in
+    bool_case (ltb (position_or_len is_newline bs) (length bs))
+    (λ t. simp t (sym e))
+    (λ t. let g = ltb-false (position_or_len is_newline bs) (length bs) t in simp t (omega arith))
 
 -- up to the end that was found, and from behind it on
 module _ (bs : List ℕ) (i e : ℕ) (h : i < length bs) (p : e ≡ i + length (line_in (drop i bs))) where

@@ -1,5 +1,6 @@
 -- Request #112 in plain words follows from the search: each list of line numbers is a choice with a number, in the same
 -- order, and the search looks at all of them.
+use Rattle.std.specs.Prelude.{Option}
 use mathlib.Core.Path.{◌≡◌, refl, sym, ap, ◌∙◌}
 use mathlib.Core.Bool.{Bool, true, false}
 use mathlib.Core.List.{List, [], ◌∷◌}
@@ -32,7 +33,7 @@ picked_calls : (c : List Bool) (ls : List (List ℕ)) → calls_of (picked c ls)
 unfolding picked
 picked_calls [] ls = refl
 picked_calls (b ∷ c) [] = refl
-picked_calls (true ∷ c) (l ∷ ls) = ap (λ (t : List Call). line_of l ∷ t) (picked_calls c ls)
+picked_calls (true ∷ c) (l ∷ ls) = ap (λ (t : List (Option Call)). line_of l ∷ t) (picked_calls c ls)
 picked_calls (false ∷ c) (l ∷ ls) = picked_calls c ls
 
 -- a script of m + 1 lines

@@ -1,25 +1,25 @@
 -- What the code keeps in twelve places is the script: unused places are never chosen.
+use Rattle.std.specs.Prelude.{Option, None, Some, is_some}
 use mathlib.Core.Path.{◌≡◌, refl, sym, ap, ◌∙◌}
 use mathlib.Core.Bool.{Bool, true, false, cond}
 use mathlib.Core.List.{List, [], ◌∷◌, ◌++◌}
 use Prim.Native.Nat.{ℕ, zero, suc, ◌+◌, ◌-◌, ◌^◌, ◌≤◌, ◌<◌}
 use native.Mathlib.Omega.{arith}
 use native.Mathlib.Nat.{one-le-pow}
-use borrow.Author.Tests.{lt-ltb, le-ltb}
+use borrow.Author.Tests.{lt-ltb, ltb-false}
 use lib.ListN.{length, replicate, length-map}
 use lib.Dec.{eqb, ltb}
+use Rattle.std.specs.List.{count_by}
+use Rattle.std.proofs.lemmas.List.Recursion.{is_count_by}
 use Rattle.script.specs.Words.{lines_of}
 use Rattle.book.specs.declared.call.Call.{Call}
-use Rattle.book.specs.declared.call.Call.TheVariants.{Other}
 use Rattle.book.specs.Line.{line_of}
-use Rattle.book.specs.Room.{letter_of}
 use Rattle.fields.proofs.Choose.{bool_case}
-use Rattle.shortest.specs.declared.keep.Script.{Script}
 use Rattle.shortest.specs.Script.{script_of, calls_of, end_from, end_of, text_of}
 use Rattle.shortest.specs.Choice.{chosen_of, size_of, picked}
 use Rattle.shortest.specs.Search.{better_of, best_from, ends_as, shortest_of}
 use Rattle.shortest.specs.Prints.{too_long, shortest_text, shortened, prints_of}
-use Rattle.shortest.specs.Kept.{calls_in, KeptAs, flags_of, size_in, ends_in, best_in, flags_by, kept_flags}
+use Rattle.shortest.specs.Kept.{places_of, flags_of, size_in, ends_in, best_in, flags_by, kept_flags}
 
 pub length_chosen : (m j : ℕ) → length (chosen_of m j) ≡ suc m
 unfolding chosen_of
@@ -74,16 +74,16 @@ front : (ls : List (List ℕ)) → (rest : List (List ℕ)) × (ls ≡ script_of
 unfolding script_of
 front [] = ([], refl)
 front (l ∷ ls) =
-    bool_case (eqb (letter_of (line_of l)) 0) (λ e. (l ∷ ls, simp e))
-    (λ e. let h = front ls in (h.0, simp e (ap (λ (t : List (List ℕ)). l ∷ t) h.1)))
+    bool_case (is_some (line_of l)) (λ e. let h = front ls in (h.0, simp e (ap (λ (t : List (List ℕ)). l ∷ t) h.1)))
+    (λ e. (l ∷ ls, simp e))
 
 -- cs is a script of m + 1 calls, and ds the places that hold it
-module _ (m k : ℕ) (cs ds : List Call) (len : length cs ≡ suc m) (e : ds ≡ cs ++ replicate k Other) where
+module _ (m k : ℕ) (cs ds : List (Option Call)) (len : length cs ≡ suc m) (e : ds ≡ cs ++ replicate k None) where
   end_at : (j : ℕ) → end_of (picked (flags_of m j) ds) ≡ end_of (picked (chosen_of m j) cs)
   unfolding flags_of
   end_at j =
-      ap (λ (t : List Call). end_of (picked (chosen_of m j ++ replicate (11 - m) false) t)) e
-      ∙ ap end_of (picked_pad (chosen_of m j) (11 - m) cs (replicate k Other) (length_chosen m j ∙ sym len))
+      ap (λ (t : List (Option Call)). end_of (picked (chosen_of m j ++ replicate (11 - m) false) t)) e
+      ∙ ap end_of (picked_pad (chosen_of m j) (11 - m) cs (replicate k None) (length_chosen m j ∙ sym len))
 
   end_all : end_of (picked (flags_of m 0) ds) ≡ end_of cs
   end_all = end_at 0 ∙ ap end_of (all_chosen m cs len)
@@ -116,43 +116,65 @@ unfolding shortened too_long end_of end_from
 none_left [] h = refl
 none_left (l ∷ ls) h = absurd (omega arith)
 
--- s holds the script of an input
-module _ (bs : List ℕ) (s : Script) (h : KeptAs bs s) where
-  pub long_not : s.n ≤ 12 → too_long (script_of (lines_of bs)) ≡ false
-  unfolding too_long
-  long_not l =
-      let c = h.count in
-      let k : length (script_of (lines_of bs)) ≤ 12 = omega arith in le-ltb _ _ k
+-- no line, nothing to print
+pub prints_none : (bs : List ℕ) → length (script_of (lines_of bs)) ≡ 0 → [] ≡ prints_of bs
+unfolding prints_of
+prints_none bs z = none_left (script_of (lines_of bs)) z
 
-  pub long_so : 12 < s.n → too_long (script_of (lines_of bs)) ≡ true
-  unfolding too_long
-  long_so z =
-      let c = h.count in
-      let k : 12 < length (script_of (lines_of bs)) = omega arith in lt-ltb _ _ k
+pub few_lines : (ls : List (List ℕ)) → false ≡ too_long ls → length ls ≤ 12
+unfolding too_long
+few_lines ls e = ltb-false 12 (length ls) (sym e)
 
-  pub prints_none : s.n ≡ 0 → [] ≡ prints_of bs
-  unfolding prints_of
-  prints_none z = let c = h.count in none_left (script_of (lines_of bs)) (omega arith)
+pub prints_many : (bs : List ℕ) → true ≡ too_long (script_of (lines_of bs)) → prints_of bs ≡ []
+unfolding prints_of shortened
+prints_many bs e = simp (← e)
 
-  pub prints_many : 12 < s.n → [] ≡ prints_of bs
-  unfolding prints_of shortened
-  prints_many z = simp (long_so z)
+-- cs holds the script of an input, of m + 1 lines; f says which are printed, and x is their text
+pub prints_are : (bs : List ℕ) (cs : List (Option Call)) (m : ℕ) (f : List Bool) (x : List ℕ)
+    → cs ≡ places_of (script_of (lines_of bs)) → false ≡ too_long (script_of (lines_of bs))
+    → length (script_of (lines_of bs)) ≡ suc m
+    → f ≡ kept_flags cs m → x ≡ text_of (picked f (lines_of bs)) → x ≡ prints_of bs
+unfolding prints_of shortened shortest_text
+prints_are bs cs m f x p l n ef ex =
+    let ls = script_of (lines_of bs) in
+    let q : length ls - 1 ≡ m = omega arith in
+    let j : length (calls_of ls) ≡ suc m = length-map ls line_of ∙ n in
+    let u = front (lines_of bs) in
+    let g = flags_are m (12 - length ls) (calls_of ls) cs j p in
+    ex
+    ∙ ap (λ (t : List (List ℕ)). text_of (picked f t)) u.1
+    ∙ ap (λ (t : List Bool). text_of (picked t (ls ++ u.0))) (ef ∙ g)
+    ∙ text_of_law (eqb (end_of (calls_of ls)) 0) m (shortest_of m (calls_of ls)) ls u.0 n
+    ∙ simp (← l, q)
 
-  -- f says which lines are printed, and x is their text
-  pub prints_are : (f : List Bool) (x : List ℕ) → (s.n ≡ 0 → ⊥) → s.n ≤ 12
-      → f ≡ kept_flags (calls_in s.lines) (s.n - 1) → x ≡ text_of (picked f (lines_of bs)) → x ≡ prints_of bs
-  unfolding prints_of shortened shortest_text
-  prints_are f x z l ef ex =
-      let ls = script_of (lines_of bs) in
-      let m = s.n - 1 in
-      let c = h.count in
-      let n : length ls ≡ suc m = omega arith in
-      let q : length ls - 1 ≡ m = omega arith in
-      let j : length (calls_of ls) ≡ suc m = length-map ls line_of ∙ n in
-      let u = front (lines_of bs) in
-      let g = flags_are m (12 - s.n) (calls_of ls) (calls_in s.lines) j (h.calls l) in
-      ex
-      ∙ ap (λ (t : List (List ℕ)). text_of (picked f t)) u.1
-      ∙ ap (λ (t : List Bool). text_of (picked t (ls ++ u.0))) (ef ∙ g)
-      ∙ text_of_law (eqb (end_of (calls_of ls)) 0) m (shortest_of m (calls_of ls)) ls u.0 n
-      ∙ simp (long_not l, q)
+-- how many places hold a call
+unfoldable count_of : List (Option Call) → ℕ
+count_of [] = 0
+count_of (None ∷ cs) = count_of cs
+count_of (Some call ∷ cs) = 1 + count_of cs
+
+count_step : (o : Option Call) (cs : List (Option Call)) → count_of (o ∷ cs)
+    ≡ cond (is_some o) (1 + count_of cs) (count_of cs)
+unfolding count_of
+count_step None cs = refl
+count_step (Some call) cs = refl
+
+count_none : (k : ℕ) → count_of (replicate k None) ≡ 0
+unfolding count_of
+count_none zero = refl
+count_none (suc k) = count_none k
+
+count_calls : (ls : List (List ℕ)) (k : ℕ) → count_of (calls_of (script_of ls) ++ replicate k None)
+    ≡ length (script_of ls)
+unfolding script_of
+count_calls [] k = count_none k
+count_calls (l ∷ ls) k =
+    bool_case (is_some (line_of l))
+    (λ e. let h = count_calls ls k in simp e (count_step (line_of l) _ ∙ simp e (omega arith)))
+    (λ e. simp e (count_none k))
+
+pub count_script : (ls : List (List ℕ)) → count_by is_some (places_of (script_of ls)) ≡ length (script_of ls)
+unfolding count_of
+count_script ls =
+    sym (is_count_by count_of is_some refl count_step (places_of (script_of ls)))
+    ∙ count_calls ls (12 - length (script_of ls))

@@ -1,13 +1,13 @@
 -- What `stripbook` prints for lines: nothing from the first of another form on, and last the line of the last call,
 -- with the number that the calls end in.
 use Rattle.store.specs.declared.Refusal.{Refusal}
-use Rattle.std.specs.Prelude.{Option, None, Err, Ok, Result}
+use Rattle.std.specs.Prelude.{Option, None, Some, Err, Ok, Result, is_some}
 use mathlib.Core.Path.{◌≡◌, refl, sym, ap, ◌∙◌}
 use mathlib.Core.Bool.{Bool, true, false, cond}
 use mathlib.Core.List.{List, [], ◌∷◌, ◌++◌, append-nil, append_assoc}
 use Prim.Native.Nat.{ℕ, zero, suc, ◌-◌, ◌^◌, ◌<◌}
 use native.Mathlib.Omega.{arith}
-use borrow.Author.Tests.{eqb-true, eqb-false, ne_eqb}
+use borrow.Author.Tests.{eqb-false, ne_eqb}
 use lib.ListN.{length, get_or}
 use lib.Dec.{eqb, ltb}
 use Rattle.store.specs.declared.Answer.{Answer}
@@ -15,12 +15,12 @@ use Rattle.store.specs.declared.Answer.TheVariants.{Done, Begun, Written, Commit
 use Rattle.store.specs.Answer.{answer_number}
 use Rattle.script.specs.Words.{ahead, lines_of}
 use Rattle.script.specs.Run.{Step, followed, prints_from}
+use Rattle.book.specs.declared.call.Call.{Call}
 use Rattle.book.specs.Line.{line_of}
 use Rattle.book.specs.Room.{result_of, line_text, letter_of, printed}
-use Rattle.book.specs.Steps.{World, called, step_by}
-use Rattle.book.proofs.PlayLaws.{other_stops, call_goes}
+use Rattle.book.specs.Steps.{World, left_by, step_by}
 use Rattle.fields.proofs.Choose.{bool_case}
-use Rattle.shortest.specs.Script.{script_of, calls_of, outcome_in, left_by, end_from, text_of}
+use Rattle.shortest.specs.Script.{script_of, calls_of, outcome_in, end_from, text_of}
 use Rattle.shortest.specs.Choice.{chosen_of, picked}
 
 -- every line is so
@@ -36,7 +36,8 @@ pub data Plain : List ℕ → Type 0 where
 -- a line is of a form that `stripbook` takes, and has no newline
 pub record Taken (l : List ℕ) : Type 0 where
   pub plain : Plain l
-  pub asks : letter_of (line_of l) ≡ 0 → ⊥
+  pub call : Call
+  pub asks : line_of l ≡ Some call
 
 ahead_plain : (b : ℕ) (ls : List (List ℕ)) → (b ≡ 10 → ⊥) → Every Plain ls → Every Plain (ahead b ls)
 ahead_plain b [] h done = more (goes h ends) done
@@ -53,16 +54,17 @@ lines_plain (b ∷ bs) =
     cond_plain (eqb b 10) _ _ (more ends (lines_plain bs))
     (λ e. ahead_plain b (lines_of bs) (eqb-false b 10 e) (lines_plain bs))
 
-cond_taken : (b : Bool) (y : List (List ℕ)) → (b ≡ false → Every Taken y) → Every Taken (cond b [] y)
-cond_taken true y q = done
-cond_taken false y q = q refl
+option_case : {A : Type 0} {P : Type 0} (o : Option A) → ((x : A) → o ≡ Some x → P) → (o ≡ None → P) → P
+option_case None f g = g refl
+option_case (Some x) f g = f x refl
 
 script_taken : (ls : List (List ℕ)) → Every Plain ls → Every Taken (script_of ls)
 unfolding script_of
 script_taken [] done = done
 script_taken (l ∷ ls) (more p q) =
-    cond_taken (eqb (letter_of (line_of l)) 0) _
-    (λ e. more (record { plain = p; asks = eqb-false _ _ e }) (script_taken ls q))
+    option_case (line_of l)
+    (λ call e. simp e (more (record { plain = p; call = call; asks = e }) (script_taken ls q)))
+    (λ e. simp e done)
 
 pub script_lines : (bs : List ℕ) → Every Taken (script_of (lines_of bs))
 script_lines bs = script_taken (lines_of bs) (lines_plain bs)
@@ -90,24 +92,16 @@ lines_back (l ∷ ls) (more p q) =
 abbrev pub says : World → List ℕ → Step World
 says w l = step_by w (line_of l)
 
--- what is printed if a line does so, with the lines behind it
-abbrev then : List (List ℕ) → Step World → List ℕ
-then ls s = followed s (λ v. prints_from says v ls)
-
 -- lines from the first of another form on print nothing
 pub prints_script : (ls : List (List ℕ)) (w : World) → prints_from says w ls ≡ prints_from says w (script_of ls)
-unfolding prints_from script_of
+unfolding prints_from script_of step_by
 prints_script [] w = refl
 prints_script (l ∷ ls) w =
-    let call = line_of l in
-    let o = outcome_in w call in
-    bool_case (eqb (letter_of call) 0) (λ e. simp e (ap (then ls) (other_stops w call (eqb-true _ _ e))))
-    (λ e.
-    let g : step_by w call ≡ called w call = call_goes w call (eqb-false _ _ e) in
-    simp e
-    (ap (then ls) g
-    ∙ ap (λ (t : List ℕ). printed call o ++ t) (prints_script ls (left_by o))
-    ∙ ap (then (script_of ls)) (sym g)))
+    option_case (line_of l)
+    (λ call e.
+    let o = outcome_in w (Some call) in
+    simp e (ap (λ (t : List ℕ). printed call o ++ t) (prints_script ls (left_by o))))
+    (λ e. simp e)
 
 -- a refusal has no result
 refused_dash : (a : Result Answer Refusal) (b : ℕ) → (answer_number a ≡ 0 → ⊥) → result_of a b ≡ None
@@ -123,18 +117,22 @@ refused_dash (Ok Erased) b h = refl
 refused_dash (Ok Present) b h = absurd (h refl)
 refused_dash (Ok (Listed k)) b h = absurd (h refl)
 
+abbrev letter_in : Option Call → ℕ
+letter_in None = 0
+letter_in (Some call) = letter_of call
+
 -- the letter of the last line
 unfoldable pub last_letter : List (List ℕ) → ℕ
 last_letter [] = 0
-last_letter (l ∷ []) = letter_of (line_of l)
+last_letter (l ∷ []) = letter_in (line_of l)
 last_letter (l ∷ (k ∷ ls)) = last_letter (k ∷ ls)
 
 -- the first line is printed by its outcome, and then the others
-step_prints : (l : List ℕ) (ls : List (List ℕ)) (w : World) → (letter_of (line_of l) ≡ 0 → ⊥)
+step_prints : (l : List ℕ) (ls : List (List ℕ)) (w : World) (call : Call) → line_of l ≡ Some call
     → prints_from says w (l ∷ ls)
-    ≡ printed (line_of l) (outcome_in w (line_of l)) ++ prints_from says (left_by (outcome_in w (line_of l))) ls
-unfolding prints_from
-step_prints l ls w h = ap (then ls) (call_goes w (line_of l) h)
+    ≡ printed call (outcome_in w (Some call)) ++ prints_from says (left_by (outcome_in w (line_of l))) ls
+unfolding prints_from step_by
+step_prints l ls w call e = simp e
 
 -- what lines print last: their number, and no result where that is a refusal
 pub record LastShown (ls : List (List ℕ)) (r : ℕ) (text : List ℕ) : Type 0 where
@@ -148,22 +146,22 @@ pub last_shown : (ls : List (List ℕ)) (w : World) (r : ℕ) → Every Taken ls
 unfolding end_from last_letter printed prints_from
 last_shown [] w r h n = absurd (omega arith)
 last_shown (l ∷ []) w r (more p q) n =
-    let o = outcome_in w (line_of l) in
+    let o = outcome_in w (Some p.call) in
     record {
       others = [];
       result = result_of o.answer (get_or o.value 0 0);
-      is = step_prints l [] w p.asks ∙ append-nil _;
-      dash = refused_dash o.answer (get_or o.value 0 0);
+      is = step_prints l [] w p.call p.asks ∙ append-nil _ ∙ simp p.asks;
+      dash = λ h. refused_dash o.answer (get_or o.value 0 0) (λ z. h (simp p.asks z));
     }
 last_shown (l ∷ (k ∷ ls)) w r (more p q) n =
     let o = outcome_in w (line_of l) in
-    let x = printed (line_of l) o in
+    let x = printed p.call (outcome_in w (Some p.call)) in
     let ih = last_shown (k ∷ ls) (left_by o) (answer_number o.answer) q (omega arith) in
     let g = sym (append_assoc x ih.others _) in
     record {
       others = x ++ ih.others;
       result = ih.result;
-      is = step_prints l (k ∷ ls) w p.asks ∙ ap (λ (t : List ℕ). x ++ t) ih.is ∙ g;
+      is = step_prints l (k ∷ ls) w p.call p.asks ∙ ap (λ (t : List ℕ). x ++ t) ih.is ∙ g;
       dash = ih.dash;
     }
 

@@ -10,12 +10,7 @@ use book::room;
 use store::State;
 
 // Makes the call of a line; answers 0 or its refusal. A place without a line makes none.
-fn make(
-    line: Option<Call>,
-    state: &mut State,
-    medium: &mut [u8],
-    cache: &mut [u8],
-) -> u64
+fn make(line: Option<Call>, state: &mut State, medium: &mut [u8], cache: &mut [u8]) -> u64
     ensures { made (world state.new medium.new cache.new) result ≡ made_of (world state.old medium.old cache.old) line }
 {
     match line {
@@ -35,9 +30,9 @@ pub fn play(flags: [bool; 12], calls: &[Option<Call>; 12]) -> u64
     let _ = media::format::format(&mut medium, 4, 2);
     let _ = media::open::open(&medium, &mut cache, &mut state, 4, 2);
     let mut number = 0;
-    for i in 0..12 {
-        if flags[i] {
-            number = make(calls[i], &mut state, &mut medium, &mut cache);
+    for (&chosen, &line) in flags.iter().zip(calls) {
+        if chosen {
+            number = make(line, &mut state, &mut medium, &mut cache);
         }
     }
     number

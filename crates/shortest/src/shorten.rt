@@ -1,5 +1,5 @@
 // Shortening a script.
-ghost use Rattle.std.specs.Prelude.{◌≡◌, ◌<◌, ◌≤◌, [], length, take, is_err, IfOk, MatchResult};
+ghost use Rattle.std.specs.Prelude.{◌≡◌, ◌<◌, ◌≤◌, [], length, take, is_err, IfOk, OnErr};
 ghost use Rattle.script.specs.Words.{lines_of};
 ghost use Rattle.shortest.specs.Script.{script_of};
 ghost use Rattle.shortest.specs.Prints.{too_long, prints_of};
@@ -12,10 +12,11 @@ pub fn shorten(bytes: &[u8], out: &mut [u8]) -> Result<usize, TooLong>
     requires { length bytes.now < length out.old }
     ensures bound { IfOk result (λ n. n ≤ length out.new) }
     ensures long { is_err result ≡ too_long (script_of (lines_of bytes.now)) }
-    ensures out_after { MatchResult result (λ n. take n out.new ≡ prints_of bytes.now) (λ _. prints_of bytes.now ≡ []) }
+    ensures out_after { IfOk result (λ n. take n out.new ≡ prints_of bytes.now) }
+    ensures nothing { OnErr result (prints_of bytes.now ≡ []) }
 {
     let calls = keep::keep(bytes)?;
-    let count = calls.iter().flatten().count();
+    let count = calls.iter().filter(|call| call.is_some()).count();
     let Some(m) = count.checked_sub(1) else {
         return Ok(0);
     };

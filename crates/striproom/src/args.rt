@@ -1,53 +1,20 @@
 // The arguments: a file, and perhaps the descriptor to which the exit code is written.
-ghost use Rattle.std.specs.Prelude.{◌≡◌, ◌<◌};
-ghost use Rattle.striproom.specs.Arguments.{one_digit, two_digits, descriptor_of, is_right};
+ghost use Rattle.std.specs.Prelude.{◌≡◌, ◌<◌, Ok, None};
+ghost use Rattle.striproom.specs.Arguments.{descriptor_of, is_right};
 
+use files::Failure;
 use std::env::{Env, FillError};
 use std::io::Print;
 
-// A descriptor of one digit; 1 where it is none from 3 on.
-fn one_digit(a: u8) -> u8
-    ensures { result ≡ one_digit a }
-{
-    if a < b'3' {
-        return 1;
-    }
-    if b'9' < a {
-        return 1;
-    }
-    a - b'0'
-}
-
-// A descriptor of two digits; 1 where they are none from 10 on.
-fn two_digits(a: u8, b: u8) -> u8
-    ensures { result ≡ two_digits a b }
-{
-    if a < b'1' {
-        return 1;
-    }
-    if b'9' < a {
-        return 1;
-    }
-    if b < b'0' {
-        return 1;
-    }
-    if b'9' < b {
-        return 1;
-    }
-    10 * (a - b'0') + (b - b'0')
-}
-
-// The descriptor that a word names, from 3 to 99; 1 for another word.
-fn descriptor(word: &[u8]) -> u8
+// The descriptor that a word names, from 3 to 99.
+fn descriptor(word: &[u8]) -> Option<u8>
     ensures { result ≡ descriptor_of word.now }
 {
-    if word.len() == 1 {
-        return one_digit(word[0]);
+    match *word {
+        [a @ b'3'..=b'9'] => Some(a - b'0'),
+        [a @ b'1'..=b'9', b @ b'0'..=b'9'] => Some(10 * (a - b'0') + (b - b'0')),
+        _ => None,
     }
-    if word.len() == 2 {
-        return two_digits(word[0], word[1]);
-    }
-    1
 }
 
 // Is there an argument i? The program's own name is argument 0.
@@ -69,35 +36,24 @@ pub fn count(rt: &impl Env) -> usize {
     4
 }
 
-// Where the exit code goes: 0 for nowhere, 1 where the second argument is no descriptor.
-pub fn code_to(rt: &impl Env, count: usize) -> u8
-    ensures { count < 3 → result ≡ 0 }
+// Where the exit code goes, if anywhere. An error where the second argument is no descriptor.
+pub fn code_to(rt: &impl Env, count: usize) -> Result<Option<u8>, Failure>
+    ensures { count < 3 → result ≡ Ok None }
 {
     if count < 3 {
-        return 0;
+        return Ok(None);
     }
     // A word of more than two bytes is no descriptor, so a longer one need not be read.
-    let mut word = [0u8; 2];
-    match rt.arg(2, &mut word) {
-        Ok(n) => descriptor(&word[..n]),
-        Err(_) => 1,
-    }
+    let mut word = [0; 2];
+    let n = rt.arg(2, &mut word).map_err(|_| Failure::Usage)?;
+    descriptor(&word[..n]).map(Some).ok_or(Failure::Usage)
 }
 
 // Is there a file with a name, and at most a descriptor beside it?
-pub fn is_right(count: usize, n: usize, to: u8) -> bool
-    ensures { result ≡ is_right count n to }
+pub fn is_right(count: usize, n: usize, known: bool) -> bool
+    ensures { result ≡ is_right count n known }
 {
-    if count < 2 {
-        return false;
-    }
-    if 3 < count {
-        return false;
-    }
-    if n == 0 {
-        return false;
-    }
-    to != 1
+    (2..=3).contains(&count) && n != 0 && known
 }
 
 // How to use the program, said on standard error.

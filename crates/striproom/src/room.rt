@@ -1,112 +1,71 @@
 // The file that holds the medium.
-ghost use Rattle.std.specs.Prelude.{◌≡◌, true, ◌≤◌, length, None, Some};
-ghost use Rattle.files.specs.Codes.{descriptor, is_free};
-ghost use Rattle.striproom.specs.File.{Apart};
+ghost use Rattle.std.specs.Prelude.{◌≡◌, ◌≤◌, length, IfOk, IfSome};
+ghost use Rattle.striproom.specs.File.{Apart, IsApart};
 
-use files::{Loaded, named, outcome};
+use files::{Failure, named};
 use std::fs::File;
 use std::os::fd::AsRawFd;
 use std::rt::Files;
 
-// A file (none: it is missing) and its length, or the exit code of what went wrong.
-#[derive(Drop)]
-pub struct Opened {
-    pub file: Option<File>,
-    pub bytes: usize,
-    pub code: u8,
-}
-
-// No file, for this reason.
-fn without(code: u8) -> Opened
-    ensures { result ≡ record { file = None; bytes = 0; code = code } }
-{
-    Opened {
-        file: None,
-        bytes: 0,
-        code: code,
-    }
-}
-
-// A file that is not used after all is closed.
-fn shut(file: File, code: u8) -> Opened
-    ensures { result ≡ record { file = None; bytes = 0; code = code } }
-{
-    drop(file);
-    without(code)
-}
-
-// A file that is used.
-fn used(file: File, bytes: usize) -> Opened
-    ensures { result ≡ record { file = Some file; bytes = bytes; code = 0 } }
-{
-    Opened {
-        file: Some(file),
-        bytes: bytes,
-        code: 0,
-    }
-}
-
-// Opens the file and reads it into the front of the medium.
-pub fn open(rt: &impl Files<File = File>, name: &[u8], to: u8, medium: &mut [u8]) -> Opened
-    ensures bytes_in_bounds { result.bytes ≤ length medium.old }
-    ensures apart { result.code ≡ 0 → Apart (descriptor result.file) to }
+// Opens the file, unless it is missing, and reads it into the front of the medium: the file and its length.
+pub fn open(
+    rt: &impl Files<File = File>,
+    name: &[u8],
+    to: Option<u8>,
+    medium: &mut [u8],
+) -> Result<Option<(File, usize)>, Failure>
+    ensures bytes_in_bounds { IfOk result (λ opened. IfSome opened (λ found. found.1 ≤ length medium.old)) }
+    ensures apart { IfOk result (λ opened. IfSome opened (λ found. IsApart to found.0)) }
 {
     match named::open_update(rt, name) {
-        Ok(file) => read(file, to, medium),
-        Err(error) => without(outcome::of_failed(error)),
+        Ok(file) => {
+            let n = read(&file, to, medium)?;
+            Ok(Some((file, n)))
+        }
+        Err(error) => match Failure::of_opening(error) {
+            Some(failure) => Err(failure),
+            None => Ok(None),
+        },
     }
 }
 
 // Reads the file that is open.
-fn read(file: File, to: u8, medium: &mut [u8]) -> Opened
-    ensures bytes_in_bounds { result.bytes ≤ length medium.old }
-    ensures apart { result.code ≡ 0 → Apart (descriptor result.file) to }
+fn read(file: &File, to: Option<u8>, medium: &mut [u8]) -> Result<usize, Failure>
+    ensures bytes_in_bounds { IfOk result (λ n. n ≤ length medium.old) }
+    ensures apart { IfOk result (λ n. IsApart to file.now) }
 {
     if !files::is_free(file.as_raw_fd(), to) {
-        return shut(file, 2);
+        return Err(Failure::Usage);
     }
-    if !files::is_regular(&file) {
-        return shut(file, 4);
+    if !files::is_regular(file) {
+        return Err(Failure::NotRegular);
     }
-    let loaded = files::load(&file, medium);
-    match loaded {
-        Loaded::Bytes(n) => used(file, n),
-        Loaded::TooLong => shut(file, 6),
-        Loaded::Failed => shut(file, 7),
-    }
+    Ok(files::load(file, medium)?)
 }
 
-// Makes a file that is missing.
-fn create(rt: &impl Files<File = File>, name: &[u8], to: u8) -> Opened
-    ensures { result.code ≡ 0 → is_free (descriptor result.file) to ≡ true }
+// Makes a file that is missing, and keeps it if its descriptor is free.
+fn create(rt: &impl Files<File = File>, name: &[u8], to: Option<u8>) -> Result<File, Failure>
+    ensures { IfOk result (IsApart to) }
 {
-    match named::create(rt, name) {
-        Ok(file) => keep_new(rt, name, to, file),
-        Err(_) => without(5),
-    }
-}
-
-// Keeps a file that was made, if its descriptor is free.
-fn keep_new(rt: &impl Files<File = File>, name: &[u8], to: u8, file: File) -> Opened
-    ensures { result.code ≡ 0 → is_free (descriptor result.file) to ≡ true }
-{
+    let file = named::create(rt, name).map_err(|_| Failure::Inaccessible)?;
     if !files::is_free(file.as_raw_fd(), to) {
         let _ = named::remove(rt, name);
-        return shut(file, 2);
+        return Err(Failure::Usage);
     }
-    used(file, 0)
+    Ok(file)
 }
 
 // The file for a formatting: the one that is open, or a new one.
-pub fn have(rt: &impl Files<File = File>, name: &[u8], to: u8, file: Option<File>) -> Opened
-    ensures { Apart (descriptor file) to → result.code ≡ 0 → is_free (descriptor result.file) to ≡ true }
+pub fn have(
+    rt: &impl Files<File = File>,
+    name: &[u8],
+    to: Option<u8>,
+    file: Option<File>,
+) -> Result<File, Failure>
+    ensures { Apart to file → IfOk result (IsApart to) }
 {
-    if files::descriptor(&file) < 0 {
-        return create(rt, name, to);
-    }
-    Opened {
-        file: file,
-        bytes: 0,
-        code: 0,
+    match file {
+        Some(file) => Ok(file),
+        None => create(rt, name, to),
     }
 }

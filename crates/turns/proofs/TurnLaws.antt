@@ -2,9 +2,10 @@
 -- outcome stands in their place.
 use Rattle.layout.specs.declared.CommitTime.{CommitTime}
 use Rattle.store.specs.declared.Refusal.{Refusal}
-use Rattle.std.specs.Prelude.{Ok, Result}
+use Rattle.store.specs.declared.Refusal.TheVariants.{BadSizes, BadCache, Malformed, NoPlace, NotActive, Held, NoSlot, LogFull, NoTime, NotYet, NoPage, NotLogged, Unchanged, ShortBuffer, NoNumber, Unfit, NoRecord}
+use Rattle.std.specs.Prelude.{Ok, Err, Result, is_ok}
 use mathlib.Core.Path.{◌≡◌, refl, sym, ap, ◌∙◌}
-use mathlib.Core.Bool.{false, cond, ◌&&◌}
+use mathlib.Core.Bool.{true, false, cond, ◌&&◌, false≢true}
 use mathlib.Core.List.{List, ◌++◌, append-nil}
 use Prim.Native.Nat.{ℕ, ◌≤◌, ◌<◌}
 use native.Mathlib.Omega.{arith}
@@ -33,11 +34,44 @@ use Rattle.script.specs.declared.call.Call.TheVariants.{Block, Page, Poke, Other
 use Rattle.script.specs.declared.call.Asked.{Asked}
 use Rattle.rooms.specs.declared.parts.Standing.{Standing}
 use Rattle.answers.specs.Text.{answer_text, handed_text}
+use Rattle.answers.proofs.TextLaws.{no_number}
 use Rattle.rooms.specs.Room.{Room, shut, ready, Turn, plan_of, fresh_length, formatted, right_length, opened, opening}
 use Rattle.rooms.specs.Room.{cut, poked, outcome_of, called, calling, handed, handing, moves, turn_by, turn_of}
 use Rattle.rooms.specs.Parts.{stage_of, medium_part, cache_part, room_of, stage_after, left_by}
 use Rattle.rooms.proofs.RoomLaws.{first_back, stage_case, stage_2, stage_3, room_gone, room_shut, room_ready}
 use Rattle.rooms.proofs.RoomLaws.{medium_in_law, blocks_in_law, pages_in_law, medium_part_law, no_medium}
+
+-- ---- whether a call is refused, by the number of its answer
+
+pub refused_number : (r : Refusal) → refusal_number r ≡ 0 → ⊥
+unfolding refusal_number
+refused_number BadSizes e = omega arith
+refused_number BadCache e = omega arith
+refused_number Malformed e = omega arith
+refused_number NoPlace e = omega arith
+refused_number NotActive e = omega arith
+refused_number Held e = omega arith
+refused_number NoSlot e = omega arith
+refused_number LogFull e = omega arith
+refused_number NoTime e = omega arith
+refused_number NotYet e = omega arith
+refused_number NoPage e = omega arith
+refused_number NotLogged e = omega arith
+refused_number Unchanged e = omega arith
+refused_number ShortBuffer e = omega arith
+refused_number NoNumber e = omega arith
+refused_number Unfit e = omega arith
+refused_number NoRecord e = omega arith
+
+pub stage_accepted : (a : Result Answer Refusal) → is_ok a ≡ true → 2 ≡ stage_after a
+unfolding stage_after
+stage_accepted (Ok x) e = simp (eq-eqb _ _ (no_number x))
+stage_accepted (Err r) e = absurd (false≢true e)
+
+pub stage_refused : (a : Result Answer Refusal) → is_ok a ≡ false → 1 ≡ stage_after a
+unfolding stage_after answer_number
+stage_refused (Ok x) e = absurd (false≢true (sym e))
+stage_refused (Err r) e = simp (ne_eqb _ _ (refused_number r))
 
 -- ---- formatting: what a medium held before does not matter
 

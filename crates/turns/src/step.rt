@@ -12,66 +12,45 @@ use rooms::plan::Plan;
 use script::call::{Asked, Call};
 use store::State;
 
-// How the room stands then, and how many bytes of the output are taken.
-#[derive(Clone, Copy)]
-pub struct Stepped {
-    pub standing: Standing,
-    pub n: usize,
-}
-
-// Plays a line that the room plays, and puts what it prints behind the first n bytes of the output.
+// Plays a line that the room plays, and puts what it prints behind the first n bytes of the output; answers how many
+// there are then.
 pub fn step(
     asked: Asked,
-    p: Plan,
-    t: Standing,
+    plan: Plan,
+    standing: &mut Standing,
     state: &mut State,
     medium: &mut [u8],
     cache: &mut [u8],
     buffer: &mut [u8],
     out: &mut [u8],
     n: usize,
-) -> Stepped
+) -> usize
     requires medium_len { length medium.old ≡ 50688 }
     requires cache_len { length cache.old ≡ 32768 }
     requires buffer_len { length buffer.old ≡ 40000 }
     requires n_in_bounds { n + 94000 ≤ length out.old }
-    requires p_value { p ≡ plan_of asked.call }
-    requires stage_bound { p.stage ≤ stage_of t }
-    ensures n_bound { result.n ≤ n + 94000 }
-    ensures out_after { take result.n out.new ≡ take n out.old
-        ++ (turn_of asked (room_of t medium.old cache.old state.old)).text }
-    ensures tail_after { room_of result.standing medium.new cache.new state.new
-        ≡ (turn_of asked (room_of t medium.old cache.old state.old)).room }
+    requires plan_value { plan ≡ plan_of asked.call }
+    requires stage_bound { plan.stage ≤ stage_of standing.old }
+    ensures n_bound { result ≤ n + 94000 }
+    ensures out_after { take result out.new ≡ take n out.old
+        ++ (turn_of asked (room_of standing.old medium.old cache.old state.old)).text }
+    ensures room_after { room_of standing.new medium.new cache.new state.new
+        ≡ (turn_of asked (room_of standing.old medium.old cache.old state.old)).room }
 {
-    if p.looks {
-        let end = look::look(asked, t, state, medium, cache, buffer, out, n);
-        return Stepped {
-            standing: t,
-            n: end,
-        };
+    if plan.looks {
+        return look::look(asked, *standing, state, medium, cache, buffer, out, n);
     }
-    let call = asked.call;
-    if let Call::Hand(flight, from, to, began, ended) = call {
+    if let Call::Hand(flight, from, to, began, ended) = asked.call {
         let transfer = Transfer {
-            flight: flight,
-            from: from,
-            to: to,
-            began: began,
-            ended: ended,
+            flight,
+            from,
+            to,
+            began,
+            ended,
         };
-        let answer = turn::hand(transfer, t, state, medium, cache);
-        let end = text::put_handed(out, n, answer);
-        return Stepped {
-            standing: t,
-            n: end,
-        };
+        let handed = turn::hand(transfer, *standing, state, medium, cache);
+        return text::put_handed(out, n, handed);
     }
-    let turned = turn::turn(asked, p, t, state, medium, cache, buffer);
-    let answer = turned.answer;
-    let end = text::put_answer(out, n, p.letter, answer, [0u8; 16]);
-    let standing = turned.standing;
-    Stepped {
-        standing: standing,
-        n: end,
-    }
+    let answer = turn::turn(asked, standing, state, medium, cache, buffer);
+    text::put_answer(out, n, plan.letter, answer, [0; 16])
 }

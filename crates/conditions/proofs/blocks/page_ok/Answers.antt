@@ -1,18 +1,19 @@
 -- The block of the page is lent; its form is judged, then its end place.
 use mathlib.Core.Path.{◌∙◌}
+use Prim.Native.Nat.{◌+◌}
 use native.Mathlib.Omega.{arith}
 use Rattle.layout.proofs.PlaceLaws.{page_block_high}
 use Rattle.conditions.proofs.BlockPasses.{page_bad, page_judged}
 use Rattle.conditions.proofs.blocks.page_ok.Goals as goal
 
 pub overflow_mul-start : goal.overflow_mul-start
-overflow_mul-start c = omega (arith, page_block_high c.args.blocks c.args.pages c.args.page (omega arith))
+overflow_mul-start c = omega (arith, page_block_high c.args.blocks (c.args.page + 1) c.args.page (omega arith))
 
 pub overflow_add-bytes : goal.overflow_add-bytes
-overflow_add-bytes c = omega (arith, page_block_high c.args.blocks c.args.pages c.args.page (omega arith))
+overflow_add-bytes c = omega (arith, page_block_high c.args.blocks (c.args.page + 1) c.args.page (omega arith))
 
 pub slice_bounds-bytes-end : goal.slice_bounds-bytes-end
-slice_bounds-bytes-end c = omega (arith, page_block_high c.args.blocks c.args.pages c.args.page (omega arith))
+slice_bounds-bytes-end c = omega (arith, page_block_high c.args.blocks (c.args.page + 1) c.args.page (omega arith))
 
 pub returns-then-in_form : goal.returns-then-in_form
 returns-then-in_form c =

@@ -11,13 +11,13 @@ use Rattle.rooms.proofs.look.look.Goals as goal
 pub slice_bounds-buffer-end : goal.slice_bounds-buffer-end
 unfolding plan_of
 slice_bounds-buffer-end c =
-    let f = within_fits _ 3 _ (plan_stage _ _ _ _ refl c.in-Changes.is c.requires.call_bound) (stage_most c.args.t) in
+    let f = within_fits _ 3 _ (plan_stage _ _ _ _ refl c.in-Changes.is c.requires.call_bound) (stage_most c.args.standing) in
     omega arith
 
 pub slice_bounds-buffer-end-in-Changes : goal.slice_bounds-buffer-end-in-Changes
 unfolding plan_of
 slice_bounds-buffer-end-in-Changes c =
-    let f = within_fits _ 3 _ (plan_stage _ _ _ _ refl c.in-Changes.is c.requires.call_bound) (stage_most c.args.t) in
+    let f = within_fits _ 3 _ (plan_stage _ _ _ _ refl c.in-Changes.is c.requires.call_bound) (stage_most c.args.standing) in
     first_length c.args.buffer.now _ (omega arith)
 
 pub unreachable-requires : goal.unreachable-requires
@@ -30,7 +30,7 @@ unfolding turn_of turn_by plan_of outcome_of
 returns-in-Read-clause-prints c =
     let k = c.args in
     simp c.in-Read.is
-    (look_call k.t k.medium.now k.cache.now k.state.now _ _ (take k.n k.out.now) _ _ _ (plan_stage _ _ _ _ refl c.in-Read.is c.requires.call_bound)
+    (look_call k.standing k.medium.now k.cache.now k.state.now _ _ (take k.n k.out.now) _ _ _ (plan_stage _ _ _ _ refl c.in-Read.is c.requires.call_bound)
     c.medium_part.ensures.value c.cache_part.ensures.value
     (read_prints _ _ _ _ _ _ _ _ _ _ _ refl c.put_reading.ensures.out_after c.current_read-reading.ensures))
 
@@ -39,7 +39,7 @@ unfolding turn_of turn_by plan_of outcome_of
 returns-in-AsOf-clause-prints c =
     let k = c.args in
     simp c.in-AsOf.is
-    (look_call k.t k.medium.now k.cache.now k.state.now _ _ (take k.n k.out.now) _ _ _ (plan_stage _ _ _ _ refl c.in-AsOf.is c.requires.call_bound)
+    (look_call k.standing k.medium.now k.cache.now k.state.now _ _ (take k.n k.out.now) _ _ _ (plan_stage _ _ _ _ refl c.in-AsOf.is c.requires.call_bound)
     c.medium_part.ensures.value c.cache_part.ensures.value
     (read_prints _ _ _ _ _ _ _ _ _ _ _ refl c.put_reading-in-AsOf.ensures.out_after c.as_of-reading.ensures))
 
@@ -47,9 +47,9 @@ pub returns-in-Changes-clause-prints : goal.returns-in-Changes-clause-prints
 unfolding turn_of turn_by plan_of outcome_of
 returns-in-Changes-clause-prints c =
     let k = c.args in
-    let f = within_fits _ 3 _ (plan_stage _ _ _ _ refl c.in-Changes.is c.requires.call_bound) (stage_most k.t) in
+    let f = within_fits _ 3 _ (plan_stage _ _ _ _ refl c.in-Changes.is c.requires.call_bound) (stage_most k.standing) in
     simp c.in-Changes.is
-    (look_call k.t k.medium.now k.cache.now k.state.now _ _ (take k.n k.out.now) _ _ _ f.1 c.medium_part.ensures.value c.cache_part.ensures.value
+    (look_call k.standing k.medium.now k.cache.now k.state.now _ _ (take k.n k.out.now) _ _ _ f.1 c.medium_part.ensures.value c.cache_part.ensures.value
     (look_list k.buffer.now (take k.n k.out.now) _ _ _ _ _ _ _ _ _ _ c.requires.buffer_len f.0 (c.list.ensures.by_index _ _)))
 
 pub returns-in-Block-clause-prints : goal.returns-in-Block-clause-prints

@@ -1,53 +1,36 @@
--- Invariant: the lines so far are chosen as in choice j, and the choice among those that are left is choice `rest` of
--- the lines behind them.
-use mathlib.Core.Path.{◌≡◌, refl, sym, ap, ◌∙◌}
-use Prim.Native.Nat.{◌+◌, ◌-◌, ◌^◌}
+-- A turn takes the highest bit that is left; behind the last one stands the line that is always chosen.
+use mathlib.Core.Path.{◌≡◌, refl}
+use Prim.Native.Nat.{◌-◌, ◌%◌, ◌^◌}
 use native.Mathlib.Omega.{arith}
-use lib.ListN.{length, drop, length-set}
-use Rattle.shortest.specs.Choice.{chosen_of}
-use Rattle.shortest.proofs.ChoiceLaws.{halved, even, chosen_in, chosen_out, next_in, next_out, last_in}
+use native.Mathlib.Nat.{mod-eq_of_lt}
+use lib.ListN.{length-set}
+use Rattle.shortest.proofs.ChoiceLaws.{next_chosen, next_false, last_in}
 use Rattle.shortest.proofs.choice.chosen.Goals as goal
-use Rattle.shortest.proofs.choice.chosen.Goals.{then-rest-half, else-rest-half}
 
 pub loop-i-init : goal.loop-i-init
 loop-i-init c =
     let a = c.args in
-    let e = c.choices-half.ensures in
-    let z : a.m ≡ a.m - 0 = omega arith in
-    (omega arith, refl, e ∙ ap (λ n. 2 ^ n) z, rw e c.requires.j_bound, refl, ap (λ n. chosen_of n a.j) (sym z))
+    let z : a.m - 0 ≡ a.m = omega arith in
+    let e : a.j % 2 ^ a.m ≡ a.j = mod-eq_of_lt c.requires.j_bound in
+    record {
+      places = refl;
+      behind = refl;
+      same = rw (z, e);
+    }
 
 pub loop-i-preserved : goal.loop-i-preserved
 loop-i-preserved c =
-    let m = c.args.m in
-    let p = c.requires.m_bound in
-    let n = c.loop-i.half in
-    let r = c.loop-i.rest in
-    let f = c.loop-i.flags in
-    let i = c.loop-i.i in
+    let a = c.args in
+    let n = c.requires.m_bound in
+    let t = c.loop-i-test.true in
     let h = c.loop-i.invariant in
-    let l = c.loop-i-test.true in
-    let g = halved m i n l h.2 in
-    let v = even m i n l h.2 in
-    elim c.if-rest-half.branch [
-      | then-rest-half w ↦ (
-        omega arith,
-        ap length w.flags-is ∙ simp length-set h.1,
-        g,
-        omega arith,
-        ap (drop (i + 1)) w.flags-is ∙ next_in m i n r f l p h.1 h.2 h.4,
-        rw (w.flags-is, w.rest-is) (chosen_in m i n r f l p h.1 h.2 h.4 w.if-rest-half.true) ∙ h.5,
-      )
-      | else-rest-half w ↦ (
-        omega arith,
-        ap length w.flags-is ∙ h.1,
-        g,
-        omega arith,
-        ap (drop (i + 1)) w.flags-is ∙ next_out m i n r f l p h.1 h.2 h.4,
-        rw (w.flags-is, w.rest-is) (chosen_out m i n r f l p h.1 h.2 h.4 w.if-rest-half.false) ∙ h.5,
-      )
-    ]
+    record {
+      places = simp length-set h.places;
+      behind = next_false a.m c.loop-i.i a.j c.loop-i.flags t n h.places _ h.behind;
+      same = next_chosen a.m c.loop-i.i a.j c.loop-i.flags t n h.places h.same;
+    }
 
 pub returns : goal.returns
 returns c =
     let h = c.loop-i.invariant in
-    last_in c.args.m c.loop-i.i _ c.loop-i.rest c.loop-i.flags c.requires.m_bound (omega arith) h.1 h.4 h.5
+    last_in c.args.m c.loop-i.i c.args.j c.loop-i.flags c.requires.m_bound (omega arith) h.places h.behind h.same

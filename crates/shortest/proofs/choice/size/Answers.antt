@@ -1,31 +1,11 @@
--- Invariant: the lines counted so far, and those chosen behind them.
-use mathlib.Core.Path.{◌≡◌}
-use native.Mathlib.Omega.{arith}
-use lib.ListN.{length, drop_of_length-le}
+-- The lines that are chosen are counted.
+use mathlib.Core.Path.{◌≡◌, sym, ◌∙◌}
 use borrow.Author.Rules.{rules}
-use Rattle.shortest.specs.Choice.{size_of}
-use Rattle.shortest.proofs.ChoiceLaws.{size_yes, size_no}
+use Rattle.std.specs.List.{count_by}
+use Rattle.shortest.proofs.ChoiceLaws.{size_count}
 use Rattle.shortest.proofs.choice.size.Goals as goal
-use Rattle.shortest.proofs.choice.size.Goals.{then-b, else-b}
-
-pub loop-i-init : goal.loop-i-init
-loop-i-init c =
-    let h : length c.args.flags ≡ 12 = search rules in (omega arith, omega arith, h, omega arith)
-
-pub loop-i-preserved : goal.loop-i-preserved
-loop-i-preserved c =
-    let f = c.args.flags in
-    let h = c.loop-i.invariant in
-    elim c.if-b.branch [
-      | then-b w ↦
-          let s = size_yes f c.loop-i.i (omega arith) w.if-b.true in (omega arith, omega arith, h.2, omega arith)
-      | else-b w ↦
-          let s = size_no f c.loop-i.i (omega arith) w.if-b.false in (omega arith, omega arith, h.2, omega arith)
-    ]
 
 pub returns : goal.returns
-unfolding size_of
 returns c =
-    let h = c.loop-i.invariant in
-    let e = drop_of_length-le c.args.flags {i = c.loop-i.i} (omega arith) in
-    let g = rw e at h.3 in omega arith
+    let e : c.count.result ≡ count_by (λ b. b) c.args.flags = search rules in
+    e ∙ sym (size_count c.args.flags)

@@ -1,34 +1,25 @@
--- Invariant: the line ends where it ends from here.
-use mathlib.Core.Path.{refl, ap}
+-- The first newline is where the line ends.
+use mathlib.Core.Path.{◌≡◌, ap, ◌∙◌}
+use mathlib.Core.List.{List}
+use Prim.Native.Nat.{ℕ, ◌+◌, ◌-◌}
 use native.Mathlib.Omega.{arith}
-use lib.ListN.{length}
-use Rattle.shortest.proofs.LineLaws.{line_stops, line_goes, line_none}
+use lib.ListN.{length, take, drop, length-drop}
+use lib.Seq.{take_all}
+use Rattle.std.proofs.Common.{rules, tests}
+use Rattle.std.specs.Prelude.{unwrap_or}
+use Rattle.std.proofs.lemmas.Iterator.{YieldsList-from_slice}
+use Rattle.std.proofs.lemmas.Iterator.Search.{position_from_yields_List}
+use Rattle.shortest.specs.Lines.{line_in}
+use Rattle.shortest.proofs.LineLaws.{is_newline, line_len}
 use Rattle.shortest.proofs.lines.line_end.Goals as goal
 
-pub loop-i-init : goal.loop-i-init
-loop-i-init c = (c.requires, refl)
-
-pub bounds-bytes-i : goal.bounds-bytes-i
-bounds-bytes-i c = c.loop-i-test.true
-
-pub returns-then-bytes-i-eq10 : goal.returns-then-bytes-i-eq10
-returns-then-bytes-i-eq10 c =
+pub returns-clause-value : goal.returns-clause-value
+returns-clause-value c =
     let b = c.args.bytes.now in
-    let e = ap length (line_stops b c.loop-i.i c.loop-i-test.true c.if-bytes-i-eq10.true) in
-    record {
-      upper_bound = omega arith;
-      value = omega arith;
-    }
-
-pub loop-i-preserved : goal.loop-i-preserved
-loop-i-preserved c =
-    let b = c.args.bytes.now in
-    let e = line_goes b c.loop-i.i c.loop-i-test.true c.if-bytes-i-eq10.false in (omega arith, omega arith)
-
-pub returns : goal.returns
-returns c =
-    let e = line_none c.args.bytes.now c.loop-i.i c.loop-i-test.false in
-    record {
-      upper_bound = omega arith;
-      value = omega arith;
-    }
+    let r : List ℕ = take (length b - c.args.from) (drop c.args.from b) in
+    let d = length-drop c.args.from b in
+    let q : r ≡ drop c.args.from b = take_all (length b - c.args.from) (drop c.args.from b) (omega arith) in
+    let p = position_from_yields_List is_newline _ _ _ c.position.ensures.ran (YieldsList-from_slice r c.iter.ensures.rest)
+    (λ x b q k. search (rules, tests)) in
+    ap (λ (n : ℕ). c.args.from + n)
+    (c.unwrap_or.ensures ∙ ap (λ o. unwrap_or o (length r)) p ∙ line_len r ∙ ap (λ (t : List ℕ). length (line_in t)) q)

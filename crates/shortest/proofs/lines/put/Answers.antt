@@ -1,53 +1,48 @@
--- Invariant: the chosen lines that are left make up the whole with what is put; no more bytes are put than were gone
--- past.
-use mathlib.Core.Path.{◌≡◌, refl, ◌∙◌}
+-- A turn puts the line's own text, if it is chosen, and goes past it.
+use mathlib.Core.Path.{sym, ◌∙◌}
+use mathlib.Core.Bool.{true, false}
+use mathlib.Core.List.{append-nil}
 use native.Mathlib.Omega.{arith}
-use lib.ListN.{length, take, length-take, length-drop}
+use lib.ListN.{take, length-take, length-drop}
 use Rattle.shortest.proofs.PutLaws.{put_turn, put_short, put_all}
-use borrow.Author.Rules.{rules}
 use Rattle.shortest.proofs.lines.put.Goals as goal
+use Rattle.shortest.proofs.lines.put.Goals.{then-chosen, else-chosen}
 
-pub loop-i-init : goal.loop-i-init
-loop-i-init c =
-    let f : length c.args.flags ≡ 12 = search rules in
-    (omega arith, f, refl, omega arith, omega arith, refl)
-
-pub shape_of-out-then-bytes-at : goal.shape_of-out-then-bytes-at
-shape_of-out-then-bytes-at c = c.loop-i.invariant.2
-
-pub returns-then-bytes-at : goal.returns-then-bytes-at
-returns-then-bytes-at c =
+pub loop-chosen-preserved : goal.loop-chosen-preserved
+loop-chosen-preserved c =
     let a = c.args in
-    let h = c.loop-i.invariant in
-    record {
-      upper_bound = omega arith;
-      out_after = put_short a.flags a.bytes.now _ _ c.loop-i.i c.loop-i.at c.if-bytes-at.true h.5;
-    }
-
-pub loop-i-preserved : goal.loop-i-preserved
-loop-i-preserved c =
-    let a = c.args in
-    let h = c.loop-i.invariant in
-    let u = simp (length-take, length-drop) at c.put_line-next.ensures.upper_bound in
+    let h = c.loop-chosen.invariant in
+    let i = c.loop-chosen.chosen-index in
     let e = c.line_end-end.ensures.value in
-    let p = c.put_line-next.ensures.upper_bound in (
-      omega arith,
-      h.1,
-      c.put_line-next.auto.out ∙ h.2,
-      omega arith,
-      omega arith,
-      put_turn a.flags a.bytes.now _ c.loop-i.i c.loop-i.at c.line_end-end.result (omega arith)
-          c.if-bytes-at.false e _ (take c.loop-i.n c.loop-i.out) _ refl c.put_line-next.ensures.out_after h.5,
-    )
+    elim c.if-chosen.branch [
+      | then-chosen w ↦
+          let u = simp (length-take, length-drop) at w.put_line-n.ensures.value in
+          record {
+            out = c.if-chosen.auto.out ∙ h.out;
+            put = rw w.n-is (omega arith);
+            place = omega arith;
+            same =
+                put_turn a.flags a.bytes.now _ i c.loop-chosen.at c.line_end-end.result (omega arith)
+                c.if-bytes-at.false e true (take c.loop-chosen.n c.loop-chosen.out) _ (sym w.if-chosen.true)
+                (rw (w.n-is, w.out-is) w.put_line-n.ensures.out_after) h.same;
+          }
+      | else-chosen w ↦ record {
+        out = c.if-chosen.auto.out ∙ h.out;
+        put = rw w.n-is (omega arith);
+        place = omega arith;
+        same =
+            put_turn a.flags a.bytes.now _ i c.loop-chosen.at c.line_end-end.result (omega arith) c.if-bytes-at.false e
+            false (take c.loop-chosen.n c.loop-chosen.out) _ (sym w.if-chosen.false)
+            (rw (w.n-is, w.out-is) (sym (append-nil _))) h.same;
+      }
+    ]
 
-pub shape_of-out : goal.shape_of-out
-shape_of-out c = c.loop-i.invariant.2
+pub returns-then-bytes-at-clause-out_after : goal.returns-then-bytes-at-clause-out_after
+returns-then-bytes-at-clause-out_after c =
+    put_short c.args.flags c.args.bytes.now _ _ c.loop-chosen.chosen-index c.loop-chosen.at c.if-bytes-at.true
+    c.loop-chosen.invariant.same
 
-pub returns : goal.returns
-returns c =
-    let a = c.args in
-    let h = c.loop-i.invariant in
-    record {
-      upper_bound = omega arith;
-      out_after = put_all a.flags a.bytes.now _ _ c.loop-i.i c.loop-i.at (omega arith) h.5;
-    }
+pub returns-after-loop-chosen-clause-out_after : goal.returns-after-loop-chosen-clause-out_after
+returns-after-loop-chosen-clause-out_after c =
+    put_all c.args.flags c.args.bytes.now _ _ c.loop-chosen.chosen-index c.loop-chosen.at (omega arith)
+    c.loop-chosen.invariant.same

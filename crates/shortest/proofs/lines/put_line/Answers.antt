@@ -1,24 +1,9 @@
--- A line is put with its newline, or not at all.
-use mathlib.Core.Path.{sym}
-use native.Mathlib.Omega.{arith}
+-- The newline stands behind the line.
 use lib.ListN.{take}
-use mathlib.Core.List.{append-nil}
 use Rattle.shortest.proofs.PutLaws.{line_put}
 use Rattle.shortest.proofs.lines.put_line.Goals as goal
 
-pub returns-then-not-chosen : goal.returns-then-not-chosen
-returns-then-not-chosen c =
-    record {
-      upper_bound = omega arith;
-      out_after = simp c.if-not-chosen.true (sym (append-nil _));
-    }
-
-pub returns : goal.returns
-returns c =
+pub returns-clause-out_after : goal.returns-clause-out_after
+returns-clause-out_after c =
     let a = c.args in
-    let e = c.bytes-end.ensures.out_after in
-    let t = line_put (take a.n a.out.now) _ _ a.text.now e c.byte.ensures.out_after in
-    record {
-      upper_bound = omega arith;
-      out_after = simp c.if-not-chosen.false t;
-    }
+    line_put (take a.n a.out.now) _ _ a.text.now c.bytes-end.ensures.out_after c.byte.ensures.out_after

@@ -1,17 +1,15 @@
--- A query is made by the one function, and every other call by the other.
-use Rattle.book.proofs.ShowLaws.{shown_number}
-use Rattle.shortest.proofs.PlayLaws.{query_made, change_made}
+-- What is said of the call is its number.
+use mathlib.Core.Path.{refl}
+use Rattle.store.specs.Answer.{answer_number}
+use Rattle.shortest.specs.Made.{made_of}
+use Rattle.shortest.proofs.PlayLaws.{call_made}
 use Rattle.shortest.proofs.play.make.Goals as goal
 
-pub returns-then-letter-eq81 : goal.returns-then-letter-eq81
-returns-then-letter-eq81 c =
-    let a = c.args in
-    let n = shown_number c.query-reading.result.answer 0 c.show-shown.result c.show-shown.ensures in
-    query_made a.call _ _ _ c.letter.result _ _ c.letter.ensures n _ c.if-letter-eq81.true c.query-reading.ensures
+pub returns-in-Some : goal.returns-in-Some
+returns-in-Some c =
+    rw c.in-Some.is
+    (call_made c.in-Some.call _ _ c.make.result _ c.make.ensures.left c.make.ensures.said c.number.ensures)
 
-pub returns : goal.returns
-returns c =
-    let a = c.args in
-    let n = shown_number c.change-answer.result 0 c.show-shown-2.result c.show-shown-2.ensures in
-    change_made a.call _ _ _ c.letter.result _ _ c.letter.ensures n _ _ _ c.if-letter-eq81.false
-    c.change-answer.ensures
+pub returns-in-None : goal.returns-in-None
+unfolding made_of answer_number
+returns-in-None c = rw c.in-None.is

@@ -1,34 +1,50 @@
--- Invariant: the chosen lines that are left, played from here, end as all of them do from a fresh store on.
-use mathlib.Core.Path.{◌≡◌, refl, ◌∙◌}
-use native.Mathlib.Omega.{arith}
+-- A chosen line's call is a step of the play, and another line is none.
+use mathlib.Core.Path.{◌≡◌, refl, ap, ◌∙◌}
+use mathlib.Core.Logic.{⊎_elim}
 use lib.ListN.{length}
-use Rattle.shortest.proofs.PlayLaws.{play_start, play_turn, play_end}
-use borrow.Author.Rules.{rules}
+use Rattle.shortest.specs.Choice.{picked}
+use Rattle.shortest.proofs.PlayLaws.{play_start, play_yes, play_no, no_flag, no_place, play_end}
 use Rattle.shortest.proofs.play.play.Goals as goal
 
-pub loop-i-init : goal.loop-i-init
-loop-i-init c =
-    let a = c.args in
-    let f : length a.flags ≡ 12 = search rules in
-    let l : length a.lines ≡ 12 = search rules in
-    let s = play_start a.flags a.lines _ _ c.format.ensures c.«open».ensures in
-    (omega arith, f, l, search rules, search rules, s)
+pub loop-chosen-init : goal.loop-chosen-init
+loop-chosen-init c =
+    let s = c.into_iter-chosen-iterator.result in
+    let i : s ≡ c.zip-chosen-items.result = c.into_iter-chosen-iterator.ensures.into_iter_gives in
+    let z = c.zip-chosen-items.ensures in
+    let f : s.a.rest.now ≡ c.args.flags = ap (λ y. y.a.rest.now) i ∙ ap (λ y. y.rest.now) z.first ∙ c.iter.ensures.rest in
+    let p : s.b.rest.now ≡ c.args.calls.now = ap (λ y. y.b.rest.now) i ∙ z.second.0 in
+    record {
+      medium = refl;
+      cache = refl;
+      same = rw (f, p) (play_start c.args.flags c.args.calls.now _ _ c.format.ensures c.«open».ensures);
+    }
 
-pub loop-i-preserved : goal.loop-i-preserved
-loop-i-preserved c =
-    let a = c.args in
-    let h = c.loop-i.invariant in
-    let q = c.loop-i-test.true in (
-      omega arith,
-      h.1,
-      h.2,
-      c.make_if-next.auto.medium ∙ h.3,
-      c.make_if-next.auto.cache ∙ h.4,
-      play_turn a.flags a.lines c.loop-i.i _ (omega arith) (omega arith) _ _ _ _ _ refl
-          c.make_if-next.ensures ∙ h.5,
-    )
+pub loop-chosen-preserved-then-chosen : goal.loop-chosen-preserved-then-chosen
+loop-chosen-preserved-then-chosen c =
+    let h = c.loop-chosen.invariant in
+    let t = c.in-Some.ensures.steps in
+    record {
+      medium = c.make-number.auto.medium ∙ h.medium;
+      cache = c.make-number.auto.cache ∙ h.cache;
+      same =
+          play_yes _ c.loop-chosen.number _ _ _ _ _ _ t.0 t.1 _ _ c.if-chosen.true c.make-number.ensures
+          ∙ h.same;
+    }
+
+pub loop-chosen-preserved : goal.loop-chosen-preserved
+loop-chosen-preserved c =
+    let h = c.loop-chosen.invariant in
+    let t = c.in-Some.ensures.steps in
+    record {
+      medium = h.medium;
+      cache = h.cache;
+      same = play_no _ _ _ _ _ _ _ _ t.0 t.1 c.if-chosen.false ∙ h.same;
+    }
 
 pub returns : goal.returns
 returns c =
-    let a = c.args in
-    let h = c.loop-i.invariant in play_end a.flags _ c.loop-i.i _ _ _ (omega arith) h.5
+    play_end _ _ _ _
+    (⊎_elim (λ p. no_flag c.loop-chosen.chosen-iterator.a.rest.now c.loop-chosen.chosen-iterator.b.rest.now p.1.0)
+    (λ p. no_place c.loop-chosen.chosen-iterator.a.rest.now c.loop-chosen.chosen-iterator.b.rest.now p.1.0)
+    c.in-None.ensures.steps)
+    c.loop-chosen.invariant.same

@@ -1,15 +1,17 @@
 -- The medium before does not matter.
+use mathlib.Core.Path.{sym, ◌∙◌}
 use native.Mathlib.Omega.{arith}
-use Rattle.rooms.proofs.RoomLaws.{first_length}
-use Rattle.turns.proofs.TurnLaws.{format_left}
+use Rattle.turns.proofs.TurnLaws.{stage_accepted, stage_refused, format_left}
 use Rattle.turns.proofs.turn.format.Goals as goal
 
-pub slice_bounds-format-end-2 : goal.slice_bounds-format-end-2
-slice_bounds-format-end-2 c = first_length c.args.medium.now c.fresh_length-n.result (omega arith)
+pub returns-then-is_ok : goal.returns-then-is_ok
+returns-then-is_ok c cache s =
+    let stage = stage_accepted _ (sym c.is_ok.ensures.value ∙ c.if-is_ok.true) in
+    format_left c.args.blocks c.args.pages _ _ _ _ c.args.medium.now cache s stage c.fresh_length-bytes.ensures.value
+    c.fresh_length-bytes.ensures.upper_bound (omega arith) c.format-answer.auto.medium c.format-answer.ensures
 
-pub returns : goal.returns
-returns c =
-    let k = c.args in
-    λ cache s. format_left k.blocks k.pages _ _ _ _ k.medium.now cache s c.stage_after.ensures
-    c.fresh_length-n.ensures.value c.fresh_length-n.ensures.upper_bound (omega arith) c.format-answer.auto.medium
-    c.format-answer.ensures
+pub returns-else-is_ok : goal.returns-else-is_ok
+returns-else-is_ok c cache s =
+    let stage = stage_refused _ (sym c.is_ok.ensures.value ∙ c.if-is_ok.false) in
+    format_left c.args.blocks c.args.pages _ _ _ _ c.args.medium.now cache s stage c.fresh_length-bytes.ensures.value
+    c.fresh_length-bytes.ensures.upper_bound (omega arith) c.format-answer.auto.medium c.format-answer.ensures

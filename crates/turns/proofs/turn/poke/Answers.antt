@@ -2,12 +2,12 @@
 use Rattle.turns.proofs.TurnLaws.{poke_in, poke_out}
 use Rattle.turns.proofs.turn.poke.Goals as goal
 
-pub returns-then-offset-m : goal.returns-then-offset-m
-returns-then-offset-m c =
+pub returns-then-offset-medium_part : goal.returns-then-offset-medium_part
+returns-then-offset-medium_part c cache s =
     let k = c.args in
-    λ cache s. poke_in k.t k.medium.now cache s k.offset k.byte _ c.medium_part-m.ensures.value c.if-offset-m.true
+    poke_in k.standing k.medium.now cache s k.offset k.byte _ c.medium_part.ensures.value c.if-offset-medium_part.true
 
-pub returns : goal.returns
-returns c =
+pub returns-else-offset-medium_part : goal.returns-else-offset-medium_part
+returns-else-offset-medium_part c cache s =
     let k = c.args in
-    λ cache s. poke_out k.t k.medium.now cache s k.offset k.byte _ c.medium_part-m.ensures.value c.if-offset-m.false
+    poke_out k.standing k.medium.now cache s k.offset k.byte _ c.medium_part.ensures.value c.if-offset-medium_part.false
