@@ -36,34 +36,30 @@ fn stamp_for(places: &[Place; 64], end: EndPlace, slot: Slot) -> Option<(usize, 
 }
 
 // What slot i of the page says.
-fn slot(page: &[u8], i: usize) -> Slot
-    requires page_len { length page.now ≡ 512 }
-    requires i_bound { i < 15 }
+fn slot(page: &[u8; 512], i: usize) -> Slot
+    requires { i < 15 }
     ensures { result ≡ slot_state (page_slot page.now i) }
 {
     let at = 32 + 32 * i;
     layout::slot::read(&page[at..at + 32])
 }
 
-// The page with its waiting versions stamped, and the places of their transactions.
-fn stamped(places: &[Place; 64], end: EndPlace, page: &[u8]) -> ([u8; 512], [Option<usize>; 15])
-    requires { length page.now ≡ 512 }
-    ensures page_after { result.0 ≡ stamped_under places.now end.0 page.now }
-    ensures found { (i : ℕ) → i < 15 → get_or result.1 i None ≡ place_for places.now end.0 (slot_state (page_slot page.now i)) }
+// Stamps the page's waiting versions, and names the places of their transactions.
+fn stamp(places: &[Place; 64], end: EndPlace, page: &mut [u8; 512]) -> [Option<usize>; 15]
+    ensures page_after { page.new ≡ stamped_under places.now end.0 page.old }
+    ensures found { (i : ℕ) → i < 15 → get_or result i None ≡ place_for places.now end.0 (slot_state (page_slot page.old i)) }
 {
-    let mut stamped = [0; 512];
-    stamped.copy_from_slice(page);
     let mut found = [None; 15];
     for i in 0..15 {
         if let Some((place, time)) = stamp_for(places, end, slot(page, i)) {
-            layout::page::stamp(&mut stamped, i, time);
+            layout::page::stamp(page, i, time);
             found[i] = Some(place);
         }
     }
-    (stamped, found)
+    found
 }
 
-// Counts the places of the versions that are stamped down.
+// Counts down the places of the versions that are stamped.
 fn settle(places: &mut [Place; 64], found: &[Option<usize>; 15])
     requires { AmongPlaces found.now }
     ensures { places.new ≡ fold (λ ps p. lower_at p ps) places.old found.now }
@@ -80,7 +76,10 @@ pub fn holds(state: &State, page: &[u8], block: &[u8]) -> bool
     requires { (length page.now ≡ 512) × (length block.now ≡ 512) }
     ensures { result ≡ eq_list block.now (stamped_under state.now.places state.now.end.0 page.now) }
 {
-    fields::block::same(block, &stamped(&state.places, state.end, page).0)
+    let mut stamped = [0; 512];
+    stamped.copy_from_slice(page);
+    stamp(&state.places, state.end, &mut stamped);
+    fields::block::same(block, &stamped)
 }
 
 // Stamps the cached page, copies it to its block and counts its transactions down, unless the block holds it already.
@@ -91,7 +90,9 @@ pub fn store(places: &mut [Place; 64], end: EndPlace, page: &mut [u8], block: &m
     ensures block_after { block.new ≡ cond result (stamped_under places.old end.0 page.old) block.old }
     ensures places_after { places.new ≡ cond result (settled_under places.old end.0 page.old) places.old }
 {
-    let (stamped, found) = stamped(places, end, page);
+    let mut stamped = [0; 512];
+    stamped.copy_from_slice(page);
+    let found = stamp(places, end, &mut stamped);
     if fields::block::same(block, &stamped) {
         return false;
     }

@@ -52,8 +52,8 @@ pub fn read_tail(head: &[u8; 4112]) -> [u8; 512]
     tail
 }
 
-#[tactic(auto, using(crate::proofs::FormLaws::put_number))]
 // Puts a number of 8 bytes behind the first n of the output.
+#[tactic(auto, using(crate::proofs::FormLaws::put_number))]
 fn put_number(out: &mut [u8], n: usize, x: u64) -> usize
     requires { n + 8 ≤ length out.old }
     ensures value { result ≡ n + 8 }
@@ -63,8 +63,8 @@ fn put_number(out: &mut [u8], n: usize, x: u64) -> usize
     n + 8
 }
 
-#[tactic(auto, using(crate::proofs::FormLaws::flat_turn, std::proofs::Common::append_assoc))]
 // Puts the words of a state behind the first n bytes.
+#[tactic(auto, using(crate::proofs::FormLaws::flat_turn, std::proofs::Common::append_assoc))]
 fn put_words(out: &mut [u8], n: usize, words: &[u64; 448]) -> usize
     requires { n + 8 * length words.now ≤ length out.old }
     ensures value { result ≡ n + 8 * length words.now }

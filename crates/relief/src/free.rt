@@ -78,8 +78,8 @@ fn put_end(out: &mut [u8], n: usize, next: Option<Relief>) -> usize
     print::bytes(out, n, if next.is_some() { b"M\n" } else { b"N\n" })
 }
 
-// Makes the calls that are named and prints their lines from the front of the output on. The words follow
-// the state at each call, since they keep what a call leaves and the state does not.
+// Makes the calls that are named and prints their lines from the front of the output on. The words of the phase follow at
+// each call, since they keep of a checkpoint that ended what the state does not.
 fn free(
     words: &mut [u64; 448],
     state: &mut State,
@@ -87,10 +87,8 @@ fn free(
     cache: &mut [u8],
     out: &mut [u8],
 ) -> usize
-    requires out_len { 4096 ≤ length out.old }
-    requires words_value { state_of words.old state.old.tail ≡ state.old }
+    requires { 4096 ≤ length out.old }
     ensures upper_bound { result ≤ 4096 }
-    ensures words_after { state_of words.new state.new.tail ≡ state.new }
     ensures value { freed (take result out.new) state.new medium.new cache.new ≡ freed_from 70 state.old medium.old cache.old }
 {
     let mut n = 0;
@@ -99,7 +97,7 @@ fn free(
             return put_end(out, n, None);
         };
         let answer = make(next, state, medium, cache);
-        words::lay(words, state);
+        words::lay_phase(words, state.phase);
         n = put_call(out, n, next, answer);
     }
     let next = stores::relief::relief(state, medium, cache);
@@ -123,5 +121,6 @@ pub fn freed_room(
 {
     let mut state = words::state_of(words, tail);
     let n = free(words, &mut state, medium, cache, out);
+    words::lay(words, &state);
     form::put_room(out, n, words, tail, medium, cache)
 }

@@ -125,6 +125,16 @@ fn lay_place(words: &mut [u64; 448], i: usize, place: Place)
     words[COUNTS + i] = place.waiting;
 }
 
+// Lays a phase over its words.
+pub fn lay_phase(words: &mut [u64; 448], phase: Phase)
+    ensures { phase_by (get_or words.new 8 0) (get_or words.new 9 0) (get_or words.new 10 0) ≡ phase }
+{
+    let [kind, oldest, time] = phase_words(phase, [words[8], words[9], words[10]]);
+    words[8] = kind;
+    words[9] = oldest;
+    words[10] = time;
+}
+
 // Lays the numbers of a state over the front of its words.
 fn lay_numbers(words: &mut [u64; 448], state: &State)
     ensures { (places : List Place) → state_by words.new places state.now.tail ≡ with_places state.now places }
