@@ -1,7 +1,7 @@
 -- What was looked up and gathered, as the code has it.
 use Rattle.layout.specs.declared.CommitTime.{CommitTime}
 use Rattle.layout.specs.declared.EndPlace.{EndPlace}
-use Rattle.std.specs.Prelude.{ℕ, ◌+◌, ◌<◌, ◌≤◌, ◌*◌, ◌≡◌, Bool, true, cond, ◌&&◌, List, [], ◌∷◌, get_or, eqb, ltb, Option, None, Some}
+use Rattle.std.specs.Prelude.{ℕ, ◌+◌, ◌<◌, ◌≤◌, ◌*◌, ◌≡◌, Bool, true, cond, ◌&&◌, List, [], ◌∷◌, get_or, eqb, ltb, Option, None, Some, set, leb}
 use Rattle.layout.specs.Journal.{Record, version, commit}
 use Rattle.layout.specs.Table.{table_pair}
 use Rattle.store.specs.Write.{or_none}
@@ -45,6 +45,11 @@ abbrev pub low_of : Option CommitTime → ℕ
 low_of None = 0
 low_of (Some t) = t.0 + 1
 
+-- a time, or 0 for none
+abbrev pub time_or_zero : Option CommitTime → ℕ
+time_or_zero None = 0
+time_or_zero (Some t) = t.0
+
 -- every version record has a slot below 15 × d
 abbrev pub slot_below : ℕ → Record → Bool
 slot_below d (version h v) = ltb h.slot (15 * d)
@@ -58,10 +63,16 @@ slots_below d (x ∷ xs) = slot_below d x.rec && slots_below d xs
 abbrev pub KeysBelow : List ℕ → ℕ → Type 0
 KeysBelow c d = (n : ℕ) → n < 15 * d → (cell_at c n).key < 1024
 
--- the newest version of a record below slot n, and the newest time of its versions there
-abbrev pub newest_of : List ℕ → ℕ → List ℕ → ℕ → ℕ → Newest
-newest_of m l c n key = record { slot = or_none (newest c key n); time = time_below m l 0 c key n }
+-- of each record, by its number, the newest version and the newest time of its versions below slot n
+pub record Tracks (m : List ℕ) (l : ℕ) (c : List ℕ) (n : ℕ) (all : Newest) : Type 0 where
+  pub newest_slot : (k : ℕ) → k < 1024 → get_or all.slots k 0 ≡ or_none (newest c k n)
+  pub newest_time : (k : ℕ) → k < 1024 → get_or all.times k 0 ≡ time_or_zero (time_below m l 0 c k n)
 
--- that of each record, by its number
-pub record Tracks (m : List ℕ) (l : ℕ) (c : List ℕ) (n : ℕ) (all : List Newest) : Type 0 where
-  pub at : (key : ℕ) (e : Newest) → key < 1024 → get_or all key e ≡ newest_of m l c n key
+-- is a time not below the record's newest one, and the newest times with it
+abbrev pub time_fits : List ℕ → ℕ → Option CommitTime → Bool
+time_fits times key None = true
+time_fits times key (Some t) = leb (get_or times key 0) t.0
+
+abbrev pub times_after : List ℕ → ℕ → Option CommitTime → List ℕ
+times_after times key None = times
+times_after times key (Some t) = set times key t.0

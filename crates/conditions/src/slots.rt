@@ -1,22 +1,24 @@
 // The slots of the cache once redo is done: pages full, earlier slots, times and bounds.
-ghost use Rattle.std.specs.Prelude.{◌≡◌, ◌&&◌, [], suc, ◌+◌, ◌*◌, ◌<◌, ◌≤◌, length};
+ghost use Rattle.std.specs.Prelude.{◌≡◌, true, ◌&&◌, [], suc, ◌+◌, ◌*◌, ◌<◌, ◌≤◌, length};
 ghost use Rattle.store.specs.Chain.{cell_at, version_time};
 ghost use Rattle.store.specs.OpenLog.{read_log, next_number, last_time};
 ghost use Rattle.store.specs.OpenPairs.{pair_time};
-ghost use Rattle.store.specs.OpenConditions.{slot_in_bounds, slot_at_least_one, full_before, not_above};
+ghost use Rattle.store.specs.OpenConditions.{slot_in_bounds, slot_at_least_one, full_before};
 ghost use Rattle.cached.specs.Room.{Room};
-ghost use Rattle.conditions.specs.Lookup.{KeysBelow, Tracks};
+ghost use Rattle.conditions.specs.Lookup.{KeysBelow, Tracks, time_fits, times_after};
 ghost use Rattle.conditions.specs.Passes.{all_of, slot_ok};
 
 use crate::pairs::Pairs;
 use layout::CommitTime;
 use layout::slot::Slot;
 
-// A record's newest version of the slots seen, 65535 for none, and the newest time of its versions.
+// Of the slots seen, each record's newest version and the newest time of its versions, by the record's number.
 #[derive(Clone, Copy)]
 struct Newest {
-    slot: u16,
-    time: Option<CommitTime>,
+    // 65535: none.
+    slots: [u16; 1024],
+    // 0: none.
+    times: [u64; 1024],
 }
 
 // Is the page full, the last one, or the one behind it unused?
@@ -67,47 +69,41 @@ fn time_of(pairs: &Pairs, slot: Slot) -> Option<CommitTime>
     }
 }
 
-// Is a time not above a later one, where both are there?
-fn not_above(before: Option<CommitTime>, time: Option<CommitTime>) -> bool
-    ensures { result ≡ not_above before time }
+// Is the time not below the record's newest one before it? It is then the newest.
+fn follows(times: &mut [u64; 1024], key: u16, time: Option<CommitTime>) -> bool
+    requires { key < 1024 }
+    ensures { (result ≡ time_fits times.old key time) × (times.new ≡ times_after times.old key time) }
 {
-    match (before, time) {
-        (Some(before), Some(time)) => before.0 <= time.0,
-        _ => true,
-    }
+    let Some(time) = time else {
+        return true;
+    };
+    let k = key as usize;
+    let follows = times[k] <= time.0;
+    times[k] = time.0;
+    follows
 }
 
-// A slot: its earlier slot and its time against those of its record before it, and its bounds. It is then its record's
-// newest.
-fn slot_ok(
-    pairs: &Pairs,
-    cache: &[u8],
-    n: u64,
-    next: u64,
-    last: u64,
-    newest: &mut [Newest; 1024],
-) -> bool
+// A slot: its earlier slot and its time against those of its record before it, and its bounds.
+fn slot_ok(pairs: &Pairs, cache: &[u8], n: u64, next: u64, last: u64, newest: &mut Newest) -> bool
     requires room { Room (length cache.now) (suc n) }
     requires n_bound { (cell_at cache.now n).key < 1024 }
     requires next_value { (next ≡ next_number pairs.now.medium.now pairs.now.blocks) × (last ≡ last_time pairs.now.medium.now pairs.now.blocks) }
     requires tracks { Tracks pairs.now.medium.now pairs.now.blocks cache.now n newest.old }
     ensures value { result ≡ slot_ok pairs.now.medium.now pairs.now.blocks 0 cache.now n }
-    ensures tracks { Tracks pairs.now.medium.now pairs.now.blocks cache.now (suc n) newest.new }
+    ensures tracks { result ≡ true → Tracks pairs.now.medium.now pairs.now.blocks cache.now (suc n) newest.new }
 {
     let slot = cached::state_at(cache, n);
     if !cached::is_version(slot) {
         return true;
     }
-    let key = cached::key_at(cache, n) as usize;
-    let before = newest[key];
+    let key = cached::key_at(cache, n);
+    let k = key as usize;
+    if u64::from(newest.slots[k]) != cached::earlier_at(cache, n) {
+        return false;
+    }
+    newest.slots[k] = n as u16;
     let time = time_of(pairs, slot);
-    newest[key] = Newest {
-        slot: n as u16,
-        time: time.or(before.time),
-    };
-    u64::from(before.slot) == cached::earlier_at(cache, n)
-        && not_above(before.time, time)
-        && in_bounds(slot, next, last)
+    follows(&mut newest.times, key, time) && in_bounds(slot, next, last)
 }
 
 // All slots of the cache.
@@ -117,11 +113,10 @@ pub fn all_ok(pairs: &Pairs, pages: u64, cache: &[u8], next: u64, last: u64) -> 
     requires next_value { (next ≡ next_number pairs.now.medium.now pairs.now.blocks) × (last ≡ last_time pairs.now.medium.now pairs.now.blocks) }
     ensures { result ≡ all_of (slot_ok pairs.now.medium.now pairs.now.blocks pages cache.now) 0 (15 * pages) }
 {
-    let none = Newest {
-        slot: 65535,
-        time: None,
+    let mut newest = Newest {
+        slots: [65535; 1024],
+        times: [0; 1024],
     };
-    let mut newest = [none; 1024];
     for n in 0..15 * pages {
         if !slot_ok(pairs, cache, n, next, last, &mut newest) {
             return false;

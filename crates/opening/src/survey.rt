@@ -11,6 +11,7 @@ ghost use Rattle.conditions.specs.Lookup.{KeysBelow};
 ghost use Rattle.conditions.specs.Passes.{master_ok, table_and_slots};
 ghost use Rattle.opening.specs.Surveyed.{ReadAs, Applied};
 
+use arrayvec::ArrayVec;
 use conditions::cursor::Cursor;
 use conditions::pairs::Pairs;
 use layout::{CommitTime, EndPlace, TxNumber};
@@ -143,7 +144,8 @@ fn judge(
     ensures verdict { is_some result ≡ well_formed medium.now blocks pages }
     ensures value { IfSome result (λ state. state ≡ opened_state medium.now blocks pages) }
 {
-    let commits = conditions::log::gather(medium, blocks, log);
+    let mut commits = ArrayVec::new();
+    conditions::log::gather(medium, blocks, log, &mut commits);
     let pairs = Pairs {
         medium,
         blocks,

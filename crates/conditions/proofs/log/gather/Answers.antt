@@ -5,44 +5,44 @@ use Rattle.conditions.proofs.CursorLaws.{step_done, step_skip, step_written, ste
 use Rattle.conditions.proofs.GatherLaws.{gather_start, gather_end, gather_skip, gather_written, gather_room, gather_committed}
 use Rattle.conditions.proofs.log.gather.Goals as goal
 
-pub loop-commits-init : goal.loop-commits-init
-loop-commits-init c = rw c.new-commits.ensures (gather_start _ _ _ c.requires.valid)
+pub loop-next-init : goal.loop-next-init
+loop-next-init c = rw c.requires.commits_value (gather_start _ _ _ c.requires.valid)
 
 pub returns-in-Done : goal.returns-in-Done
 returns-in-Done c =
-    let g = c.loop-commits.invariant in
-    gather_end _ _ _ c.loop-commits.cursor _ g (step_done _ _ c.requires.ready _ g.valid c.in-Done.ensures)
+    let g = c.loop-next.invariant in
+    gather_end _ _ _ c.loop-next.cursor _ g (step_done _ _ c.requires.ready _ g.valid c.in-Done.ensures)
 
-pub loop-commits-smaller-in-Skip : goal.loop-commits-smaller-in-Skip
-loop-commits-smaller-in-Skip c =
-    let w = step_skip _ _ c.requires.ready _ _ c.loop-commits.invariant.valid c.in-Skip.ensures in w.less
+pub loop-next-smaller-in-Skip : goal.loop-next-smaller-in-Skip
+loop-next-smaller-in-Skip c =
+    let w = step_skip _ _ c.requires.ready _ _ c.loop-next.invariant.valid c.in-Skip.ensures in w.less
 
-pub loop-commits-preserved-in-Skip : goal.loop-commits-preserved-in-Skip
-loop-commits-preserved-in-Skip c =
-    let g = c.loop-commits.invariant in
-    gather_skip _ _ _ c.loop-commits.cursor _ g _ (step_skip _ _ c.requires.ready _ _ g.valid c.in-Skip.ensures)
+pub loop-next-preserved-in-Skip : goal.loop-next-preserved-in-Skip
+loop-next-preserved-in-Skip c =
+    let g = c.loop-next.invariant in
+    gather_skip _ _ _ c.loop-next.cursor _ g _ (step_skip _ _ c.requires.ready _ _ g.valid c.in-Skip.ensures)
 
-pub loop-commits-smaller-in-Written : goal.loop-commits-smaller-in-Written
-loop-commits-smaller-in-Written c =
-    let w = step_written _ _ c.requires.ready _ _ _ _ _ c.loop-commits.invariant.valid c.in-Written.ensures in w.0.less
+pub loop-next-smaller-in-Written : goal.loop-next-smaller-in-Written
+loop-next-smaller-in-Written c =
+    let w = step_written _ _ c.requires.ready _ _ _ _ _ c.loop-next.invariant.valid c.in-Written.ensures in w.0.less
 
-pub loop-commits-preserved-in-Written : goal.loop-commits-preserved-in-Written
-loop-commits-preserved-in-Written c =
-    let g = c.loop-commits.invariant in
+pub loop-next-preserved-in-Written : goal.loop-next-preserved-in-Written
+loop-next-preserved-in-Written c =
+    let g = c.loop-next.invariant in
     let w = step_written _ _ c.requires.ready _ _ _ _ _ g.valid c.in-Written.ensures in
-    gather_written _ _ _ c.loop-commits.cursor _ g _ _ _ _ _ w.0
+    gather_written _ _ _ c.loop-next.cursor _ g _ _ _ _ _ w.0
 
 pub push-requires : goal.push-requires
 push-requires c =
-    let g = c.loop-commits.invariant in
-    (omega arith, gather_room _ _ _ c.loop-commits.cursor _ g c.in-Committed.next (committed_far _ _ c.requires.ready _ _ _ _ g.valid c.in-Committed.ensures))
+    let g = c.loop-next.invariant in
+    (omega arith, gather_room _ _ _ c.loop-next.cursor _ g c.in-Committed.next (committed_far _ _ c.requires.ready _ _ _ _ g.valid c.in-Committed.ensures))
 
-pub loop-commits-smaller : goal.loop-commits-smaller
-loop-commits-smaller c =
-    let w = step_committed _ _ c.requires.ready _ _ _ _ c.loop-commits.invariant.valid c.in-Committed.ensures in w.less
+pub loop-next-smaller : goal.loop-next-smaller
+loop-next-smaller c =
+    let w = step_committed _ _ c.requires.ready _ _ _ _ c.loop-next.invariant.valid c.in-Committed.ensures in w.less
 
-pub loop-commits-preserved : goal.loop-commits-preserved
-loop-commits-preserved c =
-    let g = c.loop-commits.invariant in
-    gather_committed _ _ _ c.loop-commits.cursor _ g _ (committed_far _ _ c.requires.ready _ _ _ _ g.valid c.in-Committed.ensures) _ _ _ _
+pub loop-next-preserved : goal.loop-next-preserved
+loop-next-preserved c =
+    let g = c.loop-next.invariant in
+    gather_committed _ _ _ c.loop-next.cursor _ g _ (committed_far _ _ c.requires.ready _ _ _ _ g.valid c.in-Committed.ensures) _ _ _ _
     (step_committed _ _ c.requires.ready _ _ _ _ g.valid c.in-Committed.ensures) c.push.ensures.items

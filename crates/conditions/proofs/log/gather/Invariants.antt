@@ -4,8 +4,8 @@ use Rattle.conditions.proofs.CursorLaws.{measure}
 use Rattle.conditions.proofs.GatherLaws.{Gathering}
 use Rattle.conditions.proofs.log.gather.Given as goal
 
-abbrev pub invariant-loop-commits : goal.invariant-loop-commits
-invariant-loop-commits l = Gathering l.medium l.blocks l.initial.cursor l.cursor l.commits.items
+abbrev pub invariant-loop-next : goal.invariant-loop-next
+invariant-loop-next l = Gathering l.medium l.blocks l.initial.cursor l.cursor l.commits.items
 
-abbrev pub decreases-loop-commits : goal.decreases-loop-commits
-decreases-loop-commits l = measure l.cursor
+abbrev pub decreases-loop-next : goal.decreases-loop-next
+decreases-loop-next l = measure l.cursor

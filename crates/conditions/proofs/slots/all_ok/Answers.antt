@@ -27,7 +27,7 @@ returns-then-not-slot_ok c =
 pub loop-n-preserved : goal.loop-n-preserved
 loop-n-preserved c =
     record {
-      tracks = rw add-one c.slot_ok.ensures.tracks;
+      tracks = rw add-one (c.slot_ok.ensures.tracks c.if-not-slot_ok.false);
       rest = all_turn _ (15 * c.args.pages) _ _ (omega arith) (c.slot_ok.ensures.value ∙ slot_same _ _ _ _ _) c.if-not-slot_ok.false ∙ c.loop-n.invariant.rest;
     }
 

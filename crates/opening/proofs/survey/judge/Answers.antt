@@ -5,15 +5,15 @@ use Rattle.conditions.proofs.TableLaws.{ready_table}
 use Rattle.opening.proofs.SurveyedLaws.{read_rest, read_valid, applied_known, applied_keys, next_found, last_found, not_logged, not_kept, few_is, opened_is}
 use Rattle.opening.proofs.survey.judge.Goals as goal
 
-pub gather-commits-requires-clause-valid : goal.gather-commits-requires-clause-valid
-gather-commits-requires-clause-valid c = read_valid _ _ _ _ _ c.requires.applied.read c.requires.ready.high
+pub gather-requires-clause-valid : goal.gather-requires-clause-valid
+gather-requires-clause-valid c = read_valid _ _ _ _ _ c.requires.applied.read c.requires.ready.high
 
 pub extent-requires : goal.extent-requires
 extent-requires c = ready_table _ _ c.requires.ready
 
 pub invariant_of-pairs : goal.invariant_of-pairs
 invariant_of-pairs c =
-    record { table = ready_table _ _ c.requires.ready; known = applied_known _ _ _ _ _ _ _ c.requires.applied _ _ c.extent.ensures (c.deref.ensures.0 ∙ c.gather-commits.ensures) }
+    record { table = ready_table _ _ c.requires.ready; known = applied_known _ _ _ _ _ _ _ c.requires.applied _ _ c.extent.ensures (c.deref.ensures.0 ∙ c.gather.ensures) }
 
 pub all_ok-requires-clause-valid : goal.all_ok-requires-clause-valid
 all_ok-requires-clause-valid c = read_valid _ _ _ _ _ c.requires.applied.read c.requires.ready.high
