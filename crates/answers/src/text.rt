@@ -71,7 +71,8 @@ pub fn put_answer(
 pub fn put_reading(out: &mut [u8], n: usize, letter: u8, reading: Result<Reading, Refusal>) -> usize
     requires { n + 56 ≤ length out.old }
     ensures upper_bound { result ≤ n + 56 }
-    ensures out_after { take result out.new ≡ take n out.old ++ answer_text letter (answer_in reading) (value_in reading) }
+    ensures out_after { take result out.new
+        ≡ take n out.old ++ answer_text letter (answer_in reading) (value_in reading) }
 {
     match reading {
         Ok(found) => put_answer(out, n, letter, Ok(found.answer()), found.value()),

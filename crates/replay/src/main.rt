@@ -15,7 +15,8 @@ use script::line;
 use std::io::{Print, Read};
 use store::State;
 
-// Plays bytes and writes out what they print; not all of them where they print much. A write that fails changes nothing.
+// Plays bytes and writes out what they print; not all of them where they print much. A write that fails changes
+// nothing.
 fn play_out(
     output: &impl Print,
     run: &mut Run,
@@ -32,8 +33,10 @@ fn play_out(
     requires out_len { length out.old ≡ 200000 }
     requires bytes_nonzero { 0 < length bytes.now }
     ensures taken_nonzero { (0 < result.taken) × (result.taken ≤ length bytes.now) }
-    ensures out_after { stand run.new.line (room_of run.new.standing medium.new cache.new state.new) result.on (take result.printed out.new)
-        ≡ play_of does (stand run.old.line (room_of run.old.standing medium.old cache.old state.old) true []) (take result.taken bytes.now) }
+    ensures out_after { stand run.new.line (room_of run.new.standing medium.new cache.new state.new) result.on
+        (take result.printed out.new)
+        ≡ play_of does (stand run.old.line (room_of run.old.standing medium.old cache.old state.old) true [])
+        (take result.taken bytes.now) }
 {
     let played = play::play(run, state, bytes, medium, cache, buffer, out);
     let _ = output.write_all(&out[..played.printed]);
@@ -81,7 +84,8 @@ fn finish(
     requires cache_len { length cache.old ≡ 32768 }
     requires buffer_len { length buffer.old ≡ 40000 }
     requires out_len { length out.old ≡ 200000 }
-    ensures { take result out.new ≡ finished does (stand run.old.line (room_of run.old.standing medium.old cache.old state.old) true []) }
+    ensures { take result out.new
+        ≡ finished does (stand run.old.line (room_of run.old.standing medium.old cache.old state.old) true []) }
 {
     if run.line.letter == 0 {
         return 0;

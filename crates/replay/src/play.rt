@@ -1,5 +1,5 @@
-// Everything between a read and a write: the bytes of a read are taken, their lines played, and what they print put into
-// the output.
+// Everything between a read and a write: the bytes of a read are taken, their lines played, and what they print put
+// into the output.
 ghost use Rattle.std.specs.Prelude.{◌≡◌, true, [], ◌≤◌, ◌<◌, length, take};
 ghost use Rattle.script.specs.Run.{stand, play_of};
 ghost use Rattle.rooms.specs.Parts.{room_of};
@@ -45,8 +45,10 @@ pub fn play(
     requires bytes_nonzero { 0 < length bytes.now }
     ensures printed_bound { result.printed ≤ 200000 }
     ensures taken_nonzero { (0 < result.taken) × (result.taken ≤ length bytes.now) }
-    ensures out_after { stand run.new.line (room_of run.new.standing medium.new cache.new state.new) result.on (take result.printed out.new)
-        ≡ play_of does (stand run.old.line (room_of run.old.standing medium.old cache.old state.old) true []) (take result.taken bytes.now) }
+    ensures out_after { stand run.new.line (room_of run.new.standing medium.new cache.new state.new) result.on
+        (take result.printed out.new)
+        ≡ play_of does (stand run.old.line (room_of run.old.standing medium.old cache.old state.old) true [])
+        (take result.taken bytes.now) }
 {
     let mut line = run.line;
     let mut taken: usize = 0;

@@ -74,7 +74,8 @@ fn open(
 // `X`: state and cache are lost.
 fn cut(standing: &mut Standing)
     requires { 2 ≤ stage_of standing.old }
-    ensures { (m c : List ℕ) (s : State) → left_by standing.new m c s 88 (Ok Done) ≡ moves 88 (Room·cut (room_of standing.old m c s)) }
+    ensures { (m c : List ℕ) (s : State) → left_by standing.new m c s 88 (Ok Done)
+        ≡ moves 88 (Room·cut (room_of standing.old m c s)) }
 {
     standing.stage = 2;
 }
