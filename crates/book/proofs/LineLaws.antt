@@ -2,18 +2,18 @@
 -- words. No letter of the script takes four numbers or more, and another byte takes none.
 use Rattle.std.specs.Prelude.{Option, None, Some}
 use mathlib.Core.Path.{◌≡◌, refl, sym, ap, ◌∙◌}
-use mathlib.Core.Bool.{Bool, true, false}
+use mathlib.Core.Bool.{false}
 use mathlib.Core.List.{List, [], ◌∷◌, ◌++◌}
-use Prim.Native.Nat.{ℕ, suc, ◌≤◌, ◌<◌}
+use Prim.Native.Nat.{ℕ, suc, ◌<◌}
 use native.Mathlib.Omega.{arith}
 use lib.ListN.{length}
 use lib.Dec.{eqb}
-use borrow.Author.Tests.{eqb-true, eqb-false, lt-ltb}
+use borrow.Author.Tests.{eqb-true, lt-ltb}
 use Rattle.script.specs.declared.line.Line.{Line}
 use Rattle.script.specs.Words.{words_of, is_in, number_of, joined, numbers_of}
 use Rattle.script.specs.Form.{word_of, Form, other, bare, ending, behind, after_letter, is_letter, by_words as form_by}
 use Rattle.script.specs.Form.{limited, form_of}
-use Rattle.script.specs.Reader.{no_line, is_number, grown_by, done_of, last_word}
+use Rattle.script.specs.Reader.{no_line, grown_by}
 use Rattle.fields.proofs.Choose.{bool_case, no}
 use Rattle.script.proofs.Meaning.{after_case, line_form}
 use Rattle.script.proofs.ReaderLaws.{seen_bad, seen_none}

@@ -19,7 +19,7 @@ use Rattle.book.specs.declared.call.Call.{Call}
 use Rattle.book.specs.Line.{meaning_of}
 use Rattle.book.specs.Room.{outcome_of, result_of, line_text, letter_of, printed, said_by, said_of, said_number}
 use Rattle.book.specs.Room.{said_result}
-use Rattle.book.specs.Steps.{World, world, left_by, step_by, does}
+use Rattle.book.specs.Steps.{World, left_by, step_by, does}
 
 said_number_law : (a : Result Answer Refusal) (byte : ℕ) → said_number (said_by a byte) ≡ answer_number a
 unfolding answer_number

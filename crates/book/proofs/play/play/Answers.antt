@@ -1,5 +1,5 @@
 -- A turn takes one line; the bytes of its call's line are put behind those that were put before.
-use mathlib.Core.Path.{refl, sym, ap, ◌∙◌}
+use mathlib.Core.Path.{sym, ap, ◌∙◌}
 use native.Mathlib.Omega.{arith}
 use lib.ListN.{drop_of_length-le}
 use borrow.Author.Tests.{not-true, not-false}
