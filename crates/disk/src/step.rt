@@ -58,8 +58,9 @@ pub fn play(
         (part medium.new result.at result.len)
         ≡ medium_in (room_of result.standing medium.new cache.new state.new) }
 {
-    let e = block::extent_of(block::of(asked.call, state), t.medium_part());
-    let mut before = [0; 512];
+    let call = asked.call;
+    let e = block::extent_of(block::of(call, state), t.medium_part());
+    let mut before = [0u8; 512];
     block::keep(e, medium, &mut before);
     let mut standing = t;
     let n = turns::step::step(

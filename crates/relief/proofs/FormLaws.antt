@@ -2,14 +2,13 @@
 use Rattle.std.specs.Prelude.{Some}
 use Rattle.std.proofs.lemmas.List.FromFn.{length-map-range_with_len, get_or-map-range_with_len}
 use mathlib.Core.Path.{◌≡◌, refl, sym, ap, ◌∙◌}
-use mathlib.Core.Bool.{true}
-use mathlib.Core.List.{List, [], ◌++◌, append-nil, append_assoc}
+use mathlib.Core.List.{List, [], ◌++◌, append_assoc}
 use Prim.Native.Nat.{ℕ, ◌+◌, ◌*◌, ◌^◌, ◌≤◌, ◌<◌}
 use native.Mathlib.Omega.{arith}
 use native.Mathlib.Numerals.{add-one}
 use native.Mathlib.Nat.{zero-add}
-use lib.ListN.{length, take, drop, get_or, length-append, drop_of_length-le}
-use lib.Seq.{take_at, drop_at, drop-cons, length-take-le, ext_get_or}
+use lib.ListN.{length, take, drop, get_or, length-append}
+use lib.Seq.{take_at, drop_at, take-suc, length-take-le, ext_get_or}
 use borrow.Author.Tests.{le-leb}
 use Rattle.fields.specs.Field.{enc, dec}
 use Rattle.fields.specs.Part.{part, splice}
@@ -17,7 +16,7 @@ use Rattle.fields.specs.Cells.{flat}
 use Rattle.fields.proofs.PartLaws.{splice_is, part_part}
 use Rattle.fields.proofs.FieldLaws.{length_enc, dec_enc}
 use Rattle.fields.proofs.ReadLaws.{part_mid, dec_mid}
-use Rattle.fields.proofs.CellLaws.{Each, each_of, each_at, length_flat, cell_at, part_behind}
+use Rattle.fields.proofs.CellLaws.{Each, flat_snoc, each_of, each_at, length_flat, cell_at, part_behind}
 use Rattle.relief.specs.Form.{sizes_of, words_in, tail_in, room_bytes}
 
 -- a number of 8 bytes
@@ -27,6 +26,10 @@ put_number l n x h =
     let f : length (take n l ++ enc 8 x) ≡ n + 8 = simp (length-append, length-take-le n l (omega arith), k) in
     ap (take (n + 8)) (splice_is l n (enc 8 x) (omega arith) ∙ sym (append_assoc (take n l) (enc 8 x) _))
     ∙ take_at (take n l ++ enc 8 x) _ (n + 8) f
+
+-- one word more is put
+pub flat_turn : (ws : List ℕ) (i : ℕ) → i < length ws → flat (enc 8) (take (i + 1) ws) ≡ flat (enc 8) (take i ws) ++ enc 8 (get_or ws i 0)
+flat_turn ws i h = rw (add-one, take-suc ws i 0 h, flat_snoc (enc 8) (take i ws) (get_or ws i 0))
 
 -- the words that are taken
 pub length_words : (head : List ℕ) → length (words_in head) ≡ 448

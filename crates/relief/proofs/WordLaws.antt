@@ -1,18 +1,16 @@
 -- A word, a place and a state are read from their own words, so what is laid over these is read again, and what is not stays.
-use mathlib.Core.Path.{◌≡◌, refl, sym, ap, ◌∙◌}
+use mathlib.Core.Path.{◌≡◌, sym, ap, ◌∙◌}
 use mathlib.Core.List.{List, ◌++◌}
 use Prim.Native.Nat.{ℕ, ◌+◌, ◌<◌}
 use native.Mathlib.Omega.{arith}
 use lib.ListN.{length, take, drop, get_or}
 use lib.Seq.{take_at, drop_at, drop-drop, length-take-le, ext_get_or}
 use Rattle.std.proofs.lemmas.List.{get_or-take, get_or-drop}
-use Rattle.std.proofs.lemmas.List.FromFn.{fill_by_all}
 use Rattle.fields.specs.Part.{part}
 use Rattle.fields.proofs.PartLaws.{length_part}
 use Rattle.store.specs.declared.Place.{Place}
 use Rattle.store.specs.declared.State.{State}
-use Rattle.store.specs.Places.{free_place}
-use Rattle.relief.specs.Words.{place_in, places_of, first_of, state_by, state_of, with_places}
+use Rattle.relief.specs.Words.{places_of, first_of, state_by, state_of, with_places}
 
 -- the first changes behind the 11 numbers in front of them
 pub first_laid : (w f : List ℕ) → length w ≡ 448 → length f ≡ 64

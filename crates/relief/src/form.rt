@@ -1,5 +1,5 @@
 // A room in the bytes of the input, and in those of the output.
-#![tactic(auto, unfolding(crate::specs::Form::sizes_of, crate::specs::Form::tail_in, crate::specs::Form::room_bytes, fields::specs::Part::part, fields::specs::Cells::flat))]
+#![tactic(auto, unfolding(crate::specs::Form::sizes_of, crate::specs::Form::tail_in, crate::specs::Form::room_bytes, fields::specs::Part::part))]
 
 ghost use Rattle.std.specs.Prelude.{◌≡◌, ◌++◌, ◌+◌, ◌*◌, ◌≤◌, length, take, IfSome};
 ghost use Rattle.fields.specs.Field.{enc};
@@ -63,6 +63,7 @@ fn put_number(out: &mut [u8], n: usize, x: u64) -> usize
     n + 8
 }
 
+#[tactic(auto, using(crate::proofs::FormLaws::flat_turn, std::proofs::Common::append_assoc))]
 // Puts the words of a state behind the first n bytes.
 fn put_words(out: &mut [u8], n: usize, words: &[u64; 448]) -> usize
     requires { n + 8 * length words.now ≤ length out.old }

@@ -12,6 +12,9 @@ use answers::text;
 use script::print;
 use store::{Answer, Refusal, Relief, State};
 
+// How many calls are made at most.
+const CALLS: usize = 70;
+
 // Makes the call that is named.
 fn make(
     next: Relief,
@@ -75,7 +78,7 @@ fn put_end(out: &mut [u8], n: usize, next: Option<Relief>) -> usize
     print::bytes(out, n, if next.is_some() { b"M\n" } else { b"N\n" })
 }
 
-// Makes the calls that are named, at most 70, and prints their lines from the front of the output on. The words follow
+// Makes the calls that are named and prints their lines from the front of the output on. The words follow
 // the state at each call, since they keep what a call leaves and the state does not.
 fn free(
     words: &mut [u64; 448],
@@ -91,7 +94,7 @@ fn free(
     ensures value { freed (take result out.new) state.new medium.new cache.new ≡ freed_from 70 state.old medium.old cache.old }
 {
     let mut n = 0;
-    for _ in 0..70 {
+    for _ in 0..CALLS {
         let Some(next) = stores::relief::relief(state, medium, cache) else {
             return put_end(out, n, None);
         };

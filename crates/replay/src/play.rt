@@ -6,81 +6,79 @@ ghost use Rattle.rooms.specs.Parts.{room_of};
 ghost use Rattle.rooms.specs.Steps.{does};
 
 use rooms::parts::Standing;
-use rooms::{parts, plan};
+use rooms::plan;
 use script::line::Line;
 use script::{call, line};
-use turns::step;
 use store::State;
+use turns::step;
 
-// Where a run stands: the line begun, the room, whether the run goes on, how many bytes of the output are
-// to be written, and how many bytes were taken.
+// Where a run stands: the line begun, and the room.
 #[derive(Clone, Copy)]
 pub struct Run {
     pub line: Line,
     pub standing: Standing,
-    pub on: bool,
-    pub n: usize,
-    pub next: usize,
 }
 
-fn stands(line: Line, standing: Standing, on: bool, n: usize, next: usize) -> Run
-    ensures { result ≡ record { line = line; standing = standing; on = on; n = n; next = next } }
-{
-    Run {
-        line: line,
-        standing: standing,
-        on: on,
-        n: n,
-        next: next,
-    }
+// How many bytes were taken, how many bytes of the output are to be written, and whether the run goes on.
+#[derive(Clone, Copy)]
+pub struct Played {
+    pub taken: usize,
+    pub printed: usize,
+    pub on: bool,
 }
 
 // Takes bytes, and plays each line at its end: up to the end of the bytes or of the run, or until the output may not
 // hold what one more line prints.
 pub fn play(
-    begun: Line,
-    standing: Standing,
+    run: &mut Run,
     state: &mut State,
     bytes: &[u8],
     medium: &mut [u8],
     cache: &mut [u8],
     buffer: &mut [u8],
     out: &mut [u8],
-) -> Run
+) -> Played
     requires medium_len { length medium.old ≡ 50688 }
     requires cache_len { length cache.old ≡ 32768 }
     requires buffer_len { length buffer.old ≡ 40000 }
     requires out_len { length out.old ≡ 200000 }
     requires bytes_nonzero { 0 < length bytes.now }
-    ensures n_bound { result.n ≤ 200000 }
-    ensures next_nonzero { (0 < result.next) × (result.next ≤ length bytes.now) }
-    ensures out_after { stand result.line (room_of result.standing medium.new cache.new state.new) result.on (take result.n out.new) ≡ play_of does (stand begun (room_of standing medium.old cache.old state.old) true []) (take result.next bytes.now) }
+    ensures printed_bound { result.printed ≤ 200000 }
+    ensures taken_nonzero { (0 < result.taken) × (result.taken ≤ length bytes.now) }
+    ensures out_after { stand run.new.line (room_of run.new.standing medium.new cache.new state.new) result.on (take result.printed out.new)
+        ≡ play_of does (stand run.old.line (room_of run.old.standing medium.old cache.old state.old) true []) (take result.taken bytes.now) }
 {
-    let mut line = begun;
-    let mut t = standing;
-    let mut n: usize = 0;
-    let mut i: usize = 0;
-    while i < bytes.len() {
-        if 100000 < n {
-            return stands(line, t, true, n, i);
+    let mut taken: usize = 0;
+    let mut printed: usize = 0;
+    while taken < bytes.len() && printed <= 100000 {
+        let more = line::take(run.line, bytes, taken);
+        if !more.ended {
+            run.line = more.line;
+            return Played {
+                taken: bytes.len(),
+                printed,
+                on: true,
+            };
         }
-        let taken = line::take(line, bytes, i);
-        let longer = taken.line;
-        if !taken.ended {
-            return stands(longer, t, true, n, bytes.len());
+        taken = more.next;
+        run.line = line::empty();
+        let asked = call::meaning(more.line);
+        let plan = plan::of(asked.call);
+        if run.standing.reached() < plan.stage {
+            return Played {
+                taken,
+                printed,
+                on: false,
+            };
         }
-        i = taken.next;
-        let asked = call::meaning(longer);
-        let asks = asked.call;
-        let p = plan::of(asks);
-        line = line::empty();
-        if parts::reached(t) < p.stage {
-            return stands(line, t, false, n, i);
-        }
-        let stepped = step::step(asked, p, t, state, medium, cache, buffer, out, n);
-        n = stepped.n;
-        let moved = stepped.standing;
-        t = moved;
+        let standing = &mut run.standing;
+        printed = step::step(
+            asked, plan, standing, state, medium, cache, buffer, out, printed,
+        );
     }
-    stands(line, t, true, n, i)
+    Played {
+        taken,
+        printed,
+        on: true,
+    }
 }

@@ -1,3 +1,1 @@
-pub mod FileLaws
 pub mod PlayLaws
-pub mod Reading

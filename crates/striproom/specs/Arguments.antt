@@ -1,5 +1,5 @@
 -- The arguments: a file, and perhaps the descriptor of the exit code.
-use Rattle.std.specs.Prelude.{ℕ, ◌+◌, ◌*◌, ◌-◌, Bool, false, cond, not, List, [], ◌∷◌, eqb, ltb, Option, Some, None}
+use Rattle.std.specs.Prelude.{ℕ, ◌+◌, ◌*◌, ◌-◌, Bool, false, cond, List, [], ◌∷◌, eqb, ltb, Option, Some, None}
 
 -- striproom: "the program writes its exit code to descriptor 8": a descriptor of one digit; below 3 are the standard
 -- streams

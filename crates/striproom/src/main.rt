@@ -38,9 +38,7 @@ fn play_all(
 {
     let mut rest = bytes;
     while run.on && !rest.is_empty() {
-        run = play::play(
-            rt, run, name, to, rest, state, medium, cache, buffer, out,
-        )?;
+        run = play::play(rt, run, name, to, rest, state, medium, cache, buffer, out)?;
         rest = &rest[run.next..];
     }
     Ok(run)
@@ -67,9 +65,7 @@ fn finish(
     if run.line.letter == 0 {
         return Ok(Run { on: false, ..run });
     }
-    let last = play::play(
-        rt, run, name, to, b"\n", state, medium, cache, buffer, out,
-    )?;
+    let last = play::play(rt, run, name, to, b"\n", state, medium, cache, buffer, out)?;
     Ok(Run { on: false, ..last })
 }
 

@@ -1,6 +1,6 @@
 // One line of the script: played, stored in the file, and only then answered.
 ghost use Rattle.std.specs.Prelude.{◌≡◌, true, false, Ok, Err, [], ◌+◌, ◌≤◌, ◌<◌, length, take, IfOk};
-ghost use Rattle.core.specs.Result.{result_and};
+ghost use Rattle.std.specs.Result.{result_and};
 ghost use Rattle.script.specs.Reader.{no_line};
 ghost use Rattle.script.specs.Run.{stand, play_of};
 ghost use Rattle.rooms.specs.Room.{plan_of, turn_of};
@@ -93,6 +93,7 @@ fn keep_whole(
 }
 
 // Stores what a line left.
+#[tactic(auto, unfolding(disk::specs::Stored::is_format))]
 fn keep(
     rt: &impl Files<File = File>,
     call: Call,
@@ -135,17 +136,15 @@ fn turn(
     requires out_len { length out.old ≡ 94000 }
     requires p_value { p ≡ plan_of asked.call }
     requires stage_bound { p.stage ≤ stage_of run.standing }
-    ensures next_value { IfOk result (λ after. after.next ≡ run.next) }
-    ensures line_value { IfOk result (λ after. (after.line ≡ run.line) × (after.on ≡ run.on)
+    ensures answered { IfOk result (λ after. (after.line ≡ run.line) × (after.on ≡ run.on) × (after.next ≡ run.next)
         × Answered (turn_of asked (room_of run.standing medium.old cache.old state.old))
         (room_of after.standing medium.new cache.new state.new) out.new) }
     ensures apart { Apart to run.file → IfOk result (λ after. Apart to after.file) }
 {
-    let played = step::play(
-        asked, p, run.standing, state, medium, cache, buffer, out, 0,
-    );
+    let played = step::play(asked, p, run.standing, state, medium, cache, buffer, out, 0);
     let file = keep(rt, asked.call, played, name, to, run.file, medium)?;
-    rt.write_all(&out[..played.n]).map_err(|_| Failure::Unwritten)?;
+    rt.write_all(&out[..played.n])
+        .map_err(|_| Failure::Unwritten)?;
     Ok(Run {
         standing: played.standing,
         file,

@@ -1,5 +1,5 @@
 // The file that holds the medium.
-ghost use Rattle.std.specs.Prelude.{◌≡◌, ◌×◌, ◌≤◌, length, IfOk, IfSome};
+ghost use Rattle.std.specs.Prelude.{◌≡◌, ◌≤◌, length, IfOk, IfSome};
 ghost use Rattle.striproom.specs.File.{Apart, IsApart};
 
 use files::{Failure, named};

@@ -1,6 +1,4 @@
 -- A line that was begun ends with the input.
-use mathlib.Core.Path.{refl}
-use native.Mathlib.Omega.{arith}
 use borrow.Author.Tests.{eq-eqb}
 use Rattle.script.specs.Run.{finished}
 use Rattle.script.proofs.TakeLaws.{end_line}
@@ -8,39 +6,10 @@ use Rattle.rooms.specs.Steps.{does}
 use Rattle.rooms.proofs.PlayLaws.{last_byte}
 use Rattle.replay.proofs.finish.Goals as goal
 
-pub returns-then-line-eq0 : goal.returns-then-line-eq0
+pub returns-then-run-eq0 : goal.returns-then-run-eq0
 unfolding finished
-returns-then-line-eq0 g c =
-    record {
-      on_value = refl;
-      out_after = simp (eq-eqb _ _ c.if-line-eq0.true);
-    }
-
-pub play_out-last-requires : goal.play_out-last-requires
-play_out-last-requires g c =
-    record {
-      medium_len = c.requires.medium_len;
-      cache_len = c.requires.cache_len;
-      buffer_len = c.requires.buffer_len;
-      out_len = c.requires.out_len;
-      bytes_nonzero = omega arith;
-    }
-
-pub shape_of-medium : goal.shape_of-medium
-shape_of-medium g c = c.medium-1.given
-
-pub shape_of-cache : goal.shape_of-cache
-shape_of-cache g c = c.cache-1.given
-
-pub shape_of-buffer : goal.shape_of-buffer
-shape_of-buffer g c = c.buffer-1.given
-
-pub shape_of-out : goal.shape_of-out
-shape_of-out g c = c.out-1.given
+returns-then-run-eq0 g c = simp (eq-eqb _ _ c.if-run-eq0.true)
 
 pub returns : goal.returns
 returns g c =
-    record {
-      on_value = refl;
-      out_after = end_line does _ _ _ c.if-line-eq0.false (last_byte _ _ _ c.play_out-last.ensures.next_nonzero c.play_out-last.ensures.out_after);
-    }
+    end_line does _ _ _ c.if-run-eq0.false (last_byte _ _ _ c.play_out-last.ensures.taken_nonzero c.play_out-last.ensures.out_after)

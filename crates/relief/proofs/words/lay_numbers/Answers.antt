@@ -1,5 +1,4 @@
 -- The numbers, the phase and the first changes are read again from where they are laid.
-use mathlib.Core.Path.{◌≡◌, ◌∙◌}
 use native.Mathlib.Omega.{arith}
 use Rattle.relief.specs.Words.{first_of, state_by, with_places}
 use Rattle.relief.proofs.WordLaws.{first_laid}

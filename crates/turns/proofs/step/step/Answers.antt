@@ -1,8 +1,7 @@
 -- A look leaves the room; a handover has its own line; any other line is a turn, and its answer is printed.
-use mathlib.Core.Path.{refl, sym, ap, ◌∙◌}
+use mathlib.Core.Path.{sym, ap, ◌∙◌}
 use mathlib.Core.List.{◌++◌}
 use lib.ListN.{take}
-use lib.Dec.{eqb}
 use Rattle.rooms.specs.declared.plan.Plan.{Plan}
 use Rattle.rooms.specs.Room.{Turn, plan_of}
 use Rattle.rooms.specs.Parts.{room_of}

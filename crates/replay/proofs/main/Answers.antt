@@ -1,8 +1,0 @@
--- The turns left fall, and no call changes the length of a buffer.
-use Prim.Native.Nat.{ℕ}
-use lib.ListN.{length-replicate}
-use Rattle.replay.proofs.main.Goals as goal
-
-pub loop-turns-init : goal.loop-turns-init
-loop-turns-init c =
-    (length-replicate {A = ℕ} 50688 0, length-replicate {A = ℕ} 32768 0, length-replicate {A = ℕ} 40000 0, length-replicate {A = ℕ} 200000 0)

@@ -1,9 +1,0 @@
--- A new file is kept only where its descriptor is free.
-use mir.Syntax.{w32}
-use mir.Val.{to_z, of_z}
-use borrow.Author.Rules.{rules}
-use Rattle.striproom.proofs.FileLaws.{tested_free}
-use Rattle.striproom.proofs.room.keep_new.Goals as goal
-
-pub returns : goal.returns
-returns g c = rw c.used.ensures (λ z. tested_free c.args.file (to_z w32 (of_z w32 c.as_raw_fd.result)) _ c.is_free.result (search rules) c.is_free.ensures c.if-not-is_free.false)
