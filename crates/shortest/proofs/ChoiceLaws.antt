@@ -15,7 +15,7 @@ use Rattle.std.specs.List.{count_by}
 use Rattle.std.proofs.lemmas.List.Recursion.{is_count_by}
 use Rattle.std.proofs.lemmas.Nat.{and_mask, mod-pow-add}
 use Rattle.fields.proofs.Choose.{bool_case}
-use Rattle.shortest.specs.Choice.{chosen_of, size_of, picked}
+use Rattle.shortest.specs.Choice.{chosen_of, size_of}
 use Rattle.shortest.specs.Kept.{flags_of}
 
 pub few : (i : ℕ) → i ≤ 11 → 2 ^ i ≤ 2048

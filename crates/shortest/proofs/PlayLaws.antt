@@ -1,6 +1,6 @@
 -- A call made by the code is a step of the play, and its number is that of its answer; a play begins on the store that
 -- a script finds.
-use Rattle.std.specs.Prelude.{Option, None, Some, Result}
+use Rattle.std.specs.Prelude.{Option, Some, Result}
 use mathlib.Core.Path.{◌≡◌, refl, sym, ap, ◌∙◌}
 use mathlib.Core.Bool.{Bool, true, false}
 use mathlib.Core.List.{List, [], ◌∷◌}
@@ -20,7 +20,7 @@ use Rattle.book.specs.Whole.{opened, start}
 use Rattle.book.proofs.PlayLaws.{number_law}
 use Rattle.shortest.specs.Script.{end_from, end_of}
 use Rattle.shortest.specs.Choice.{picked}
-use Rattle.shortest.specs.Made.{Made, made, made_by, made_of}
+use Rattle.shortest.specs.Made.{Made, made, made_of}
 
 -- a call of which this is said leaves this world
 pub call_made : (call : Call) (w v : World) (said : Result (Option ℕ) Refusal) (n : ℕ)

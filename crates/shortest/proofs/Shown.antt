@@ -1,7 +1,7 @@
 -- What `stripbook` prints for lines: nothing from the first of another form on, and last the line of the last call,
 -- with the number that the calls end in.
 use Rattle.store.specs.declared.Refusal.{Refusal}
-use Rattle.std.specs.Prelude.{Option, None, Some, Err, Ok, Result, is_some}
+use Rattle.std.specs.Prelude.{Option, None, Some, Err, Ok, Result}
 use mathlib.Core.Path.{◌≡◌, refl, sym, ap, ◌∙◌}
 use mathlib.Core.Bool.{Bool, true, false, cond}
 use mathlib.Core.List.{List, [], ◌∷◌, ◌++◌, append-nil, append_assoc}
@@ -14,7 +14,7 @@ use Rattle.store.specs.declared.Answer.{Answer}
 use Rattle.store.specs.declared.Answer.TheVariants.{Done, Begun, Written, Committed, Opened, Missing, Erased, Present, Listed}
 use Rattle.store.specs.Answer.{answer_number}
 use Rattle.script.specs.Words.{ahead, lines_of}
-use Rattle.script.specs.Run.{Step, followed, prints_from}
+use Rattle.script.specs.Run.{Step, prints_from}
 use Rattle.book.specs.declared.call.Call.{Call}
 use Rattle.book.specs.Line.{line_of}
 use Rattle.book.specs.Room.{result_of, line_text, letter_of, printed}

@@ -33,9 +33,6 @@ loop-at-preserved c =
     let v = c.loop-at.invariant in
     record {
       place = w.1;
-      medium = c.make-said.auto.medium ∙ v.medium;
-      cache = c.make-said.auto.cache ∙ v.cache;
-      out = c.put-printed.auto.out ∙ v.out;
       room = omega arith;
       same =
           step_call c.args.bytes.now c.loop-at.line c.loop-at.at c.take-taken.result c.loop-at-test.true

@@ -12,9 +12,6 @@ use Rattle.book.proofs.play.play.Given as goal
 abbrev pub invariant-loop-at : goal.invariant-loop-at
 invariant-loop-at l = record {
   place : l.at ≤ length l.bytes;
-  medium : length l.medium ≡ length l.initial.medium;
-  cache : length l.cache ≡ length l.initial.cache;
-  out : length l.out ≡ length l.initial.out;
   room : l.printed + 44 * (length l.bytes - l.at) ≤ length l.out;
   same :
       play_of does (stand l.line (world l.state l.medium l.cache) true (take l.printed l.out)) (drop l.at l.bytes)

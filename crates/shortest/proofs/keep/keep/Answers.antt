@@ -1,5 +1,4 @@
 -- A turn takes one line, which is the script's next.
-use mathlib.Core.Path.{refl}
 use native.Mathlib.Omega.{arith}
 use lib.ListN.{length-set}
 use Rattle.script.proofs.TakeLaws.{step_on}

@@ -1,5 +1,5 @@
 -- A turn puts the line's own text, if it is chosen, and goes past it.
-use mathlib.Core.Path.{sym, ◌∙◌}
+use mathlib.Core.Path.{sym}
 use mathlib.Core.Bool.{true, false}
 use mathlib.Core.List.{append-nil}
 use native.Mathlib.Omega.{arith}
@@ -18,7 +18,6 @@ loop-chosen-preserved c =
       | then-chosen w ↦
           let u = simp (length-take, length-drop) at w.put_line-n.ensures.value in
           record {
-            out = c.if-chosen.auto.out ∙ h.out;
             put = rw w.n-is (omega arith);
             place = omega arith;
             same =
@@ -27,7 +26,6 @@ loop-chosen-preserved c =
                 (rw (w.n-is, w.out-is) w.put_line-n.ensures.out_after) h.same;
           }
       | else-chosen w ↦ record {
-        out = c.if-chosen.auto.out ∙ h.out;
         put = rw w.n-is (omega arith);
         place = omega arith;
         same =

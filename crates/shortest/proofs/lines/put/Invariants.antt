@@ -12,7 +12,6 @@ use Rattle.shortest.proofs.lines.put.Given as goal
 
 abbrev pub invariant-loop-chosen : goal.invariant-loop-chosen
 invariant-loop-chosen l = record {
-  out : length l.out ≡ length l.initial.out;
   put : l.n ≤ l.at;
   place : l.at ≤ length l.bytes + 1;
   same : take l.n l.out ++ text_at l.fn.flags l.bytes l.chosen-index l.at ≡ text_of (picked l.fn.flags (lines_of l.bytes));

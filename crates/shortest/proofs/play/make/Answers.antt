@@ -1,5 +1,4 @@
 -- What is said of the call is its number.
-use mathlib.Core.Path.{refl}
 use Rattle.store.specs.Answer.{answer_number}
 use Rattle.shortest.specs.Made.{made_of}
 use Rattle.shortest.proofs.PlayLaws.{call_made}

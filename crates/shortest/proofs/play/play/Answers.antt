@@ -1,8 +1,6 @@
 -- A chosen line's call is a step of the play, and another line is none.
-use mathlib.Core.Path.{◌≡◌, refl, ap, ◌∙◌}
+use mathlib.Core.Path.{◌≡◌, ap, ◌∙◌}
 use mathlib.Core.Logic.{⊎_elim}
-use lib.ListN.{length}
-use Rattle.shortest.specs.Choice.{picked}
 use Rattle.shortest.proofs.PlayLaws.{play_start, play_yes, play_no, no_flag, no_place, play_end}
 use Rattle.shortest.proofs.play.play.Goals as goal
 
@@ -13,33 +11,18 @@ loop-chosen-init c =
     let z = c.zip-chosen-items.ensures in
     let f : s.a.rest.now ≡ c.args.flags = ap (λ y. y.a.rest.now) i ∙ ap (λ y. y.rest.now) z.first ∙ c.iter.ensures.rest in
     let p : s.b.rest.now ≡ c.args.calls.now = ap (λ y. y.b.rest.now) i ∙ z.second.0 in
-    record {
-      medium = refl;
-      cache = refl;
-      same = rw (f, p) (play_start c.args.flags c.args.calls.now _ _ c.format.ensures c.«open».ensures);
-    }
+    rw (f, p) (play_start c.args.flags c.args.calls.now _ _ c.format.ensures c.«open».ensures)
 
 pub loop-chosen-preserved-then-chosen : goal.loop-chosen-preserved-then-chosen
 loop-chosen-preserved-then-chosen c =
-    let h = c.loop-chosen.invariant in
     let t = c.in-Some.ensures.steps in
-    record {
-      medium = c.make-number.auto.medium ∙ h.medium;
-      cache = c.make-number.auto.cache ∙ h.cache;
-      same =
-          play_yes _ c.loop-chosen.number _ _ _ _ _ _ t.0 t.1 _ _ c.if-chosen.true c.make-number.ensures
-          ∙ h.same;
-    }
+    play_yes _ c.loop-chosen.number _ _ _ _ _ _ t.0 t.1 _ _ c.if-chosen.true c.make-number.ensures
+    ∙ c.loop-chosen.invariant
 
 pub loop-chosen-preserved : goal.loop-chosen-preserved
 loop-chosen-preserved c =
-    let h = c.loop-chosen.invariant in
     let t = c.in-Some.ensures.steps in
-    record {
-      medium = h.medium;
-      cache = h.cache;
-      same = play_no _ _ _ _ _ _ _ _ t.0 t.1 c.if-chosen.false ∙ h.same;
-    }
+    play_no _ _ _ _ _ _ _ _ t.0 t.1 c.if-chosen.false ∙ c.loop-chosen.invariant
 
 pub returns : goal.returns
 returns c =
@@ -47,4 +30,4 @@ returns c =
     (⊎_elim (λ p. no_flag c.loop-chosen.chosen-iterator.a.rest.now c.loop-chosen.chosen-iterator.b.rest.now p.1.0)
     (λ p. no_place c.loop-chosen.chosen-iterator.a.rest.now c.loop-chosen.chosen-iterator.b.rest.now p.1.0)
     c.in-None.ensures.steps)
-    c.loop-chosen.invariant.same
+    c.loop-chosen.invariant
