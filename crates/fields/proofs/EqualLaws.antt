@@ -13,6 +13,18 @@ use borrow.Author.Tests.{eq-eqb, eqb-true}
 use Rattle.fields.specs.Equal.{eq_list, all_zero}
 use Rattle.fields.proofs.Choose.{and_0, and_1}
 
+-- lists of other lengths
+pub eq_lengths : (a b : List ℕ) → (length a ≡ length b → ⊥) → eq_list a b ≡ false
+unfolding eq_list
+eq_lengths [] [] h = absurd (h refl)
+eq_lengths [] (y ∷ b) h = refl
+eq_lengths (x ∷ a) [] h = refl
+eq_lengths (x ∷ a) (y ∷ b) h = rw (eq_lengths a b (λ e. h (ap suc e))) (and_false (eqb x y))
+  where
+    and_false : (t : Bool) → t && false ≡ false
+    and_false true = refl
+    and_false false = refl
+
 -- what `==` answers at two slices
 pub eq_pointwise : (a b : List ℕ) → pointwise eqb a b ≡ eq_list a b
 unfolding eq_list

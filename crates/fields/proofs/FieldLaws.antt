@@ -9,7 +9,7 @@ use lib.ListN.{length, take, drop, get_or, set, length-drop}
 use lib.Seq.{get_or-drop, drop-length, drop_at, take-suc-set, append_snoc, take_all}
 use Rattle.fields.specs.Field.{enc, dec}
 use Rattle.fields.specs.Part.{part, splice}
-use Rattle.fields.proofs.PartLaws.{length_part, part_splice}
+use Rattle.fields.proofs.PartLaws.{length_part, lent_back, lent_length, part_splice, part_after}
 use mir.Val.{Fits}
 use mir.Syntax.{w8}
 
@@ -110,8 +110,16 @@ enc_end s l i v h e =
     let z : length s - i ≡ 0 = omega arith in
     sym (append-nil s) ∙ (rw (z, take_all i s h) at e)
 
+-- `put` on a part of w bytes
+pub put_back : (l v : List ℕ) (at w n : ℕ) → at + w ≤ length l → length v ≡ length (take (at + w - at) (drop at l))
+    → v ≡ enc (length (take (at + w - at) (drop at l))) n → take at l ++ (v ++ drop (at + w - at) (drop at l)) ≡ splice l at (enc w n)
+put_back l v at w n h k e = lent_back l v at w h k ∙ ap (splice l at) (rw (lent_length l at w h) at e)
+
 -- what was put is read back, and a field beside it is as it was
 pub read_back : (l : List ℕ) (at w n : ℕ) → at + w ≤ length l → n < 256 ^ w → dec (part (splice l at (enc w n)) at w) ≡ n
 read_back l at w n h b =
     let p : part (splice l at (enc w n)) at (length (enc w n)) ≡ enc w n = part_splice l at (enc w n) (rw length_enc h) in
     ap dec (rw length_enc at p) ∙ dec_enc w n b
+
+pub read_other : (l : List ℕ) (at w n b k : ℕ) → at + w ≤ b → dec (part (splice l at (enc w n)) b k) ≡ dec (part l b k)
+read_other l at w n b k h = ap dec (part_after l at (enc w n) b k (rw length_enc h))

@@ -8,3 +8,4 @@ pub mod ReadLaws
 pub mod CellLaws
 pub mod BlockLaws
 pub mod WordLaws
+pub mod HalfLaws

@@ -11,7 +11,8 @@ use Rattle.fields.specs.Field.{enc, dec}
 use Rattle.fields.specs.Part.{part}
 use Rattle.fields.proofs.PartLaws.{length_part, lent_part}
 
-dec_append : (a b : List ℕ) → dec (a ++ b) ≡ dec a + 256 ^ length a * dec b
+-- one list of bytes behind another
+pub dec_append : (a b : List ℕ) → dec (a ++ b) ≡ dec a + 256 ^ length a * dec b
 unfolding dec
 dec_append [] b = omega arith
 dec_append (x ∷ a) b = rw (dec_append a b, pow-suc) (omega arith)

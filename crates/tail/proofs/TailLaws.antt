@@ -1,22 +1,24 @@
--- What the functions of the tail need of its definitions: the bounds of its numbers, what is left once a record is taken, and
--- what a fitting state gives. Assumes nothing.
-use mathlib.Core.Path.{◌≡◌, refl}
+-- What the functions of the tail need of its definitions: the bounds of its numbers, what may be logged, the end place of what
+-- stands in it, what is left once a record is taken, and what a fitting state gives. Assumes nothing.
+use mathlib.Core.Path.{◌≡◌, refl, ap, ◌∙◌}
 use mathlib.Core.Bool.{Bool, true, false, cond, ◌&&◌}
 use mathlib.Core.List.{List}
 use Prim.Native.Nat.{ℕ, ◌+◌, ◌^◌, ◌≤◌, ◌<◌}
 use native.Mathlib.Omega.{arith}
 use lib.ListN.{drop, get_or, length-take}
 use lib.Dec.{ltb}
-use borrow.Author.Tests.{ltb-true, leb-true}
+use borrow.Author.Tests.{ltb-true, leb-true, lt-ltb, le-ltb}
+use Rattle.fields.specs.Block.{end_place}
 use Rattle.fields.specs.Part.{part}
 use Rattle.layout.specs.Journal.{Record, record_size, sequence_of, used_of, empty_block, add_record}
 use Rattle.layout.specs.Master.{oldest_on}
 use Rattle.fields.proofs.Choose.{and_1}
 use Rattle.fields.proofs.FieldLaws.{Bytes, bytes_take, bytes_drop, dec_lt}
 use Rattle.layout.proofs.JournalLaws.{sequence_empty_block, used_empty_block, sequence_add_record}
+use Rattle.layout.specs.declared.EndPlace.{EndPlace}
 use Rattle.store.specs.declared.State.{State}
 use Rattle.store.specs.State.{fits}
-use Rattle.store.specs.Tail.{tail_fits, may_log, stored_tail, logged, logged_if}
+use Rattle.store.specs.Tail.{tail_fits, may_log, tail_end, stored_tail, logged, logged_if}
 use Rattle.store.proofs.FitLaws.{fit_of}
 use Rattle.tail.specs.Taken.{Ready, taken, begun}
 
@@ -31,11 +33,31 @@ pub room_for : (t : List ℕ) (size : ℕ) → tail_fits t size ≡ true → use
 unfolding tail_fits
 room_for t size e = leb-true (used_of t + size) 512 e
 
+-- ---- whether the log may take a record; q is the tail's sequence
+
+module _ (s : State) (m : List ℕ) (size q : ℕ) (e : q ≡ sequence_of s.tail) (f : tail_fits s.tail size ≡ false) where
+  pub may_not : oldest_on m + s.blocks ≤ q + 1 → may_log s m size ≡ false
+  unfolding may_log
+  may_not h = simp (f, ← e, le-ltb _ _ h)
+
+  pub may_if : q + 1 < oldest_on m + s.blocks → may_log s m size ≡ ltb (q + 1) (2 ^ 48)
+  unfolding may_log
+  may_if h = simp (f, ← e, lt-ltb _ _ h)
+
 pub may_begin : (s : State) (m : List ℕ) (size : ℕ) → may_log s m size ≡ true → tail_fits s.tail size ≡ false → sequence_of s.tail + 1 < 2 ^ 48
 unfolding may_log
 may_begin s m size e f =
     let w : ltb (sequence_of s.tail + 1) (oldest_on m + s.blocks) && ltb (sequence_of s.tail + 1) (2 ^ 48) ≡ true = rw f at e in
     ltb-true (sequence_of s.tail + 1) (2 ^ 48) (and_1 (ltb (sequence_of s.tail + 1) (oldest_on m + s.blocks)) _ w)
+
+-- ---- the end place of what stands in the tail; q is its sequence and u its used bytes
+
+end_at : ℕ → EndPlace
+end_at e = record { 0 = e }
+
+pub end_is : (t : List ℕ) (r : EndPlace) (q u : ℕ) → r.0 ≡ end_place q u → q ≡ sequence_of t → u ≡ used_of t → r ≡ tail_end t
+unfolding tail_end end_at
+end_is t r q u e eq eu = ap end_at (e ∙ rw (eq, eu))
 
 -- ---- a record taken; x is the state with room made for it, and n the medium
 
