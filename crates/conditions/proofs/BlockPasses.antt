@@ -5,6 +5,7 @@ use mathlib.Core.Bool.{Bool, true, false, ◌&&◌}
 use mathlib.Core.Logic.{◌⊎◌, ⊎_elim}
 use Prim.Native.Nat.{ℕ, zero, suc, ◌+◌, ◌-◌, ◌*◌, ◌≤◌, ◌<◌, ◌^◌, min}
 use native.Mathlib.Nat.{add-zero, sub-zero}
+use native.Mathlib.Numerals.{add-one}
 use native.Mathlib.Omega.{arith}
 use mathlib.Core.List.{List, [], ◌∷◌, ◌++◌}
 use lib.ListN.{length, take, drop, length-take, length-drop, drop_of_length-le}
@@ -126,11 +127,11 @@ module _ (b : List ℕ) (at : ℕ) (low : 10 ≤ at) (i : Item) (read : i ≡ it
   commit_room : (p : Pair) → i ≡ Commit p → 19 ≤ length (drop (at - 10) (body_of b))
   commit_room p e = let t : Told Journal (drop (at - 10) (body_of b)) (Commit p) = rw e at told_here in t.0.room
 
-  pub version_in : (h : VersionHead) (w : ℕ) → length b ≡ 512 → i ≡ Version h → w ≡ bytes_of h.width → at + 32 + w ≤ 512
-  version_in h w n e f = omega (arith, record_in b at (32 + bytes_of h.width) (omega arith) low (version_room h e) (omega arith))
+  pub version_in : (h : VersionHead) (w : ℕ) → length b ≤ 512 → i ≡ Version h → w ≡ bytes_of h.width → at + 32 + w ≤ 512
+  version_in h w n e f = omega (arith, record_in b at (32 + bytes_of h.width) n low (version_room h e) (omega arith))
 
-  pub commit_in : (p : Pair) → length b ≡ 512 → i ≡ Commit p → at + 19 ≤ 512
-  commit_in p n e = record_in b at 19 (omega arith) low (commit_room p e) (omega arith)
+  pub commit_in : (p : Pair) → length b ≤ 512 → i ≡ Commit p → at + 19 ≤ 512
+  commit_in p n e = record_in b at 19 n low (commit_room p e) (omega arith)
 
   pub left_version : (h : VersionHead) (end : ℕ) → i ≡ Version h → end ≡ at + (32 + bytes_of h.width)
       → left_of b at ≡ onward (version h (part b (end - 16) 16)) (left_of b end)
@@ -197,6 +198,9 @@ module _ (b : List ℕ) (at : ℕ) (from : 10 ≤ at) (i : Item) (read : i ≡ i
   pub commit_stop : (p : Pair) → i ≡ Commit p → t ≡ leb low p.time.0 → t ≡ false → false ≡ records_ok d start q.records && q.whole
   unfolding record_form
   commit_stop p e f g = same_stop (commit p) s (left_commit b at from i read p e) t f g
+
+pub ltb_low : (a b : ℕ) → ltb a b ≡ leb (a + 1) b
+ltb_low a b = rw add-one
 
 -- ---- the blocks
 

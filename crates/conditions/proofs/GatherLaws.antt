@@ -68,10 +68,10 @@ pub record Gathering (m : List ℕ) (l : ℕ) (from c : Cursor) (commits : List 
   pub same : commits ++ commits_of (rest_of m l c) ≡ commits_of (rest_of m l from)
 
 module _ (m : List ℕ) (l : ℕ) (from : Cursor) where
-  pub gather_start : Valid from → Gathering m l from from []
-  gather_start v =
+  pub gather_start : (commits : List Commit) → commits ≡ [] → Valid from → Gathering m l from from commits
+  gather_start commits e v =
       let k : from.left ≤ 32 = v.blocks in
-      record { valid = v; room = omega arith; same = refl }
+      rw e (record { valid = v; room = omega arith; same = refl })
 
   module _ (c : Cursor) (commits : List Commit) (g : Gathering m l from c commits) where
     pub gather_end : rest_of m l c ≡ [] → commits ≡ commits_of (rest_of m l from)

@@ -48,11 +48,11 @@ module _ (m : List ℕ) (low s e : ℕ) (p : Pair) (seen xs log : List Placed) (
       let other : eqb y.end e ≡ false = ne_eqb y.end e (λ q. omega arith) in
       sym (simp (found, other, and-false))
 
-  once_by_end : once_in (commit p) m (commit_under seen p.number.0)
+  pub once_by_end : once_in (commit p) m (commit_under seen p.number.0)
       ≡ same_time (table_find m p.number.0) m p.time.0 && eqb (end_of_commitment (commit_under log p.number.0)) e
   once_by_end = once_from (commit_under seen p.number.0) refl
 
-  commit_judged : (ok : Bool) → ok ≡ commit_ok m (commit_under log p.number.0) p e → record_ok m seen (commit p) ≡ ok
+  pub commit_judged : (ok : Bool) → ok ≡ commit_ok m (commit_under log p.number.0) p e → record_ok m seen (commit p) ≡ ok
   unfolding record_ok commit_ok
   commit_judged ok h =
       rw h (simp (once_by_end, one_up p.time.0)

@@ -10,7 +10,7 @@ use native.Mathlib.Omega.{arith}
 use native.Mathlib.Decide.{ℕ_discrete}
 use lib.ListN.{length, take, drop, get_or, set, replicate, get_or-replicate}
 use lib.Seq.{get_or-set_same, get_or-set_other}
-use lib.Dec.{eqb}
+use lib.Dec.{eqb, leb}
 use borrow.Author.Tests.{eq-eqb, ne_eqb, le-leb}
 use Rattle.fields.specs.Block.{blk}
 use Rattle.layout.specs.Page.{page_used}
@@ -46,6 +46,16 @@ full_next c d p a u b v ha e t l hb f =
     let x : u ≡ page_used (take 512 (drop (512 * p) c)) = rw (lent_part c a 512, ha) at e in
     let y : v ≡ page_used (take 512 (drop (512 * (p + 1)) c)) = rw (lent_part c b 512, hb) at f in
     simp (← x, ← y, ne_eqb _ _ t, ne_eqb _ _ l)
+
+-- ---- a number or time of 0 is out of bounds
+
+pub zero_out : (b : Bool) (n : ℕ) → n ≡ 0 → false ≡ b && leb 1 n
+zero_out true n e = rw e
+zero_out false n e = refl
+
+pub one_in : (b : Bool) (n : ℕ) → (n ≡ 0 → ⊥) → b ≡ b && leb 1 n
+one_in true n h = sym (le-leb 1 n (omega arith))
+one_in false n h = refl
 
 empty_one : (s : Slot) → is_version s ≡ false → slot_at_least_one s ≡ true
 empty_one Empty e = refl

@@ -1,5 +1,5 @@
 // The blocks that are read, and their commit records.
-ghost use Rattle.std.specs.Prelude.{◌≡◌, [], ◌+◌, ◌<◌, ◌≤◌, ◌^◌, length};
+ghost use Rattle.std.specs.Prelude.{◌≡◌, ◌+◌, ◌<◌, ◌≤◌, ◌^◌, length};
 ghost use Rattle.store.specs.OpenLog.{matching};
 ghost use Rattle.store.specs.OpenPairs.{end_of_commitment};
 ghost use Rattle.conditions.specs.Cursor.{Ready, Valid, rest_of};
@@ -44,14 +44,14 @@ pub fn read_count(medium: &[u8], blocks: u64, oldest: u64) -> u64
     blocks
 }
 
-// Gathers the commit records from the cursor on, so that each is read from the log once. A record takes 19 of a block's
-// 512 bytes, so that a log of 32 blocks has no more than 864.
+// Gathers the commit records from the cursor on, in place of what was there, so that each is read from the log once. A
+// record takes 19 of a block's 512 bytes, so that a log of 32 blocks has no more than 864.
 pub fn gather(medium: &[u8], blocks: u64, from: Cursor, commits: &mut ArrayVec<Commit, 864>)
     requires ready { Ready blocks (length medium.now) }
     requires valid { Valid from }
-    requires commits_value { commits.old.items ≡ [] }
     ensures { commits.new.items ≡ commits_of (rest_of medium.now blocks from) }
 {
+    commits.clear();
     let mut cursor = from;
     loop {
         match crate::cursor::next(medium, blocks, cursor) {

@@ -1,10 +1,10 @@
 // The log's records: numbers, times, and no two commits under a number.
 ghost use Rattle.std.specs.Prelude.{◌≡◌, true, ◌&&◌, [], ◌+◌, ◌-◌, ◌<◌, ◌≤◌, ◌^◌, length, leb, ltb, is_some, IfSome};
-ghost use Rattle.store.specs.OpenLog.{read_log, above_all, latest};
+ghost use Rattle.store.specs.OpenLog.{above_all, latest};
 ghost use Rattle.store.specs.OpenPairs.{table_find};
 ghost use Rattle.store.specs.OpenConditions.{same_time};
 ghost use Rattle.conditions.specs.Cursor.{Ready, Valid, rest_of};
-ghost use Rattle.conditions.specs.Lookup.{commit_among};
+ghost use Rattle.conditions.specs.Lookup.{commits_of, commit_among};
 ghost use Rattle.conditions.specs.Passes.{log_ok, commit_ok};
 
 use crate::cursor::{Cursor, Step};
@@ -36,13 +36,13 @@ fn same_time(pairs: &Pairs, pair: Pair) -> bool
     }
 }
 
-// All records of the log, from the cursor at its start on.
+// All records from the cursor on, whose commits the pairs have.
 pub fn all_ok(pairs: &Pairs, log: Cursor) -> Option<Tally>
     requires ready { Ready pairs.now.blocks (length pairs.now.medium.now) }
     requires valid { Valid log }
-    requires log_value { rest_of pairs.now.medium.now pairs.now.blocks log ≡ read_log pairs.now.medium.now pairs.now.blocks }
-    ensures verdict { is_some result ≡ log_ok pairs.now.medium.now [] (read_log pairs.now.medium.now pairs.now.blocks) }
-    ensures value { IfSome result (λ tally. (tally.above ≡ above_all (read_log pairs.now.medium.now pairs.now.blocks)) × (tally.latest ≡ latest (read_log pairs.now.medium.now pairs.now.blocks))) }
+    requires commits_value { pairs.now.commits.now ≡ commits_of (rest_of pairs.now.medium.now pairs.now.blocks log) }
+    ensures verdict { is_some result ≡ log_ok pairs.now.medium.now [] (rest_of pairs.now.medium.now pairs.now.blocks log) }
+    ensures value { IfSome result (λ tally. (tally.above ≡ above_all (rest_of pairs.now.medium.now pairs.now.blocks log)) × (tally.latest ≡ latest (rest_of pairs.now.medium.now pairs.now.blocks log))) }
 {
     let mut above: u64 = 0;
     let mut latest: u64 = 0;

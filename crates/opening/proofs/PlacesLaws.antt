@@ -231,19 +231,23 @@ module _ (m : List ℕ) (log : List Placed) (c : List ℕ) (slots : ℕ) where
       go (Some i) = refl
       go None = and-true (is_timed (time_of_commitment (commit_under log n)))
 
+  pub take_all_waiting : (ps : List Place)
+      → take_all m log ps (waiting_list c (is_paired m log) slots) ≡ take_free m log c slots ps (waiting_numbers c (in_log_alone m log) slots)
+  unfolding waiting_list
+  take_all_waiting ps = take_kept ps (waiting_numbers c (is_paired m log) slots) ∙ ap (take_free m log c slots ps) (keep_waiting (is_paired m log) untabled (in_log_alone m log) alone c slots)
+
   -- what is left of the list, taken: at the start, where ps are the table's places
   pub taken_start : {F : Type 0} {g : Mut F (ℕ × Unit {0}) Place} {f : F} (ps : List Place) (xs : List listed.Waiting) → xs ≡ waiting_list c (is_paired m log) slots
       → IsFromFnResult g f ps 64 → ((i : ℕ) (y : Place) (q : F) → Called g f (i, tt) y q → (q ≡ f) × (y ≡ table_place m log (waiting_under xs) i))
       → take_all m log ps xs ≡ open_places m log c slots
-  unfolding open_places waiting_list
+  unfolding open_places
   taken_start ps xs is made computes =
       rw (
         from_fn_is (table_place m log (waiting_under xs)) computes free_place ps 64 made,
         is,
         tabled_same m log c slots (waiting_under (waiting_list c (is_paired m log) slots)) (under_count c (is_paired m log) slots) 0 64 (omega arith),
       )
-      (take_kept (table_places m log c slots 0 64) (waiting_numbers c (is_paired m log) slots)
-      ∙ ap (take_free m log c slots (table_places m log c slots 0 64)) (keep_waiting (is_paired m log) untabled (in_log_alone m log) alone c slots))
+      (take_all_waiting (table_places m log c slots 0 64))
 
 pub taken_turn : (m : List ℕ) (log : List Placed) (ps next : List Place) (xs : List listed.Waiting) (i : ℕ) (d : listed.Waiting) → i < length xs → next ≡ take_one m log ps (get_or xs i d)
     → take_all m log next (drop (i + 1) xs) ≡ take_all m log ps (drop i xs)

@@ -15,11 +15,11 @@ returns-in-End c =
 
 pub overflow_add-end-in-Version : goal.overflow_add-end-in-Version
 overflow_add-end-in-Version c =
-    omega (arith, version_in _ _ c.loop-head.invariant.from _ c.item_at.ensures _ _ c.requires.block_len c.in-Version.is c.bytes.ensures)
+    omega (arith, version_in _ _ c.loop-head.invariant.from _ c.item_at.ensures _ _ (omega arith) c.in-Version.is c.bytes.ensures)
 
 pub slice_bounds-version_ok-end : goal.slice_bounds-version_ok-end
 slice_bounds-version_ok-end c =
-    omega (arith, version_in _ _ c.loop-head.invariant.from _ c.item_at.ensures _ _ c.requires.block_len c.in-Version.is c.bytes.ensures)
+    omega (arith, version_in _ _ c.loop-head.invariant.from _ c.item_at.ensures _ _ (omega arith) c.in-Version.is c.bytes.ensures)
 
 pub returns-then-not-version_ok : goal.returns-then-not-version_ok
 returns-then-not-version_ok c =
@@ -31,7 +31,7 @@ loop-head-preserved-in-Version c =
     let v = c.loop-head.invariant in
     record {
       from = omega arith;
-      up_to = version_in _ _ v.from _ c.item_at.ensures _ _ c.requires.block_len c.in-Version.is c.bytes.ensures;
+      up_to = version_in _ _ v.from _ c.item_at.ensures _ _ (omega arith) c.in-Version.is c.bytes.ensures;
       same = version_turn c.args.block.now _ v.from _ c.item_at.ensures v.same _ _ _ c.in-Version.is c.bytes.ensures c.version_ok.ensures c.if-not-version_ok.false;
     }
 
@@ -41,14 +41,14 @@ returns-then-not-rises c =
     (commit_stop c.args.block.now _ v.from _ c.item_at.ensures v.same _ _ c.in-Commit.is c.rises.ensures c.if-not-rises.true, no)
 
 pub loop-head-smaller : goal.loop-head-smaller
-loop-head-smaller c = omega (arith, commit_in _ _ c.loop-head.invariant.from _ c.item_at.ensures _ c.requires.block_len c.in-Commit.is)
+loop-head-smaller c = omega (arith, commit_in _ _ c.loop-head.invariant.from _ c.item_at.ensures _ (omega arith) c.in-Commit.is)
 
 pub loop-head-preserved : goal.loop-head-preserved
 loop-head-preserved c =
     let v = c.loop-head.invariant in
     record {
       from = omega arith;
-      up_to = commit_in _ _ v.from _ c.item_at.ensures _ c.requires.block_len c.in-Commit.is;
+      up_to = commit_in _ _ v.from _ c.item_at.ensures _ (omega arith) c.in-Commit.is;
       same = commit_turn c.args.block.now _ v.from _ c.item_at.ensures v.same _ _ c.in-Commit.is c.rises.ensures c.if-not-rises.false;
     }
 

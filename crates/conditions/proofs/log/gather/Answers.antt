@@ -6,7 +6,7 @@ use Rattle.conditions.proofs.GatherLaws.{gather_start, gather_end, gather_skip, 
 use Rattle.conditions.proofs.log.gather.Goals as goal
 
 pub loop-next-init : goal.loop-next-init
-loop-next-init c = rw c.requires.commits_value (gather_start _ _ _ c.requires.valid)
+loop-next-init c = gather_start _ _ _ _ c.clear.ensures c.requires.valid
 
 pub returns-in-Done : goal.returns-in-Done
 returns-in-Done c =

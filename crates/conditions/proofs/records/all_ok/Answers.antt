@@ -1,11 +1,12 @@
 -- Those seen were in order, and what is left decides; a record that fails ends it. The tallies are the highest so far.
+use mathlib.Core.Path.{refl}
 use native.Mathlib.Omega.{arith}
 use Rattle.conditions.proofs.CursorLaws.{step_done, step_skip, step_written, step_committed, rest_rises}
 use Rattle.conditions.proofs.RecordsLaws.{judged_begin, judged_on, judged_end, judged_stop, judged_turn, version_judged, commit_turn, commit_low}
 use Rattle.conditions.proofs.records.all_ok.Goals as goal
 
 pub loop-next-init : goal.loop-next-init
-loop-next-init c = record { valid = c.requires.valid; judged = judged_begin _ _ _ c.requires.log_value }
+loop-next-init c = record { valid = c.requires.valid; judged = judged_begin _ _ _ refl }
 
 pub returns-in-Done-clause-verdict : goal.returns-in-Done-clause-verdict
 returns-in-Done-clause-verdict c =
@@ -51,7 +52,7 @@ returns-then-not-commit_ok-clause-verdict c =
     let i = c.loop-next.invariant in
     let w = step_committed _ _ c.requires.ready _ _ _ _ i.valid c.in-Committed.ensures in
     let j = judged_on i.judged w.rest in
-    judged_stop j _ (commit_turn j _ _ (rest_rises _ _ _ c.requires.valid) c.requires.log_value _ c.args.pairs.now.known.log _ c.commit_ok.ensures) c.if-not-commit_ok.true
+    judged_stop j _ (commit_turn j _ _ (rest_rises _ _ _ c.requires.valid) refl _ c.requires.commits_value _ c.commit_ok.ensures) c.if-not-commit_ok.true
 
 pub overflow_add-pair : goal.overflow_add-pair
 overflow_add-pair c = omega (arith, commit_low _ _ _ _ _ c.commit_ok.ensures c.if-not-commit_ok.false)
@@ -65,4 +66,4 @@ loop-next-preserved c =
     let i = c.loop-next.invariant in
     let w = step_committed _ _ c.requires.ready _ _ _ _ i.valid c.in-Committed.ensures in
     let j = judged_on i.judged w.rest in
-    record { valid = w.valid; judged = judged_turn j _ (commit_turn j _ _ (rest_rises _ _ _ c.requires.valid) c.requires.log_value _ c.args.pairs.now.known.log _ c.commit_ok.ensures) _ _ c.if-not-commit_ok.false c.max-above-in-Committed.ensures c.max-latest.ensures }
+    record { valid = w.valid; judged = judged_turn j _ (commit_turn j _ _ (rest_rises _ _ _ c.requires.valid) refl _ c.requires.commits_value _ c.commit_ok.ensures) _ _ c.if-not-commit_ok.false c.max-above-in-Committed.ensures c.max-latest.ensures }

@@ -18,39 +18,39 @@ invariant_of-pairs c =
 pub all_ok-requires-clause-valid : goal.all_ok-requires-clause-valid
 all_ok-requires-clause-valid c = read_valid _ _ _ _ _ c.requires.applied.read c.requires.ready.high
 
-pub all_ok-requires-clause-log_value : goal.all_ok-requires-clause-log_value
-all_ok-requires-clause-log_value c = read_rest _ _ _ _ _ c.requires.applied.read
+pub all_ok-requires-clause-commits_value : goal.all_ok-requires-clause-commits_value
+all_ok-requires-clause-commits_value c = c.deref.ensures.0 ∙ c.gather.ensures
 
 pub returns-in_err-tally-clause-verdict : goal.returns-in_err-tally-clause-verdict
-returns-in_err-tally-clause-verdict c = rw c.from_residual.ensures (not_logged _ _ _ _ _ _ _ c.requires.applied c.in_err-tally.ensures.verdict)
+returns-in_err-tally-clause-verdict c = rw c.from_residual.ensures (not_logged _ _ _ _ _ _ _ c.requires.applied (rw (read_rest _ _ _ _ _ c.requires.applied.read) at c.in_err-tally.ensures.verdict))
 
 pub cache_ok-requires-clause-keys_below : goal.cache_ok-requires-clause-keys_below
 cache_ok-requires-clause-keys_below c = applied_keys _ _ _ _ _ _ _ c.requires.applied c.requires.medium_len c.type_inv.medium
 
 pub cache_ok-requires-clause-next_value : goal.cache_ok-requires-clause-next_value
 cache_ok-requires-clause-next_value c =
-    let t = c.in_ok-tally.ensures.value in
+    let t = rw (read_rest _ _ _ _ _ c.requires.applied.read) at c.in_ok-tally.ensures.value in
     (next_found _ _ _ _ _ t.0 c.get8-given.ensures c.max-next.ensures, last_found _ _ _ _ _ t.1 c.get8-stored.ensures c.max-last.ensures)
 
 pub returns-then-not-cache_ok-clause-verdict : goal.returns-then-not-cache_ok-clause-verdict
 returns-then-not-cache_ok-clause-verdict c =
-    not_kept _ _ _ _ _ _ _ c.requires.applied c.in_ok-tally.ensures.verdict (sym c.if-not-cache_ok.true ∙ c.cache_ok.ensures)
+    not_kept _ _ _ _ _ _ _ c.requires.applied (rw (read_rest _ _ _ _ _ c.requires.applied.read) at c.in_ok-tally.ensures.verdict) (sym c.if-not-cache_ok.true ∙ c.cache_ok.ensures)
 
 pub returns-in_err-places-clause-verdict : goal.returns-in_err-places-clause-verdict
 returns-in_err-places-clause-verdict c =
     rw c.from_residual-in_err-places.ensures
-    (few_is _ _ _ _ _ _ _ c.requires.applied c.in_ok-tally.ensures.verdict (sym c.if-not-cache_ok.false ∙ c.cache_ok.ensures) _ c.in_err-places.ensures.verdict)
+    (few_is _ _ _ _ _ _ _ c.requires.applied (rw (read_rest _ _ _ _ _ c.requires.applied.read) at c.in_ok-tally.ensures.verdict) (sym c.if-not-cache_ok.false ∙ c.cache_ok.ensures) _ c.in_err-places.ensures.verdict)
 
 pub read_tail-requires-clause-valid : goal.read_tail-requires-clause-valid
 read_tail-requires-clause-valid c = read_valid _ _ _ _ _ c.requires.applied.read c.requires.ready.high
 
 pub returns-clause-verdict : goal.returns-clause-verdict
 returns-clause-verdict c =
-    few_is _ _ _ _ _ _ _ c.requires.applied c.in_ok-tally.ensures.verdict (sym c.if-not-cache_ok.false ∙ c.cache_ok.ensures) _ c.in_ok-places.ensures.verdict
+    few_is _ _ _ _ _ _ _ c.requires.applied (rw (read_rest _ _ _ _ _ c.requires.applied.read) at c.in_ok-tally.ensures.verdict) (sym c.if-not-cache_ok.false ∙ c.cache_ok.ensures) _ c.in_ok-places.ensures.verdict
 
 pub returns-clause-value : goal.returns-clause-value
 returns-clause-value c =
-    let t = c.in_ok-tally.ensures.value in
+    let t = rw (read_rest _ _ _ _ _ c.requires.applied.read) at c.in_ok-tally.ensures.value in
     opened_is _ _ _ _ _ _ _ c.requires.applied _ _ _ _ _ c.used_slots.ensures
     (next_found _ _ _ _ _ t.0 c.get8-given.ensures c.max-next.ensures) (last_found _ _ _ _ _ t.1 c.get8-stored.ensures c.max-last.ensures)
     c.read_tail.ensures c.in_ok-places.ensures.value
