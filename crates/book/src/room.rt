@@ -2,6 +2,7 @@
 ghost use Rattle.std.specs.Prelude.{◌≡◌, ◌++◌, ◌+◌, ◌≤◌, length, take, Ok};
 ghost use Rattle.fields.specs.Block.{zeros};
 ghost use Rattle.store.specs.Answer.{leaves};
+ghost use Rattle.store.specs.CurrentRead.{reads};
 ghost use Rattle.store.specs.Open.{open_of};
 ghost use Rattle.book.specs.Room.{result_of, outcome_of, said_of, said_number, said_result, line_text, result_text};
 ghost use Rattle.book.specs.Steps.{world, left_by};
@@ -12,7 +13,7 @@ use store::{Answer, Refusal, State};
 
 // The result of an answer, if it has one; that of a strip is its first byte.
 #[tactic(auto, unfolding(crate::specs::Room::result_of))]
-fn result_in(answer: Answer, byte: u8) -> Option<u64>
+pub fn result_in(answer: Answer, byte: u8) -> Option<u64>
     ensures { result ≡ result_of (Ok answer) byte }
 {
     match answer {
@@ -32,8 +33,38 @@ fn cut(state: &mut State, medium: &[u8], cache: &mut [u8]) -> Result<Answer, Ref
     media::open::open(medium, cache, state, 4, 2)
 }
 
-// Makes the call of a line: its result, if it has one, or its refusal.
-#[tactic(auto, unfolding(crate::specs::Room::outcome_of, crate::specs::Room::said_of))]
+// Makes the call of a line: its answer, and beside it the strip that a query reads; zeros where there is none.
+#[tactic(auto, unfolding(crate::specs::Room::outcome_of))]
+pub fn outcome(
+    call: Call,
+    state: &mut State,
+    medium: &mut [u8],
+    cache: &mut [u8],
+) -> (Result<Answer, Refusal>, [u8; 16])
+    ensures { reads result.0 result.1 state.new medium.new cache.new
+        ≡ outcome_of call state.old medium.old cache.old }
+{
+    let answer = match call {
+        Call::Begin(clock) => transactions::begin::begin(state, medium, cache, clock),
+        Call::Write(number, key, byte) => {
+            writes::write::write(state, medium, cache, number, key, [byte; 16])
+        }
+        Call::Commit(number, clock) => {
+            transactions::commit::commit(state, medium, cache, number, clock)
+        }
+        Call::Query(key, time) => {
+            return match reads::as_of::as_of(state, medium, cache, key, time) {
+                Ok(reading) => (Ok(reading.answer()), reading.value()),
+                Err(refusal) => (Err(refusal), [0; 16]),
+            };
+        }
+        Call::Cut => cut(state, medium, cache),
+    };
+    (answer, [0; 16])
+}
+
+// The same, as it is printed: its result, if it has one, or its refusal.
+#[tactic(auto, unfolding(crate::specs::Room::said_of))]
 pub fn make(
     call: Call,
     state: &mut State,
@@ -43,21 +74,8 @@ pub fn make(
     ensures left { world state.new medium.new cache.new ≡ left_by (outcome_of call state.old medium.old cache.old) }
     ensures said { result ≡ said_of (outcome_of call state.old medium.old cache.old) }
 {
-    let answer = match call {
-        Call::Begin(clock) => transactions::begin::begin(state, medium, cache, clock)?,
-        Call::Write(number, key, byte) => {
-            writes::write::write(state, medium, cache, number, key, [byte; 16])?
-        }
-        Call::Commit(number, clock) => {
-            transactions::commit::commit(state, medium, cache, number, clock)?
-        }
-        Call::Query(key, time) => {
-            let reading = reads::as_of::as_of(state, medium, cache, key, time)?;
-            return Ok(result_in(reading.answer(), reading.value()[0]));
-        }
-        Call::Cut => cut(state, medium, cache)?,
-    };
-    Ok(result_in(answer, 0))
+    let (answer, value) = outcome(call, state, medium, cache);
+    Ok(result_in(answer?, value[0]))
 }
 
 // 0, or the number of the refusal.

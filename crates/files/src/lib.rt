@@ -14,7 +14,7 @@ ghost use Rattle.files.specs.Outcome.{is_whole, length_of, synced_of};
 
 pub use failure::{Failure, unplayed};
 pub use kind::{is_free, is_regular};
-pub use say::code;
+pub use say::{code, complain};
 use std::fs::File;
 use std::io;
 use std::io::{Seek, SeekFrom};

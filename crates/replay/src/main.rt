@@ -4,7 +4,7 @@
 
 mod play;
 
-ghost use Rattle.std.specs.Prelude.{◌≡◌, true, [], ◌≤◌, ◌<◌, length, take};
+ghost use Rattle.std.specs.Prelude.{◌≡◌, true, false, [], ◌≤◌, ◌<◌, length, take};
 ghost use Rattle.script.specs.Run.{stand, play_of, finished};
 ghost use Rattle.rooms.specs.Parts.{room_of};
 ghost use Rattle.rooms.specs.Steps.{does};
@@ -70,7 +70,7 @@ fn play_all(
     true
 }
 
-// The end of the input, which ends a line that was begun; answers how many bytes were written out.
+// The end of the input, which ends the run, and a line that was begun before.
 fn finish(
     output: &impl Print,
     run: &mut Run,
@@ -79,19 +79,24 @@ fn finish(
     cache: &mut [u8],
     buffer: &mut [u8],
     out: &mut [u8],
-) -> usize
+) -> Played
     requires medium_len { length medium.old ≡ 50688 }
     requires cache_len { length cache.old ≡ 32768 }
     requires buffer_len { length buffer.old ≡ 40000 }
     requires out_len { length out.old ≡ 200000 }
-    ensures { take result out.new
+    ensures on_value { result.on ≡ false }
+    ensures out_after { take result.printed out.new
         ≡ finished does (stand run.old.line (room_of run.old.standing medium.old cache.old state.old) true []) }
 {
     if run.line.letter == 0 {
-        return 0;
+        return Played {
+            taken: 0,
+            printed: 0,
+            on: false,
+        };
     }
     let last = play_out(output, run, b"\n", state, medium, cache, buffer, out);
-    last.printed
+    Played { on: false, ..last }
 }
 
 // Reads once and plays what came; answers whether the run goes on.
@@ -112,10 +117,7 @@ fn read_some(
 {
     let mut bytes = [0; 65536];
     match input.read(&mut bytes) {
-        Ok(0) | Err(_) => {
-            finish(output, run, state, medium, cache, buffer, out);
-            false
-        }
+        Ok(0) | Err(_) => finish(output, run, state, medium, cache, buffer, out).on,
         Ok(n) => play_all(output, run, &bytes[..n], state, medium, cache, buffer, out),
     }
 }
