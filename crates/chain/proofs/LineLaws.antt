@@ -10,6 +10,7 @@ use native.Mathlib.Omega.{arith}
 use lib.ListN.{length, length-append}
 use lib.Dec.{ltb}
 use borrow.Author.Tests.{le-leb, lt-leb}
+use Rattle.fields.proofs.Choose.{cond_elim}
 use Rattle.store.specs.Chain.{best_of}
 use Rattle.store.specs.Changes.{differs_from, line_of, before, lines_at, lines_below}
 use Rattle.chain.specs.declared.ranked.Dated.{Dated}
@@ -64,6 +65,18 @@ module _ (c : List ℕ) (pair : ℕ → Option CommitTime) (head : Option ℕ) w
       (λ u h. ranked_best c pair t2 head u (omega arith))
 
 -- ---- what is known of the versions listed
+
+pub differs_few : (c : List ℕ) (e : Dated) (es : List Dated) → length (if_differs c e es) ≤ 1
+unfolding if_differs
+differs_few c e es =
+    cond_elim (λ (l : List Dated). length l ≤ 1) (differs_from c e.slot (latest es)) (λ _. omega arith) (λ _. omega arith)
+
+pub changed_few : (c : List ℕ) (t1 : ℕ) (es : List Dated) → length (changed c t1 es) ≤ length es
+unfolding changed
+changed_few c t1 [] = omega arith
+changed_few c t1 (e ∷ es) =
+    cond_elim (λ (l : List Dated). length l ≤ suc (length es)) (ltb e.time.0 t1) (λ _. omega arith)
+    (λ _. omega (arith, length-append (if_differs c e es) (changed c t1 es), differs_few c e es, changed_few c t1 es))
 
 pub changed_slots : (c : List ℕ) (t1 l : ℕ) (es : List Dated) → Slots es l → Slots (changed c t1 es) l
 unfolding changed if_differs

@@ -6,6 +6,7 @@ use mathlib.Core.Path.{◌≡◌, sym, ap, subst, ◌∙◌}
 use mathlib.Core.Bool.{cond}
 use mathlib.Core.List.{List}
 use Prim.Native.Nat.{ℕ, suc, ◌*◌, ◌≤◌, ◌<◌}
+use native.Mathlib.Omega.{arith}
 use lib.ListN.{length}
 use lib.Dec.{leb}
 use borrow.Author.Tests.{le-leb, lt-leb}
@@ -15,16 +16,22 @@ use Rattle.store.specs.Changes.{Line, line_bytes, lines_below}
 use Rattle.cached.specs.Room.{Head}
 use Rattle.chain.specs.declared.ranked.Dated.{Dated}
 use Rattle.chain.specs.Ranked.{Slots, ranked_of, changed, lines_of}
-use Rattle.chain.proofs.RankedLaws.{ranked_slots}
-use Rattle.chain.proofs.LineLaws.{lines_ranked, changed_slots, lines_length}
+use Rattle.chain.proofs.RankedLaws.{ranked_few, ranked_slots}
+use Rattle.chain.proofs.LineLaws.{lines_ranked, changed_few, changed_slots, lines_length}
 
 -- es are the versions ranked
 module _ (c : List ℕ) (pair : ℕ → Option CommitTime) (head : Option ℕ) (t2 : ℕ) (es : List Dated) (e : es ≡ ranked_of head c pair t2) (r : Head head (length c)) where
+  pub all_few : length es ≤ 960
+  all_few = omega (arith, ap length e, ranked_few c pair t2 head (length c) r)
+
   pub all_slots : Slots es (length c)
   all_slots = subst (λ (x : List Dated). Slots x (length c)) (sym e) (ranked_slots c pair t2 head (length c) r)
 
   -- ks are those kept
   module _ (t1 : ℕ) (ks : List Dated) (f : ks ≡ changed c t1 es) where
+    pub kept_few : length ks ≤ 960
+    kept_few = let a = all_few in omega (arith, ap length f, changed_few c t1 es)
+
     pub kept_slots : Slots ks (length c)
     kept_slots = subst (λ (x : List Dated). Slots x (length c)) (sym f) (changed_slots c t1 (length c) es all_slots)
 

@@ -3,7 +3,7 @@
 use mathlib.Core.Path.{◌≡◌, refl, sym, ap, ◌∙◌}
 use mathlib.Core.Bool.{Bool, true, false}
 use mathlib.Core.List.{List, [], ◌∷◌, ◌++◌, append-nil, append_assoc}
-use Prim.Native.Nat.{ℕ, ◌+◌, ◌-◌, ◌*◌, ◌≤◌, ◌<◌}
+use Prim.Native.Nat.{ℕ, suc, ◌+◌, ◌-◌, ◌*◌, ◌≤◌, ◌<◌}
 use native.Mathlib.Numerals.{add-one}
 use native.Mathlib.Omega.{arith}
 use lib.ListN.{length, get_or, take, drop, set, length-set, length-drop, drop_of_length-le}
@@ -15,7 +15,8 @@ use Rattle.fields.specs.Cells.{flat}
 use Rattle.fields.proofs.WriteLaws.{splice_none}
 use Rattle.fields.proofs.CellLaws.{each_append, Cells, length_flat, flat_snoc}
 use Rattle.store.specs.Chain.{cell_at}
-use Rattle.store.specs.Changes.{Line, line_bytes, differs_from, line_of}
+use Rattle.store.specs.Changes.{Line, line_bytes, differs, differs_from, line_of}
+use Rattle.cached.specs.Room.{Room}
 use Rattle.cached.proofs.RoomLaws.{slot_room}
 use Rattle.chain.specs.declared.ranked.Dated.{Dated}
 use Rattle.chain.specs.Ranked.{Slots, latest, if_differs, changed, lines_of}
@@ -25,15 +26,30 @@ use Rattle.chain.proofs.LineLaws.{lines_length}
 -- ---- version i, and those behind it
 
 -- those from i on are version i and those behind it
-cons_at : (es : List Dated) (i : ℕ) (d : Dated) → i < length es → drop i es ≡ get_or es i d ∷ drop (i + 1) es
+pub cons_at : (es : List Dated) (i : ℕ) (d : Dated) → i < length es → drop i es ≡ get_or es i d ∷ drop (i + 1) es
 cons_at es i d h = rw add-one (drop-cons es i d h)
 
 module _ (es : List Dated) (i : ℕ) (d : Dated) (l : ℕ) (h : i < length es) (s : Slots (drop i es) l) where
   both : Slots (get_or es i d ∷ drop (i + 1) es) l
   both = rw (cons_at es i d h) at s
 
+  pub slot_in : Room l (suc (get_or es i d).slot)
+  slot_in = both.0
+
   pub slots_behind : Slots (drop (i + 1) es) l
   slots_behind = both.1
+
+pub slot_next : (es : List Dated) (i : ℕ) (d : Dated) (l : ℕ) → i + 1 < length es → Slots (drop i es) l → Room l (suc (get_or es (i + 1) d).slot)
+slot_next es i d l h s = slot_in es (i + 1) d l h (slots_behind es i d l (omega arith) s)
+
+-- the comparison of a slot with the latest of those behind version i, where there is none and where there is one
+module _ (es : List Dated) (i : ℕ) (c : List ℕ) (s : ℕ) where
+  pub change_first : i + 1 ≡ length es → true ≡ differs_from c s (latest (drop (i + 1) es))
+  change_first e = rw (drop_of_length-le es {i = i + 1} (omega arith)) refl
+
+  pub change_next : (d : Dated) (r : Bool) → i + 1 < length es → r ≡ differs (cell_at c s) (cell_at c (get_or es (i + 1) d).slot)
+      → r ≡ differs_from c s (latest (drop (i + 1) es))
+  change_next d r h e = e ∙ sym (rw (cons_at es (i + 1) d h) refl)
 
 -- those behind place i of n, as the code takes them
 pub behind_are : (xs : List Dated) (i n : ℕ) → i ≤ n → take (n - i) (drop i xs) ≡ drop i (take n xs)

@@ -6,3 +6,4 @@ pub mod OneStore
 pub mod Leftover
 pub mod EveryInput
 pub mod HandLaws
+pub mod FollowLaws

@@ -10,27 +10,97 @@ use mathlib.Core.Logic.{◌≢◌}
 use mathlib.Core.Bool.{Bool, true, false}
 use lib.Dec.{ltb}
 use mathlib.Core.List.{List}
-use Prim.Native.Nat.{ℕ, zero, suc, ◌+◌, ◌-◌, ◌≤◌, ◌<◌}
+use Prim.Native.Nat.{ℕ, zero, suc, ◌+◌, ◌-◌, ◌*◌, ◌≤◌, ◌<◌}
+use native.Mathlib.Nat.{add-zero}
 use native.Mathlib.Numerals.{add-one}
 use native.Mathlib.Omega.{arith}
 use lib.ListN.{length, get_or, set, take, drop, length-set, replicate}
 use lib.Seq.{drop-cons, take-suc}
-use Rattle.layout.specs.Slot.{slot_state}
+use Rattle.fields.specs.Part.{part}
+use Rattle.fields.specs.Block.{slot_in}
+use Rattle.fields.proofs.PartLaws.{part_before, lent_part}
+use Rattle.layout.specs.Slot.{slot_state, stamped}
 use Rattle.layout.specs.Page.{page_slot, stamp_cell}
 use Rattle.layout.specs.declared.slot.Slot.{Slot}
 use Rattle.layout.specs.declared.slot.Slot.TheVariants.{Empty, Waiting, Stamped}
-use Rattle.layout.proofs.CacheLaws.{stamp_cell_other}
+use Rattle.layout.proofs.CacheLaws.{stamp_cell_same, stamp_cell_other}
 use Rattle.store.specs.declared.Place.{Place}
 use Rattle.store.specs.Places.{place_at, find_committed, stored_under, time_up_to, at_found}
 use Rattle.store.specs.StorePage.{stamp_time, stamp_with, stamp_from, lower_at, settle_with, settle_from}
+use Rattle.store.proofs.LengthLaws.{length_stamp_with}
 use Rattle.live.proofs.FirstLaws.{committed_below}
 use Rattle.pages.specs.Stamped.{with_time, stamp_at, stamp_for, stamped_under, settled_under, place_of, place_for, AmongPlaces}
 
 -- ---- one stamp
 
-stamp_with_other : (t : Option CommitTime) (page : List ℕ) (i j : ℕ) → j ≢ i → page_slot (stamp_with t page i) j ≡ page_slot page j
+pub stamp_with_other : (t : Option CommitTime) (page : List ℕ) (i j : ℕ) → j ≢ i → page_slot (stamp_with t page i) j ≡ page_slot page j
 stamp_with_other (Some t) page i j d = stamp_cell_other page i t.0 j d
 stamp_with_other None page i j d = refl
+
+-- a slot with a time
+abbrev pub stamped_by : Option CommitTime → List ℕ → List ℕ
+stamped_by (Some t) slot = stamped slot t.0
+stamped_by None slot = slot
+
+stamp_with_same : (t : Option CommitTime) (page : List ℕ) (i : ℕ) → length page ≡ 512 → i < 15
+    → page_slot (stamp_with t page i) i ≡ stamped_by t (page_slot page i)
+stamp_with_same (Some t) page i n h = stamp_cell_same page i t.0 n h
+stamp_with_same None page i n h = refl
+
+stamp_with_header : (t : Option CommitTime) (page : List ℕ) (i : ℕ) → part (stamp_with t page i) 0 32 ≡ part page 0 32
+unfolding stamp_cell slot_in
+stamp_with_header (Some t) page i = part_before page (32 + 32 * i) (stamped (page_slot page i) t.0) 0 32 (omega arith)
+stamp_with_header None page i = refl
+
+-- slot i as it is lent
+pub lent_slot : (page : List ℕ) (i : ℕ) → take (32 + 32 * i + 32 - (32 + 32 * i)) (drop (32 + 32 * i) page) ≡ page_slot page i
+unfolding page_slot slot_in
+lent_slot page i = lent_part page (32 + 32 * i) 32
+
+-- ---- the k slots from slot i on: lengths and the header stay, and each slot has its time
+
+module _ (pair : ℕ → Option CommitTime) where
+  -- a slot with the time that it waits for, and the page with slot i stamped so
+  abbrev pub timed : List ℕ → List ℕ
+  timed slot = stamped_by (stamp_time pair (slot_state slot)) slot
+
+  abbrev turned : List ℕ → ℕ → List ℕ
+  turned page i = stamp_with (stamp_time pair (slot_state (page_slot page i))) page i
+
+  pub length_stamp_from : (k : ℕ) (page : List ℕ) (i : ℕ) → length (stamp_from pair page i k) ≡ length page
+  unfolding stamp_from
+  length_stamp_from zero page i = refl
+  length_stamp_from (suc k) page i = length_stamp_from k (turned page i) (i + 1) ∙ length_stamp_with _ page i
+
+  pub stamp_from_header : (k : ℕ) (page : List ℕ) (i : ℕ) → part (stamp_from pair page i k) 0 32 ≡ part page 0 32
+  unfolding stamp_from
+  stamp_from_header zero page i = refl
+  stamp_from_header (suc k) page i = stamp_from_header k (turned page i) (i + 1) ∙ stamp_with_header _ page i
+
+  -- a slot before them
+  stamp_from_before : (k : ℕ) (page : List ℕ) (i j : ℕ) → j < i → page_slot (stamp_from pair page i k) j ≡ page_slot page j
+  unfolding stamp_from
+  stamp_from_before zero page i j h = refl
+  stamp_from_before (suc k) page i j h =
+      stamp_from_before k (turned page i) (i + 1) j (omega arith) ∙ stamp_with_other _ page i j (λ e. absurd (omega arith))
+
+  -- a slot of them: d slots behind i
+  stamp_from_slot : (d k : ℕ) (page : List ℕ) (i : ℕ) → length page ≡ 512 → d < k → i + d < 15
+      → page_slot (stamp_from pair page i k) (i + d) ≡ timed (page_slot page (i + d))
+  unfolding stamp_from
+  stamp_from_slot d zero page i n h g = absurd (omega arith)
+  stamp_from_slot zero (suc k) page i n h g =
+      rw add-zero (stamp_from_before k (turned page i) (i + 1) i (omega arith) ∙ stamp_with_same _ page i n (omega arith))
+  stamp_from_slot (suc d) (suc k) page i n h g =
+      let e : i + suc d ≡ (i + 1) + d = omega arith in
+      rw e (stamp_from_slot d k (turned page i) (i + 1) (length_stamp_with _ page i ∙ n) (omega arith) (omega arith)
+      ∙ ap timed (stamp_with_other _ page i (i + 1 + d) (λ q. absurd (omega arith))))
+
+  -- a slot of the whole page
+  pub stamped_slot : (page : List ℕ) (i : ℕ) → length page ≡ 512 → i < 15
+      → page_slot (stamp_from pair page 0 15) i ≡ timed (page_slot page i)
+  stamped_slot page i n h =
+      let e : 0 + i ≡ i = omega arith in rw e at (stamp_from_slot i 15 page 0 n h (omega arith))
 
 -- ---- what is found for a slot
 
