@@ -15,16 +15,18 @@ pub fn open(
 ) -> Result<Answer, Refusal>
     ensures { leaves result state.new medium.now cache.new ≡ open_of medium.now cache.old blocks pages }
 {
-    *state = State::none();
     if !crate::format::sizes_fit(medium.len(), blocks, pages) {
+        *state = State::none();
         return Err(Refusal::BadSizes);
     }
     if cache.len() != layout::place::cache_length(pages) {
+        *state = State::none();
         return Err(Refusal::BadCache);
     }
     match opening::survey::open_state(medium, blocks, pages, cache, state) {
         Some(last) => Ok(Answer::Opened(last)),
         None => {
+            *state = State::none();
             cache.fill(0);
             Err(Refusal::Malformed)
         }

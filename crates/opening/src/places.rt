@@ -1,5 +1,5 @@
 // The places of live transactions that table and log give.
-ghost use Rattle.std.specs.Prelude.{◌≡◌, ◌*◌, ◌<◌, ◌≤◌, length, leb, is_some, IfSome};
+ghost use Rattle.std.specs.Prelude.{◌≡◌, ◌*◌, ◌<◌, ◌≤◌, length, leb, is_some, IfSome, IfNone};
 ghost use Rattle.store.specs.OpenLog.{read_log};
 ghost use Rattle.store.specs.OpenPairs.{is_paired, waiting_numbers, open_places};
 ghost use Rattle.opening.specs.Waits.{waiting_under};
@@ -16,6 +16,9 @@ fn table_place(pairs: &Pairs, list: &[Waiting], i: usize) -> Place
     requires { i < 64 }
     ensures { result ≡ table_place pairs.now.medium.now (read_log pairs.now.medium.now pairs.now.blocks) (waiting_under list.now) i }
 {
+    if pairs.used <= i {
+        return Place::free();
+    }
     let pair = layout::table::read(pairs.medium, i);
     if pair.number.0 == 0 {
         return Place::free();
@@ -51,16 +54,17 @@ fn take_log(pairs: &Pairs, waiting: Waiting, places: &mut [Place; 64])
     };
 }
 
-// The places of all live transactions, if they are at most 64.
-pub fn lay(pairs: &Pairs, pages: u64, cache: &[u8]) -> Option<[Place; 64]>
+// Lays the places of all live transactions, if they are at most 64; else the places stay.
+pub fn lay(pairs: &Pairs, pages: u64, cache: &[u8], places: &mut [Place; 64]) -> Option<()>
     requires { (pages ≤ 64) × (length cache.now ≡ 512 * pages) }
     ensures verdict { is_some result ≡ leb (length (waiting_numbers cache.now (is_paired pairs.now.medium.now (read_log pairs.now.medium.now pairs.now.blocks)) (15 * pages))) 64 }
-    ensures value { IfSome result (λ places. places ≡ open_places pairs.now.medium.now (read_log pairs.now.medium.now pairs.now.blocks) cache.now (15 * pages)) }
+    ensures value { IfSome result (λ _. places.new ≡ open_places pairs.now.medium.now (read_log pairs.now.medium.now pairs.now.blocks) cache.now (15 * pages)) }
+    ensures few { IfNone result (places.new ≡ places.old) }
 {
     let list = crate::waiting::collect(pairs, cache, 15 * pages)?;
-    let mut places = array::from_fn(|i| table_place(pairs, &list, i));
+    *places = array::from_fn(|i| table_place(pairs, &list, i));
     for &waiting in list.iter() {
-        take_log(pairs, waiting, &mut places);
+        take_log(pairs, waiting, places);
     }
-    Some(places)
+    Some(())
 }

@@ -110,24 +110,23 @@ fn used_slots(cache: &[u8], pages: u64) -> u64
     used
 }
 
-// The tail: the last block read, or an empty one under the oldest sequence.
-fn read_tail(medium: &[u8], blocks: u64, log: Cursor) -> [u8; 512]
+// Lays the tail: the last block read, or an empty one under the oldest sequence.
+fn lay_tail(medium: &[u8], blocks: u64, log: Cursor, tail: &mut [u8; 512])
     requires ready { Ready blocks (length medium.now) }
     requires valid { Valid log }
     requires log_value { (log.sequence ≡ oldest_on medium.now) × (log.left ≡ read_count medium.now blocks) }
-    ensures { result ≡ read_tail medium.now blocks }
+    ensures { tail.new ≡ read_tail medium.now blocks }
 {
-    let mut tail = [0; 512];
     if log.left == 0 {
-        layout::journal::begin(&mut tail, log.sequence);
+        layout::journal::begin(tail, log.sequence);
     } else {
         let start = conditions::cursor::block_start(blocks, log.sequence + log.left - 1);
         tail.copy_from_slice(&medium[start..start + 512]);
     }
-    tail
 }
 
-// Judges log, table and slots once redo is done: the state, if they are in order.
+// Judges log, table and slots once redo is done, and makes the state in place, if they are in order. It answers the last
+// time.
 fn judge(
     medium: &[u8],
     blocks: u64,
@@ -135,14 +134,16 @@ fn judge(
     log: Cursor,
     end: u64,
     cache: &[u8],
-    first: [u64; 64],
-) -> Option<State>
+    first: &[u64; 64],
+    state: &mut State,
+) -> Option<CommitTime>
     requires ready { Ready blocks (length medium.now) }
     requires pages_bound { (pages ≤ 64) × (length cache.now ≡ 512 * pages) }
-    requires applied { Applied medium.now blocks pages log end cache.now first }
+    requires applied { Applied medium.now blocks pages log end cache.now first.now }
     requires medium_len { length medium.now ≡ medium_length blocks pages }
     ensures verdict { is_some result ≡ well_formed medium.now blocks pages }
-    ensures value { IfSome result (λ state. state ≡ opened_state medium.now blocks pages) }
+    ensures value { IfSome result (λ time. (state.new ≡ opened_state medium.now blocks pages) × (time.0 ≡ last_time medium.now blocks)) }
+    ensures refused { IfNone result (state.new ≡ state.old) }
 {
     let mut commits = ArrayVec::new();
     conditions::log::gather(medium, blocks, log, &mut commits);
@@ -160,21 +161,19 @@ fn judge(
     if !cache_ok(&pairs, pages, cache, next, last) {
         return None;
     }
-    let places = crate::places::lay(&pairs, pages, cache)?;
-    Some(State {
-        blocks,
-        pages,
-        slots: used_slots(cache, pages),
-        next: TxNumber(next),
-        last: CommitTime(last),
-        saved: CommitTime(last),
-        end: EndPlace(end),
-        tail: read_tail(medium, blocks, log),
-        places,
-        ring: 0,
-        first,
-        phase: Phase::Idle,
-    })
+    crate::places::lay(&pairs, pages, cache, &mut state.places)?;
+    lay_tail(medium, blocks, log, &mut state.tail);
+    state.blocks = blocks;
+    state.pages = pages;
+    state.slots = used_slots(cache, pages);
+    state.next = TxNumber(next);
+    state.last = CommitTime(last);
+    state.saved = CommitTime(last);
+    state.end = EndPlace(end);
+    state.ring = 0;
+    state.first = *first;
+    state.phase = Phase::Idle;
+    Some(state.last)
 }
 
 // Opens a medium, if it is well formed: the cache then holds the pages as redo leaves them, the state what the medium
@@ -199,6 +198,5 @@ pub fn open_state(
     if !crate::redo::run(medium, blocks, pages, log, cache, &mut first) {
         return None;
     }
-    *state = judge(medium, blocks, pages, log, end, cache, first)?;
-    Some(state.last)
+    judge(medium, blocks, pages, log, end, cache, &first, state)
 }

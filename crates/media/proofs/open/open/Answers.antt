@@ -1,4 +1,4 @@
--- The questions are put in the order of the definition; the survey answers the last and leaves the state.
+-- The questions are put in the order of the definition; the survey answers the last and makes the state.
 use mathlib.Core.Path.{sym, ap, ◌∙◌}
 use Rattle.fields.specs.Block.{zeros}
 use Rattle.media.proofs.OpenLaws.{refused_is, range, medium_is, cache_is, ready, bad_sizes, bad_cache, bad_medium, opens}
@@ -14,7 +14,7 @@ cache_length-requires c =
 
 pub returns-then-cache-cache_length : goal.returns-then-cache-cache_length
 returns-then-cache-cache_length c =
-    refused_is _ _ _ _ c.none.ensures
+    refused_is _ _ _ _ c.none-then-cache-cache_length.ensures
     ∙ bad_cache _ _ _ _ _ c.sizes_fit.ensures c.if-not-sizes_fit.false (λ e. c.if-cache-cache_length.true (e ∙ sym c.cache_length.ensures))
 
 pub open_state-requires : goal.open_state-requires
@@ -32,7 +32,7 @@ open_state-requires c =
 
 pub returns-in-None : goal.returns-in-None
 returns-in-None c =
-    refused_is _ _ _ _ (c.in-None.ensures.refused ∙ c.none.ensures)
+    refused_is _ _ _ _ c.none-in-None.ensures
     ∙ bad_medium _ _ _ _ _ c.sizes_fit.ensures c.if-not-sizes_fit.false (c.if-cache-cache_length.false ∙ c.cache_length.ensures)
     (sym c.in-None.ensures.found) _ (c.fill.ensures.after (λ y e. e) ∙ ap zeros c.cache-1.given)
 

@@ -10,7 +10,7 @@ use Rattle.opening.proofs.places.lay.Goals as goal
 pub loop-waiting-init : goal.loop-waiting-init
 loop-waiting-init c =
     rw c.deref-waiting-items.ensures.0
-    (taken_start _ _ _ _ c.from_fn-places.result c.in_ok-list.list.items c.in_ok-list.ensures c.from_fn-places.ensures.items (λ i y q k. search rules))
+    (taken_start _ _ _ _ c.from_fn.result c.in_ok-list.list.items c.in_ok-list.ensures c.from_fn.ensures.items (λ i y q k. search rules))
 
 pub loop-waiting-preserved : goal.loop-waiting-preserved
 loop-waiting-preserved c =

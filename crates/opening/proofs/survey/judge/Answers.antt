@@ -36,21 +36,21 @@ pub returns-then-not-cache_ok-clause-verdict : goal.returns-then-not-cache_ok-cl
 returns-then-not-cache_ok-clause-verdict c =
     not_kept _ _ _ _ _ _ _ c.requires.applied (rw (read_rest _ _ _ _ _ c.requires.applied.read) at c.in_ok-tally.ensures.verdict) (sym c.if-not-cache_ok.true ∙ c.cache_ok.ensures)
 
-pub returns-in_err-places-clause-verdict : goal.returns-in_err-places-clause-verdict
-returns-in_err-places-clause-verdict c =
-    rw c.from_residual-in_err-places.ensures
-    (few_is _ _ _ _ _ _ _ c.requires.applied (rw (read_rest _ _ _ _ _ c.requires.applied.read) at c.in_ok-tally.ensures.verdict) (sym c.if-not-cache_ok.false ∙ c.cache_ok.ensures) _ c.in_err-places.ensures.verdict)
+pub returns-in_err-lay-clause-verdict : goal.returns-in_err-lay-clause-verdict
+returns-in_err-lay-clause-verdict c =
+    rw c.from_residual-in_err-lay.ensures
+    (few_is _ _ _ _ _ _ _ c.requires.applied (rw (read_rest _ _ _ _ _ c.requires.applied.read) at c.in_ok-tally.ensures.verdict) (sym c.if-not-cache_ok.false ∙ c.cache_ok.ensures) _ c.in_err-lay.ensures.verdict)
 
-pub read_tail-requires-clause-valid : goal.read_tail-requires-clause-valid
-read_tail-requires-clause-valid c = read_valid _ _ _ _ _ c.requires.applied.read c.requires.ready.high
+pub lay_tail-requires-clause-valid : goal.lay_tail-requires-clause-valid
+lay_tail-requires-clause-valid c = read_valid _ _ _ _ _ c.requires.applied.read c.requires.ready.high
 
 pub returns-clause-verdict : goal.returns-clause-verdict
 returns-clause-verdict c =
-    few_is _ _ _ _ _ _ _ c.requires.applied (rw (read_rest _ _ _ _ _ c.requires.applied.read) at c.in_ok-tally.ensures.verdict) (sym c.if-not-cache_ok.false ∙ c.cache_ok.ensures) _ c.in_ok-places.ensures.verdict
+    few_is _ _ _ _ _ _ _ c.requires.applied (rw (read_rest _ _ _ _ _ c.requires.applied.read) at c.in_ok-tally.ensures.verdict) (sym c.if-not-cache_ok.false ∙ c.cache_ok.ensures) _ c.in_ok-lay.ensures.verdict
 
 pub returns-clause-value : goal.returns-clause-value
 returns-clause-value c =
     let t = rw (read_rest _ _ _ _ _ c.requires.applied.read) at c.in_ok-tally.ensures.value in
-    opened_is _ _ _ _ _ _ _ c.requires.applied _ _ _ _ _ c.used_slots.ensures
-    (next_found _ _ _ _ _ t.0 c.get8-given.ensures c.max-next.ensures) (last_found _ _ _ _ _ t.1 c.get8-stored.ensures c.max-last.ensures)
-    c.read_tail.ensures c.in_ok-places.ensures.value
+    let last = last_found _ _ _ _ _ t.1 c.get8-stored.ensures c.max-last.ensures in
+    (opened_is _ _ _ _ _ _ _ c.requires.applied _ _ _ _ _ c.used_slots-state.ensures
+    (next_found _ _ _ _ _ t.0 c.get8-given.ensures c.max-next.ensures) last c.lay_tail.ensures c.in_ok-lay.ensures.value, last)

@@ -1,6 +1,6 @@
 -- What is not read or not applied is not well formed; of what is, `judge` says the rest.
-use mathlib.Core.Path.{refl, ap}
-use Rattle.store.specs.Open.{opened_state}
+use Rattle.std.proofs.lemmas.Option.{IfSome_then}
+use mathlib.Core.Path.{refl}
 use Rattle.store.specs.OpenRedo.{untouched}
 use Rattle.opening.proofs.SurveyedLaws.{not_read, read_valid, read_slots, not_redone, applied}
 use Rattle.opening.proofs.survey.open_state.Goals as goal
@@ -23,8 +23,7 @@ unfolding untouched
 judge-requires-clause-applied c = applied _ _ _ _ _ c.in_ok-log.ensures _ _ _ _ c.copy_pages.ensures refl _ c.run.ensures c.if-not-run.false
 
 pub returns-clause-opened : goal.returns-clause-opened
-unfolding untouched opened_state
+unfolding untouched
 returns-clause-opened c =
     let a = applied _ _ _ _ _ c.in_ok-log.ensures _ _ _ _ c.copy_pages.ensures refl _ c.run.ensures c.if-not-run.false in
-    let s = c.in_ok-state.ensures.value in
-    (a.cache, s, ap (λ x. x.last.0) s)
+    IfSome_then c.judge.result c.judge.ensures.value (λ time judged. (a.cache, judged.0, judged.1))

@@ -1,7 +1,7 @@
 -- The last block read is found by its sequence; where none was read, the tail is empty.
 use native.Mathlib.Omega.{arith}
 use Rattle.opening.proofs.SurveyLaws.{tail_none, tail_last, last_in}
-use Rattle.opening.proofs.survey.read_tail.Goals as goal
+use Rattle.opening.proofs.survey.lay_tail.Goals as goal
 
 pub returns-then-log-eq0 : goal.returns-then-log-eq0
 returns-then-log-eq0 c =
