@@ -5,7 +5,7 @@ use Rattle.fields.specs.Block.{zeros}
 use Rattle.store.specs.declared.Answer.{Answer}
 use Rattle.store.specs.declared.Answer.TheVariants.{Done, Begun, Written, Committed, Opened, Missing, Erased, Present, Listed}
 use Rattle.store.specs.declared.State.{State}
-use Rattle.store.specs.Answer.{Outcome, refusal_number, answer_number}
+use Rattle.store.specs.Answer.{Outcome, leaves, refusal_number, answer_number}
 use Rattle.store.specs.Begin.{begin_of}
 use Rattle.store.specs.Write.{write_of}
 use Rattle.store.specs.Commit.{commit_of}
@@ -23,6 +23,14 @@ outcome_of (Write number key byte) s m c = write_of s m c number key (replicate 
 outcome_of (Commit number clock) s m c = commit_of s m c number clock
 outcome_of (Query key time) s m c = as_of_of s m c key time
 outcome_of Cut s m c = open_of m (zeros (length c)) 4 2
+
+-- 01: "Q record time": the outcome of a query
+unfoldable pub query_of : Call → State → List ℕ → List ℕ → Outcome
+query_of (Begin clock) s m c = leaves (Ok Done) s m c
+query_of (Write number key byte) s m c = leaves (Ok Done) s m c
+query_of (Commit number clock) s m c = leaves (Ok Done) s m c
+query_of (Query key time) s m c = outcome_of (Query key time) s m c
+query_of Cut s m c = leaves (Ok Done) s m c
 
 -- 01: "a result (number, slot, time, byte, last time; `-` for none, no time, erased or refused)"
 unfoldable pub result_of : Result Answer Refusal → ℕ → Option ℕ

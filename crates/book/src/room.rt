@@ -4,7 +4,7 @@ ghost use Rattle.fields.specs.Block.{zeros};
 ghost use Rattle.store.specs.Answer.{leaves};
 ghost use Rattle.store.specs.CurrentRead.{reads};
 ghost use Rattle.store.specs.Open.{open_of};
-ghost use Rattle.book.specs.Room.{result_of, outcome_of, said_of, said_number, said_result, line_text, result_text};
+ghost use Rattle.book.specs.Room.{result_of, outcome_of, query_of, said_by, said_of, said_number, said_result, line_text, result_text};
 ghost use Rattle.book.specs.Steps.{world, left_by};
 
 use crate::call::Call;
@@ -13,7 +13,7 @@ use store::{Answer, Refusal, State};
 
 // The result of an answer, if it has one; that of a strip is its first byte.
 #[tactic(auto, unfolding(crate::specs::Room::result_of))]
-pub fn result_in(answer: Answer, byte: u8) -> Option<u64>
+fn result_in(answer: Answer, byte: u8) -> Option<u64>
     ensures { result ≡ result_of (Ok answer) byte }
 {
     match answer {
@@ -33,8 +33,29 @@ fn cut(state: &mut State, medium: &[u8], cache: &mut [u8]) -> Result<Answer, Ref
     media::open::open(medium, cache, state, 4, 2)
 }
 
+// Makes a query, which leaves all as it is: its answer, and the strip beside it; zeros where there is none.
+#[tactic(auto, unfolding(crate::specs::Room::query_of, crate::specs::Room::outcome_of))]
+pub fn query(
+    call: Call,
+    state: &State,
+    medium: &[u8],
+    cache: &[u8],
+) -> (Result<Answer, Refusal>, [u8; 16])
+    ensures { reads result.0 result.1 state.now medium.now cache.now ≡ query_of call state.now medium.now cache.now }
+{
+    match call {
+        Call::Query(key, time) => match reads::as_of::as_of(state, medium, cache, key, time) {
+            Ok(reading) => (Ok(reading.answer()), reading.value()),
+            Err(refusal) => (Err(refusal), [0; 16]),
+        },
+        Call::Begin(_) | Call::Write(_, _, _) | Call::Commit(_, _) | Call::Cut => {
+            (Ok(Answer::Done), [0; 16])
+        }
+    }
+}
+
 // Makes the call of a line: its answer, and beside it the strip that a query reads; zeros where there is none.
-#[tactic(auto, unfolding(crate::specs::Room::outcome_of))]
+#[tactic(auto, unfolding(crate::specs::Room::query_of, crate::specs::Room::outcome_of))]
 pub fn outcome(
     call: Call,
     state: &mut State,
@@ -52,18 +73,20 @@ pub fn outcome(
         Call::Commit(number, clock) => {
             transactions::commit::commit(state, medium, cache, number, clock)
         }
-        Call::Query(key, time) => {
-            return match reads::as_of::as_of(state, medium, cache, key, time) {
-                Ok(reading) => (Ok(reading.answer()), reading.value()),
-                Err(refusal) => (Err(refusal), [0; 16]),
-            };
-        }
+        Call::Query(_, _) => return query(call, state, medium, cache),
         Call::Cut => cut(state, medium, cache),
     };
     (answer, [0; 16])
 }
 
-// The same, as it is printed: its result, if it has one, or its refusal.
+// What an answer shows: its result, if it has one, or its refusal; of a strip its first byte.
+pub fn show(answer: Result<Answer, Refusal>, byte: u8) -> Result<Option<u64>, Refusal>
+    ensures { result ≡ said_by answer byte }
+{
+    Ok(result_in(answer?, byte))
+}
+
+// Makes the call of a line: what it shows.
 #[tactic(auto, unfolding(crate::specs::Room::said_of))]
 pub fn make(
     call: Call,
@@ -75,7 +98,7 @@ pub fn make(
     ensures said { result ≡ said_of (outcome_of call state.old medium.old cache.old) }
 {
     let (answer, value) = outcome(call, state, medium, cache);
-    Ok(result_in(answer?, value[0]))
+    show(answer, value[0])
 }
 
 // 0, or the number of the refusal.
