@@ -51,6 +51,8 @@ returns-clause-verdict c =
 pub returns-clause-value : goal.returns-clause-value
 returns-clause-value c =
     let t = rw (read_rest _ _ _ _ _ c.requires.applied.read) at c.in_ok-tally.ensures.value in
-    let last = last_found _ _ _ _ _ t.1 c.get8-stored.ensures c.max-last.ensures in
-    (opened_is _ _ _ _ _ _ _ c.requires.applied _ _ _ _ _ c.used_slots-state.ensures
-    (next_found _ _ _ _ _ t.0 c.get8-given.ensures c.max-next.ensures) last c.lay_tail.ensures c.in_ok-lay.ensures.value, last)
+    let last = last_found _ _ _ _ _ t.1 c.get8-stored.ensures c.max-last.ensures in (
+      opened_is _ _ _ _ _ _ _ c.requires.applied _ _ _ _ _ c.used_slots-state.ensures
+          (next_found _ _ _ _ _ t.0 c.get8-given.ensures c.max-next.ensures) last c.lay_tail.ensures c.in_ok-lay.ensures.value,
+      last,
+    )
