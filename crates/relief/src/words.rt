@@ -2,7 +2,7 @@
 // number, time, end place and waiting versions.
 #![tactic(auto, unfolding(crate::specs::Words::life_by, crate::specs::Words::place_in, crate::specs::Words::phase_by))]
 
-ghost use Rattle.std.specs.Prelude.{◌≡◌, ◌<◌, ◌+◌, get_or, List, ℕ};
+ghost use Rattle.std.specs.Prelude.{◌≡◌, ◌<◌, ◌+◌, get_or, length, List, ℕ};
 ghost use Rattle.store.specs.declared.Place.{Place};
 ghost use Rattle.relief.specs.Words.{life_by, place_in, phase_by, places_of, state_by, state_of, with_places, KeepsOthers};
 
@@ -50,29 +50,30 @@ fn phase_by(kind: u64, oldest: u64, time: u64) -> Phase
     }
 }
 
-// The state that words and tail hold.
-pub fn state_of(words: &[u64; 448], tail: &[u8; 512]) -> State
-    ensures { result ≡ state_of words.now tail.now }
+// Reads the numbers of the state that words and tail hold; the places stay as they were.
+pub fn read_numbers(state: &mut State, words: &[u64; 448], tail: &[u8; 512])
+    ensures numbers { state.new ≡ state_by words.now state.old.places tail.now }
+    ensures places_len { length state.new.places ≡ 64 }
 {
-    let mut places = [Place::free(); 64];
+    state.blocks = words[0];
+    state.pages = words[1];
+    state.slots = words[2];
+    state.next = TxNumber(words[3]);
+    state.last = CommitTime(words[4]);
+    state.saved = CommitTime(words[5]);
+    state.end = EndPlace(words[6]);
+    state.tail = *tail;
+    state.ring = words[7];
+    state.first.copy_from_slice(&words[FIRSTS..FIRSTS + 64]);
+    state.phase = phase_by(words[8], words[9], words[10]);
+}
+
+// Reads the places.
+pub fn read_places(places: &mut [Place; 64], words: &[u64; 448])
+    ensures { places.new ≡ places_of words.now }
+{
     for (i, place) in places.iter_mut().enumerate() {
         *place = place_in(words, i);
-    }
-    let mut first = [0; 64];
-    first.copy_from_slice(&words[FIRSTS..FIRSTS + 64]);
-    State {
-        blocks: words[0],
-        pages: words[1],
-        slots: words[2],
-        next: TxNumber(words[3]),
-        last: CommitTime(words[4]),
-        saved: CommitTime(words[5]),
-        end: EndPlace(words[6]),
-        tail: *tail,
-        places,
-        ring: words[7],
-        first,
-        phase: phase_by(words[8], words[9], words[10]),
     }
 }
 
