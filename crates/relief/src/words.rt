@@ -21,21 +21,22 @@ const ENDS: usize = 320;
 
 const COUNTS: usize = 384;
 
-// What the words of place i say.
-fn place_in(words: &[u64; 448], i: usize) -> Place
+// Reads place i; of a free one only whether versions wait.
+fn read_place(place: &mut Place, words: &[u64; 448], i: usize)
     requires { i < 64 }
-    ensures { result ≡ place_in words.now i }
+    ensures { place.new ≡ place_in words.now i }
 {
-    let number = TxNumber(words[NUMBERS + i]);
-    let time = words[TIMES + i];
-    let life = match words[KINDS + i] {
-        1 => Life::Active(number, time),
-        2 => Life::Committed(number, CommitTime(time), EndPlace(words[ENDS + i])),
-        _ => Life::Free,
-    };
-    Place {
-        life,
-        waiting: words[COUNTS + i],
+    place.waiting = words[COUNTS + i];
+    match words[KINDS + i] {
+        1 => place.life = Life::Active(TxNumber(words[NUMBERS + i]), words[TIMES + i]),
+        2 => {
+            place.life = Life::Committed(
+                TxNumber(words[NUMBERS + i]),
+                CommitTime(words[TIMES + i]),
+                EndPlace(words[ENDS + i]),
+            )
+        }
+        _ => place.life = Life::Free,
     }
 }
 
@@ -73,7 +74,7 @@ pub fn read_places(places: &mut [Place; 64], words: &[u64; 448])
     ensures { places.new ≡ places_of words.now }
 {
     for (i, place) in places.iter_mut().enumerate() {
-        *place = place_in(words, i);
+        read_place(place, words, i);
     }
 }
 

@@ -15,7 +15,7 @@ loop-i-preserved c =
       length-set _ _ _ ∙ c.loop-i.invariant.0,
       below_more _ _
           (λ k h. let other : k ≢ c.loop-i.i = omega arith in rw get_or-set_other (c.loop-i.invariant.1 k h))
-          (get_or-set_same _ _ _ _ within ∙ c.place_in.ensures),
+          (get_or-set_same _ _ _ _ within ∙ c.read_place.ensures),
     )
 
 pub returns : goal.returns
