@@ -78,24 +78,7 @@ pub fn read_places(places: &mut [Place; 64], words: &[u64; 448])
     }
 }
 
-// The words of a life. Those that say nothing of it stay, as the number of a place that is free.
-fn life_words(life: Life, before: [u64; 4]) -> [u64; 4]
-    ensures { life_by (get_or result 0 0) (get_or result 1 0) (get_or result 2 0) (get_or result 3 0) ≡ life }
-{
-    let [kind, number, time, end] = before;
-    match life {
-        Life::Free => [
-            if kind == 1 || kind == 2 { 0 } else { kind },
-            number,
-            time,
-            end,
-        ],
-        Life::Active(number, clock) => [1, number.0, clock, end],
-        Life::Committed(number, time, end) => [2, number.0, time.0, end.0],
-    }
-}
-
-// The words of a phase, likewise.
+// The words of a phase. Those that say nothing of it stay, as the time of one that is idle.
 fn phase_words(phase: Phase, before: [u64; 3]) -> [u64; 3]
     ensures { phase_by (get_or result 0 0) (get_or result 1 0) (get_or result 2 0) ≡ phase }
 {
@@ -107,23 +90,39 @@ fn phase_words(phase: Phase, before: [u64; 3]) -> [u64; 3]
     }
 }
 
+// Lays a life over its words. Those that say nothing of it stay, as the number of a place that is free.
+fn lay_life(words: &mut [u64; 448], i: usize, life: Life)
+    requires { i < 64 }
+    ensures here { life_by (get_or words.new (128 + i) 0) (get_or words.new (192 + i) 0) (get_or words.new (256 + i) 0) (get_or words.new (320 + i) 0) ≡ life }
+    ensures beside { KeepsOthers words.old words.new i }
+{
+    match life {
+        Life::Free => {
+            if words[KINDS + i] == 1 || words[KINDS + i] == 2 {
+                words[KINDS + i] = 0;
+            }
+        }
+        Life::Active(number, clock) => {
+            words[KINDS + i] = 1;
+            words[NUMBERS + i] = number.0;
+            words[TIMES + i] = clock;
+        }
+        Life::Committed(number, time, end) => {
+            words[KINDS + i] = 2;
+            words[NUMBERS + i] = number.0;
+            words[TIMES + i] = time.0;
+            words[ENDS + i] = end.0;
+        }
+    }
+}
+
 // Lays a place over its words.
 fn lay_place(words: &mut [u64; 448], i: usize, place: Place)
     requires { i < 64 }
     ensures here { place_in words.new i ≡ place }
     ensures beside { KeepsOthers words.old words.new i }
 {
-    let before = [
-        words[KINDS + i],
-        words[NUMBERS + i],
-        words[TIMES + i],
-        words[ENDS + i],
-    ];
-    let [kind, number, time, end] = life_words(place.life, before);
-    words[KINDS + i] = kind;
-    words[NUMBERS + i] = number;
-    words[TIMES + i] = time;
-    words[ENDS + i] = end;
+    lay_life(words, i, place.life);
     words[COUNTS + i] = place.waiting;
 }
 
