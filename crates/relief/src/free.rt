@@ -1,7 +1,7 @@
 // Frees the log of a room: asks which call comes next, and makes it.
 #![tactic(auto, using(std::proofs::Common::append_assoc), unfolding(crate::specs::Free::made_of, crate::specs::Free::line_text, crate::specs::Free::page_text, crate::specs::Free::call_text, crate::specs::Free::end_text))]
 
-ghost use Rattle.std.specs.Prelude.{◌≡◌, ◌++◌, ◌+◌, ◌≤◌, length, take};
+ghost use Rattle.std.specs.Prelude.{◌≡◌, ◌++◌, ◌+◌, ◌≤◌, length, take, Some};
 ghost use Rattle.store.specs.Answer.{leaves, answer_number};
 ghost use Rattle.store.specs.Relief.{relief_of};
 ghost use Rattle.relief.specs.Free.{made_of, line_text, page_text, call_text, end_text, freed, freed_from, LeftAs};
@@ -79,22 +79,23 @@ fn put_end(out: &mut [u8], n: usize, next: Option<Relief>) -> usize
     print::bytes(out, n, if next.is_some() { b"M\n" } else { b"N\n" })
 }
 
-// Makes the calls that are named, from the one that comes next on, and prints their lines from the front of the output on.
+// Makes the calls that are named, from the first on, and prints their lines from the front of the output on.
 // The words of the phase follow at each call, since they keep of a checkpoint that ended what the state does not.
 fn free(
-    mut next: Option<Relief>,
+    first: Relief,
     words: &mut [u64; 448],
     state: &mut State,
     medium: &mut [u8],
     cache: &mut [u8],
     out: &mut [u8],
 ) -> usize
-    requires asked { next ≡ relief_of state.old medium.old cache.old }
+    requires asked { Some first ≡ relief_of state.old medium.old cache.old }
     requires out_len { 4096 ≤ length out.old }
     ensures upper_bound { result ≤ 4096 }
     ensures value { freed (take result out.new) state.new medium.new cache.new ≡ freed_from 70 state.old medium.old cache.old }
 {
     let mut n = 0;
+    let mut next = Some(first);
     for _ in 0..CALLS {
         let Some(call) = next else {
             return put_end(out, n, None);
@@ -126,11 +127,10 @@ fn free_words(
         return put_end(out, 0, None);
     }
     words::read_places(&mut state.places, words);
-    let next = stores::relief::relief(state, medium, cache);
-    if next.is_none() {
+    let Some(first) = stores::relief::relief(state, medium, cache) else {
         return put_end(out, 0, None);
-    }
-    let n = free(next, words, state, medium, cache, out);
+    };
+    let n = free(first, words, state, medium, cache, out);
     words::lay(words, state);
     n
 }
