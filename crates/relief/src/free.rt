@@ -79,9 +79,9 @@ fn put_end(out: &mut [u8], n: usize, next: Option<Relief>) -> usize
     print::bytes(out, n, if next.is_some() { b"M\n" } else { b"N\n" })
 }
 
-// Makes the calls that are named, from the first on, and prints their lines from the front of the output on.
-// The words of the phase follow at each call, since they keep of a checkpoint that ended what the state does not.
-fn free(
+// Makes the calls that are named, from the first on, and prints their lines from the front of the output on. The words of the
+// phase follow at each call, since they keep of a checkpoint that ended what the state does not.
+fn make_calls(
     first: Relief,
     words: &mut [u64; 448],
     state: &mut State,
@@ -108,9 +108,9 @@ fn free(
     put_end(out, n, next)
 }
 
-// Frees the log of the room that words and tail hold. The places are read only where the numbers fit, since no call is left
+// Frees the log of the room that words and tail hold. Its places are read only where its numbers fit, since no call is left
 // otherwise, and the state is laid back only after a call: before one the words hold it as they are.
-fn free_words(
+fn free(
     state: &mut State,
     words: &mut [u64; 448],
     tail: &[u8; 512],
@@ -130,12 +130,12 @@ fn free_words(
     let Some(first) = stores::relief::relief(state, medium, cache) else {
         return put_end(out, 0, None);
     };
-    let n = free(first, words, state, medium, cache, out);
+    let n = make_calls(first, words, state, medium, cache, out);
     words::lay(words, state);
     n
 }
 
-// Frees the log of a room and prints the room behind the lines of its calls. The state is one that the room's is read into.
+// Frees the log of a room and prints the room behind the lines of its calls. The state lent is any: the room's is read into it.
 pub fn freed_room(
     state: &mut State,
     words: &mut [u64; 448],
@@ -151,6 +151,6 @@ pub fn freed_room(
     ensures left_as { LeftAs (freed_from 70 (state_of words.old tail.now) medium.old cache.old) (state_of words.new tail.now) medium.new cache.new }
     ensures out_after { take result out.new ≡ (freed_from 70 (state_of words.old tail.now) medium.old cache.old).text ++ room_bytes words.new tail.now medium.new cache.new }
 {
-    let n = free_words(state, words, tail, medium, cache, out);
+    let n = free(state, words, tail, medium, cache, out);
     form::put_room(out, n, words, tail, medium, cache)
 }

@@ -5,5 +5,5 @@ use Rattle.relief.proofs.free.freed_room.Goals as goal
 
 pub returns-clause-left_as : goal.returns-clause-left_as
 returns-clause-left_as c =
-    let e = c.free_words-n.ensures.value in
+    let e = c.free-n.ensures.value in
     (ap (λ (g : Freed). g.state) e, ap (λ (g : Freed). g.medium) e, ap (λ (g : Freed). g.cache) e)
