@@ -1,8 +1,10 @@
 -- What was printed and what the definition still prints make up the whole: a turn of the loop is one step of the definition,
 -- whatever the state is.
-use Rattle.std.specs.Prelude.{Option, Some, None, Result}
+use Rattle.std.specs.Prelude.{false, Option, Some, None, Result}
 use mathlib.Core.Path.{◌≡◌, refl, sym, ap, ◌∙◌}
 use mathlib.Core.List.{List, ◌++◌, append_assoc}
+use lib.ListN.{length}
+use Rattle.store.specs.declared.Place.{Place}
 use Prim.Native.Nat.{ℕ, zero, suc, ◌+◌, ◌-◌, ◌≤◌, ◌<◌}
 use native.Mathlib.Omega.{arith}
 use Rattle.store.specs.declared.Answer.{Answer}
@@ -13,13 +15,13 @@ use Rattle.store.specs.declared.Phase.{Phase}
 use Rattle.store.specs.declared.Phase.TheVariants.{Idle, FirstStored, SecondStored}
 use Rattle.store.specs.declared.State.{State}
 use Rattle.store.specs.Answer.{answer_number, leaves, ask}
-use Rattle.store.specs.State.{with_phase}
+use Rattle.store.specs.State.{fits, with_phase}
 use Rattle.store.specs.StoreLog.{store_log_asks, log_stored, store_log_if, store_log_of}
 use Rattle.store.specs.StorePage.{store_page_asks, page_stored, store_page_if, store_page_of}
 use Rattle.store.specs.Checkpoint.{checkpoint_asks, checkpoint_step, checkpoint_if, checkpoint_of}
 use Rattle.store.specs.Relief.{relief_of}
-use Rattle.relief.specs.Free.{made_of, call_text, end_text, Freed, freed, behind, freed_by, freed_from, LeftAs}
-use Rattle.relief.specs.Words.{state_of}
+use Rattle.relief.specs.Free.{made_of, call_text, end_text, Freed, freed, behind, freed_by, freed_from}
+use Rattle.relief.specs.Words.{state_of, with_places}
 
 -- of a room in which this comes next; x is what was printed, and w the whole
 module _ (s : State) (m c x : List ℕ) (i : ℕ) (w : Freed) (h : behind x (freed_from (70 - i) s m c) ≡ w) where
@@ -79,8 +81,18 @@ freed_tail (suc n) s m c = go (relief_of s m c) (freed_tail n)
     go None rest = refl
 
 -- what is left, where the words v hold its state
-pub left_as : {f : Freed} {t : List ℕ} {s : State} {m c : List ℕ} → freed t s m c ≡ f → (v tail : List ℕ) → f.state.tail ≡ tail
-    → state_of v s.tail ≡ s → LeftAs f (state_of v tail) m c
-left_as e v tail k h =
+pub held : {f : Freed} {t : List ℕ} {s : State} {m c : List ℕ} → freed t s m c ≡ f → (v tail : List ℕ) → f.state.tail ≡ tail
+    → state_of v s.tail ≡ s → freed t (state_of v tail) m c ≡ f
+held {t = t} {m = m} {c = c} e v tail k h =
     let same = ap (λ (g : Freed). g.state.tail) e ∙ k in
-    (ap (state_of v) (sym same) ∙ h ∙ ap (λ (g : Freed). g.state) e, ap (λ (g : Freed). g.medium) e, ap (λ (g : Freed). g.cache) e)
+    ap (λ r. freed t r m c) (ap (state_of v) (sym same) ∙ h) ∙ e
+
+-- whether a state fits, its places do not say
+pub fit_alike : (s : State) (ps : List Place) (m c : ℕ) → length s.places ≡ length ps → fits s m c ≡ fits (with_places s ps) m c
+unfolding fits with_places
+fit_alike s ps m c h = rw h refl
+
+-- no call is left where it does not
+pub unfit : (s : State) (m c : List ℕ) → fits s (length m) (length c) ≡ false → None ≡ relief_of s m c
+unfolding relief_of
+unfit s m c h = rw h refl

@@ -1,4 +1,5 @@
 -- A word, a place and a state are read from their own words, so what is laid over these is read again, and what is not stays.
+use Rattle.std.proofs.lemmas.List.FromFn.{length-map-range_with_len}
 use mathlib.Core.Path.{◌≡◌, sym, ap, ◌∙◌}
 use mathlib.Core.List.{List, ◌++◌}
 use Prim.Native.Nat.{ℕ, ◌+◌, ◌<◌}
@@ -10,7 +11,11 @@ use Rattle.fields.specs.Part.{part}
 use Rattle.fields.proofs.PartLaws.{length_part}
 use Rattle.store.specs.declared.Place.{Place}
 use Rattle.store.specs.declared.State.{State}
-use Rattle.relief.specs.Words.{places_of, first_of, state_by, state_of, with_places}
+use Rattle.relief.specs.Words.{place_in, places_of, first_of, state_by, state_of, with_places}
+
+pub length_places : (w : List ℕ) → length (places_of w) ≡ 64
+unfolding places_of
+length_places w = length-map-range_with_len (place_in w) 0 64
 
 -- the first changes behind the 11 numbers in front of them
 pub first_laid : (w f : List ℕ) → length w ≡ 448 → length f ≡ 64

@@ -1,8 +1,9 @@
 // Frees the log of a room: asks which call comes next, and makes it.
 #![tactic(auto, using(std::proofs::Common::append_assoc), unfolding(crate::specs::Free::made_of, crate::specs::Free::line_text, crate::specs::Free::page_text, crate::specs::Free::call_text, crate::specs::Free::end_text))]
 
-ghost use Rattle.std.specs.Prelude.{◌≡◌, ◌++◌, ◌+◌, ◌≤◌, length, take};
+ghost use Rattle.std.specs.Prelude.{◌≡◌, ◌++◌, ◌+◌, ◌≤◌, length, take, Some};
 ghost use Rattle.store.specs.Answer.{leaves, answer_number};
+ghost use Rattle.store.specs.Relief.{relief_of};
 ghost use Rattle.relief.specs.Free.{made_of, line_text, page_text, call_text, end_text, freed, freed_from, LeftAs};
 ghost use Rattle.relief.specs.Form.{room_bytes};
 ghost use Rattle.relief.specs.Words.{state_of};
@@ -78,34 +79,65 @@ fn put_end(out: &mut [u8], n: usize, next: Option<Relief>) -> usize
     print::bytes(out, n, if next.is_some() { b"M\n" } else { b"N\n" })
 }
 
-// Makes the calls that are named and prints their lines from the front of the output on. The words of the phase follow at
-// each call, since they keep of a checkpoint that ended what the state does not.
-fn free(
+// Makes the calls that are named, from the first on, and prints their lines from the front of the output on. The words of the
+// phase follow at each call, since they keep of a checkpoint that ended what the state does not.
+fn make_calls(
+    first: Relief,
     words: &mut [u64; 448],
     state: &mut State,
     medium: &mut [u8],
     cache: &mut [u8],
     out: &mut [u8],
 ) -> usize
-    requires { 4096 ≤ length out.old }
+    requires asked { Some first ≡ relief_of state.old medium.old cache.old }
+    requires out_len { 4096 ≤ length out.old }
     ensures upper_bound { result ≤ 4096 }
     ensures value { freed (take result out.new) state.new medium.new cache.new ≡ freed_from 70 state.old medium.old cache.old }
 {
     let mut n = 0;
+    let mut next = Some(first);
     for _ in 0..CALLS {
-        let Some(next) = stores::relief::relief(state, medium, cache) else {
+        let Some(call) = next else {
             return put_end(out, n, None);
         };
-        let answer = make(next, state, medium, cache);
+        let answer = make(call, state, medium, cache);
         words::lay_phase(words, state.phase);
-        n = put_call(out, n, next, answer);
+        n = put_call(out, n, call, answer);
+        next = stores::relief::relief(state, medium, cache);
     }
-    let next = stores::relief::relief(state, medium, cache);
     put_end(out, n, next)
 }
 
-// Frees the log of a room and prints the room behind the lines of its calls.
+// Frees the log of the room that words and tail hold. Its places are read only where its numbers fit, since no call is left
+// otherwise, and the state is laid back only after a call: before one the words hold it as they are.
+fn free(
+    state: &mut State,
+    words: &mut [u64; 448],
+    tail: &[u8; 512],
+    medium: &mut [u8],
+    cache: &mut [u8],
+    out: &mut [u8],
+) -> usize
+    requires { 4096 ≤ length out.old }
+    ensures upper_bound { result ≤ 4096 }
+    ensures value { freed (take result out.new) (state_of words.new tail.now) medium.new cache.new ≡ freed_from 70 (state_of words.old tail.now) medium.old cache.old }
+{
+    words::read_numbers(state, words, tail);
+    if !memory::fit::is_fit(state, medium.len(), cache.len()) {
+        return put_end(out, 0, None);
+    }
+    words::read_places(&mut state.places, words);
+    let Some(first) = stores::relief::relief(state, medium, cache) else {
+        return put_end(out, 0, None);
+    };
+    let n = make_calls(first, words, state, medium, cache, out);
+    words::lay(words, state);
+    n
+}
+
+// Frees the log of a room and prints the room behind the lines of its calls. The state lent is any: the room's is read into it.
 pub fn freed_room(
+    state: &mut State,
     words: &mut [u64; 448],
     tail: &[u8; 512],
     medium: &mut [u8],
@@ -119,8 +151,6 @@ pub fn freed_room(
     ensures left_as { LeftAs (freed_from 70 (state_of words.old tail.now) medium.old cache.old) (state_of words.new tail.now) medium.new cache.new }
     ensures out_after { take result out.new ≡ (freed_from 70 (state_of words.old tail.now) medium.old cache.old).text ++ room_bytes words.new tail.now medium.new cache.new }
 {
-    let mut state = words::state_of(words, tail);
-    let n = free(words, &mut state, medium, cache, out);
-    words::lay(words, &state);
+    let n = free(state, words, tail, medium, cache, out);
     form::put_room(out, n, words, tail, medium, cache)
 }

@@ -9,11 +9,13 @@ mod words;
 ghost use Rattle.std.specs.Prelude.{◌≡◌, length};
 
 use std::io::{Print, Read};
+use store::State;
 
 // Reads a room, frees its log and writes it; none where the run ends.
 fn play(
     input: &mut impl Read,
     output: &impl Print,
+    state: &mut State,
     medium: &mut [u8],
     cache: &mut [u8],
     out: &mut [u8],
@@ -31,7 +33,7 @@ fn play(
     input.read_exact(medium).ok()?;
     let cache = &mut cache[..sizes.cache];
     input.read_exact(cache).ok()?;
-    let n = free::freed_room(&mut words, &tail, medium, cache, out);
+    let n = free::freed_room(state, &mut words, &tail, medium, cache, out);
     output.write_all(&out[..n]).ok()
 }
 
@@ -39,11 +41,21 @@ fn play(
 // has to end: no run has as many rooms as the range.
 fn main(rt: HostRuntime) {
     let mut input = rt.stdin();
+    let mut state = State::none();
     let mut medium = [0; 50688];
     let mut cache = [0; 32768];
     let mut out = [0; 91664];
     for _ in 0..u64::MAX {
-        if play(&mut input, &rt, &mut medium, &mut cache, &mut out).is_none() {
+        if play(
+            &mut input,
+            &rt,
+            &mut state,
+            &mut medium,
+            &mut cache,
+            &mut out,
+        )
+        .is_none()
+        {
             return;
         }
     }

@@ -2,7 +2,7 @@
 // number, time, end place and waiting versions.
 #![tactic(auto, unfolding(crate::specs::Words::life_by, crate::specs::Words::place_in, crate::specs::Words::phase_by))]
 
-ghost use Rattle.std.specs.Prelude.{◌≡◌, ◌<◌, ◌+◌, get_or, List, ℕ};
+ghost use Rattle.std.specs.Prelude.{◌≡◌, ◌<◌, ◌+◌, get_or, length, List, ℕ};
 ghost use Rattle.store.specs.declared.Place.{Place};
 ghost use Rattle.relief.specs.Words.{life_by, place_in, phase_by, places_of, state_by, state_of, with_places, KeepsOthers};
 
@@ -21,21 +21,22 @@ const ENDS: usize = 320;
 
 const COUNTS: usize = 384;
 
-// What the words of place i say.
-fn place_in(words: &[u64; 448], i: usize) -> Place
+// Reads place i; of a free one only whether versions wait.
+fn read_place(place: &mut Place, words: &[u64; 448], i: usize)
     requires { i < 64 }
-    ensures { result ≡ place_in words.now i }
+    ensures { place.new ≡ place_in words.now i }
 {
-    let number = TxNumber(words[NUMBERS + i]);
-    let time = words[TIMES + i];
-    let life = match words[KINDS + i] {
-        1 => Life::Active(number, time),
-        2 => Life::Committed(number, CommitTime(time), EndPlace(words[ENDS + i])),
-        _ => Life::Free,
-    };
-    Place {
-        life,
-        waiting: words[COUNTS + i],
+    place.waiting = words[COUNTS + i];
+    match words[KINDS + i] {
+        1 => place.life = Life::Active(TxNumber(words[NUMBERS + i]), words[TIMES + i]),
+        2 => {
+            place.life = Life::Committed(
+                TxNumber(words[NUMBERS + i]),
+                CommitTime(words[TIMES + i]),
+                EndPlace(words[ENDS + i]),
+            )
+        }
+        _ => place.life = Life::Free,
     }
 }
 
@@ -50,50 +51,34 @@ fn phase_by(kind: u64, oldest: u64, time: u64) -> Phase
     }
 }
 
-// The state that words and tail hold.
-pub fn state_of(words: &[u64; 448], tail: &[u8; 512]) -> State
-    ensures { result ≡ state_of words.now tail.now }
+// Reads the numbers of the state that words and tail hold; the places stay as they were.
+pub fn read_numbers(state: &mut State, words: &[u64; 448], tail: &[u8; 512])
+    ensures numbers { state.new ≡ state_by words.now state.old.places tail.now }
+    ensures places_len { length state.new.places ≡ 64 }
 {
-    let mut places = [Place::free(); 64];
+    state.blocks = words[0];
+    state.pages = words[1];
+    state.slots = words[2];
+    state.next = TxNumber(words[3]);
+    state.last = CommitTime(words[4]);
+    state.saved = CommitTime(words[5]);
+    state.end = EndPlace(words[6]);
+    state.tail = *tail;
+    state.ring = words[7];
+    state.first.copy_from_slice(&words[FIRSTS..FIRSTS + 64]);
+    state.phase = phase_by(words[8], words[9], words[10]);
+}
+
+// Reads the places.
+pub fn read_places(places: &mut [Place; 64], words: &[u64; 448])
+    ensures { places.new ≡ places_of words.now }
+{
     for (i, place) in places.iter_mut().enumerate() {
-        *place = place_in(words, i);
-    }
-    let mut first = [0; 64];
-    first.copy_from_slice(&words[FIRSTS..FIRSTS + 64]);
-    State {
-        blocks: words[0],
-        pages: words[1],
-        slots: words[2],
-        next: TxNumber(words[3]),
-        last: CommitTime(words[4]),
-        saved: CommitTime(words[5]),
-        end: EndPlace(words[6]),
-        tail: *tail,
-        places,
-        ring: words[7],
-        first,
-        phase: phase_by(words[8], words[9], words[10]),
+        read_place(place, words, i);
     }
 }
 
-// The words of a life. Those that say nothing of it stay, as the number of a place that is free.
-fn life_words(life: Life, before: [u64; 4]) -> [u64; 4]
-    ensures { life_by (get_or result 0 0) (get_or result 1 0) (get_or result 2 0) (get_or result 3 0) ≡ life }
-{
-    let [kind, number, time, end] = before;
-    match life {
-        Life::Free => [
-            if kind == 1 || kind == 2 { 0 } else { kind },
-            number,
-            time,
-            end,
-        ],
-        Life::Active(number, clock) => [1, number.0, clock, end],
-        Life::Committed(number, time, end) => [2, number.0, time.0, end.0],
-    }
-}
-
-// The words of a phase, likewise.
+// The words of a phase. Those that say nothing of it stay, as the time of one that is idle.
 fn phase_words(phase: Phase, before: [u64; 3]) -> [u64; 3]
     ensures { phase_by (get_or result 0 0) (get_or result 1 0) (get_or result 2 0) ≡ phase }
 {
@@ -105,23 +90,39 @@ fn phase_words(phase: Phase, before: [u64; 3]) -> [u64; 3]
     }
 }
 
+// Lays a life over its words. Those that say nothing of it stay, as the number of a place that is free.
+fn lay_life(words: &mut [u64; 448], i: usize, life: Life)
+    requires { i < 64 }
+    ensures here { life_by (get_or words.new (128 + i) 0) (get_or words.new (192 + i) 0) (get_or words.new (256 + i) 0) (get_or words.new (320 + i) 0) ≡ life }
+    ensures beside { KeepsOthers words.old words.new i }
+{
+    match life {
+        Life::Free => {
+            if words[KINDS + i] == 1 || words[KINDS + i] == 2 {
+                words[KINDS + i] = 0;
+            }
+        }
+        Life::Active(number, clock) => {
+            words[KINDS + i] = 1;
+            words[NUMBERS + i] = number.0;
+            words[TIMES + i] = clock;
+        }
+        Life::Committed(number, time, end) => {
+            words[KINDS + i] = 2;
+            words[NUMBERS + i] = number.0;
+            words[TIMES + i] = time.0;
+            words[ENDS + i] = end.0;
+        }
+    }
+}
+
 // Lays a place over its words.
 fn lay_place(words: &mut [u64; 448], i: usize, place: Place)
     requires { i < 64 }
     ensures here { place_in words.new i ≡ place }
     ensures beside { KeepsOthers words.old words.new i }
 {
-    let before = [
-        words[KINDS + i],
-        words[NUMBERS + i],
-        words[TIMES + i],
-        words[ENDS + i],
-    ];
-    let [kind, number, time, end] = life_words(place.life, before);
-    words[KINDS + i] = kind;
-    words[NUMBERS + i] = number;
-    words[TIMES + i] = time;
-    words[ENDS + i] = end;
+    lay_life(words, i, place.life);
     words[COUNTS + i] = place.waiting;
 }
 

@@ -1,27 +1,27 @@
--- What was printed, and what the definition still does with the room as it is, make up the whole.
-use mathlib.Core.Path.{sym, ◌∙◌}
-use lib.ListN.{take}
-use native.Mathlib.Omega.{arith}
-use Rattle.relief.proofs.FreeLaws.{free_turn, free_none, free_last}
+-- Where the numbers do not fit, and where no call comes next, the words stay as they are; else the state is laid over them.
+use mathlib.Core.Path.{refl, sym, ◌∙◌}
+use mathlib.Core.List.{[]}
+use Rattle.relief.specs.Words.{places_of, state_of, state_by, with_places}
+use Rattle.relief.proofs.WordLaws.{length_places}
+use Rattle.relief.proofs.FreeLaws.{free_none, fit_alike, unfit, freed_tail, held}
 use Rattle.relief.proofs.free.free.Goals as goal
 
-pub returns-in_default-clause-value : goal.returns-in_default-clause-value
-returns-in_default-clause-value c =
-    let k = c.loop in
-    free_none k.state k.medium k.cache (take k.n k.out) k.counter _ k.invariant.4 (sym c.in_default.is ∙ c.relief.ensures) _ c.put_end.ensures.out_after
+pub returns-then-not-is_fit-clause-value : goal.returns-then-not-is_fit-clause-value
+unfolding state_of state_by with_places
+returns-then-not-is_fit-clause-value c =
+    let w = c.args.words.now in
+    let r = c.read_numbers in
+    let f = sym (fit_alike r.new.state (places_of w) _ _ (r.ensures.places_len ∙ sym (length_places w))) ∙ sym c.is_fit.ensures ∙ c.if-not-is_fit.true in
+    free_none _ _ _ [] 0 _ refl (unfit _ _ _ (rw r.ensures.numbers at f)) _ c.put_end.ensures.out_after
 
-pub loop-preserved : goal.loop-preserved
-loop-preserved c =
-    let k = c.loop in (
-      omega arith,
-      omega arith,
-      omega arith,
-      omega arith,
-      free_turn k.state k.medium k.cache (take k.n k.out) k.counter _ k.invariant.4 _ (sym c.in-Some.is ∙ c.relief.ensures) _ _ _ _ _ c.loop-test.true
-          c.make-answer.ensures c.put_call-n.ensures.out_after,
-    )
+pub returns-in_default-clause-value : goal.returns-in_default-clause-value
+unfolding state_of state_by
+returns-in_default-clause-value c =
+    let f = rw (c.read_places.ensures, c.read_numbers.ensures.numbers) at c.relief.ensures in
+    free_none _ _ _ [] 0 _ refl (sym c.in_default.is ∙ f) _ c.put_end-in_default.ensures.out_after
 
 pub returns-clause-value : goal.returns-clause-value
+unfolding state_of state_by
 returns-clause-value c =
-    let k = c.loop in
-    free_last k.state k.medium k.cache (take k.n k.out) k.counter _ k.invariant.4 c.loop-test.false _ c.relief-next.ensures _ c.put_end-2.ensures.out_after
+    let e = rw (c.read_places.ensures, c.read_numbers.ensures.numbers) at c.make_calls-n.ensures.value in
+    held e _ _ (freed_tail 70 _ _ _) c.lay.ensures

@@ -6,21 +6,19 @@ use mathlib.Core.Path.{◌∙◌}
 use lib.ListN.{length-set}
 use native.Mathlib.Omega.{arith}
 use Rattle.store.specs.Places.{free_place}
-use Rattle.relief.specs.Words.{place_in, places_of, first_of, state_by, state_of}
-use Rattle.relief.proofs.words.state_of.Goals as goal
+use Rattle.relief.specs.Words.{place_in, places_of}
+use Rattle.relief.proofs.words.read_places.Goals as goal
 
 pub loop-i-preserved : goal.loop-i-preserved
 loop-i-preserved c =
-    let within : c.loop-i.i < length c.loop-i.place-items = omega arith in (
+    let within : c.loop-i.i < length c.loop-i.places = omega arith in (
       length-set _ _ _ ∙ c.loop-i.invariant.0,
       below_more _ _
           (λ k h. let other : k ≢ c.loop-i.i = omega arith in rw get_or-set_other (c.loop-i.invariant.1 k h))
-          (get_or-set_same _ _ _ _ within ∙ c.place_in.ensures),
+          (get_or-set_same _ _ _ _ within ∙ c.read_place.ensures),
     )
 
 pub returns : goal.returns
-unfolding state_of state_by places_of first_of
+unfolding places_of
 returns c =
-    let a = c.args in
-    let e = fill_by_all (place_in a.words.now) c.loop-i.place-items 64 free_place (omega arith) (λ k h. c.loop-i.invariant.1 k (omega arith)) in
-    rw (e, c.copy_from_slice.ensures.after, c.phase_by.ensures)
+    fill_by_all (place_in c.args.words.now) c.loop-i.places 64 free_place (omega arith) (λ k h. c.loop-i.invariant.1 k (omega arith))
