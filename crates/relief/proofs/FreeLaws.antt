@@ -3,16 +3,16 @@
 use Rattle.std.specs.Prelude.{false, Option, Some, None, Result}
 use mathlib.Core.Path.{◌≡◌, refl, sym, ap, ◌∙◌}
 use mathlib.Core.List.{List, ◌++◌, append_assoc}
-use lib.ListN.{length}
-use Rattle.store.specs.declared.Place.{Place}
 use Prim.Native.Nat.{ℕ, zero, suc, ◌+◌, ◌-◌, ◌≤◌, ◌<◌}
 use native.Mathlib.Omega.{arith}
+use lib.ListN.{length}
 use Rattle.store.specs.declared.Answer.{Answer}
 use Rattle.store.specs.declared.Refusal.{Refusal}
 use Rattle.store.specs.declared.Relief.{Relief}
 use Rattle.store.specs.declared.Relief.TheVariants.{StoreLog, StorePage, Checkpoint}
 use Rattle.store.specs.declared.Phase.{Phase}
 use Rattle.store.specs.declared.Phase.TheVariants.{Idle, FirstStored, SecondStored}
+use Rattle.store.specs.declared.Place.{Place}
 use Rattle.store.specs.declared.State.{State}
 use Rattle.store.specs.Answer.{answer_number, leaves, ask}
 use Rattle.store.specs.State.{fits, with_phase}
@@ -80,7 +80,7 @@ freed_tail (suc n) s m c = go (relief_of s m c) (freed_tail n)
     go (Some next) rest = let o = made_of next s m c in rest o.state o.medium o.cache ∙ made_tail next s m c
     go None rest = refl
 
--- what is left, where the words v hold its state
+-- what was printed and is left, where the words v hold its state
 pub held : {f : Freed} {t : List ℕ} {s : State} {m c : List ℕ} → freed t s m c ≡ f → (v tail : List ℕ) → f.state.tail ≡ tail
     → state_of v s.tail ≡ s → freed t (state_of v tail) m c ≡ f
 held {t = t} {m = m} {c = c} e v tail k h =

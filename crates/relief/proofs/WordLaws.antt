@@ -13,6 +13,7 @@ use Rattle.store.specs.declared.Place.{Place}
 use Rattle.store.specs.declared.State.{State}
 use Rattle.relief.specs.Words.{place_in, places_of, first_of, state_by, state_of, with_places}
 
+-- there are as many places as a state has
 pub length_places : (w : List ℕ) → length (places_of w) ≡ 64
 unfolding places_of
 length_places w = length-map-range_with_len (place_in w) 0 64
