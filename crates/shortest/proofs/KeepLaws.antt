@@ -50,7 +50,7 @@ module _ (bs : List ℕ) (ks : List (Option Call)) (n a : ℕ) (m : n ≤ 12) (l
   many = length-map (script_of (lines_of bs)) line_of
 
   -- no line comes behind them
-  keep_ends : script_of (lines_of (drop a bs)) ≡ [] → Whole bs ks
+  pub keep_ends : script_of (lines_of (drop a bs)) ≡ [] → Whole bs ks
   unfolding too_long
   keep_ends e =
       let g : take n ks ≡ calls_of (script_of (lines_of bs)) =
