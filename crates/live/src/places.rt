@@ -13,20 +13,13 @@ pub fn find_active(places: &[Place; 64], number: u64) -> Option<usize>
         .position(|place| place.life.is_active_as(number))
 }
 
-// The first place that is committed under the number. Eight places are tried at a turn: one at a time, the loop's own
-// steps take a third of a search, and a read along a chain searches for each version that waits.
+// The first place that is committed under the number.
 pub fn find_committed(places: &[Place; 64], number: u64) -> Option<usize>
     ensures { result ≡ find_committed places.now number }
 {
-    for turn in 0..8 {
-        for k in 0..8 {
-            let i = 8 * turn + k;
-            if places[i].life.is_committed_as(number) {
-                return Some(i);
-            }
-        }
-    }
-    None
+    places
+        .iter()
+        .position(|place| place.life.is_committed_as(number))
 }
 
 // How far behind `ring` the first free place is, round the ring.
