@@ -20,7 +20,7 @@ use Rattle.store.specs.StoreLog.{store_log_asks, log_stored, store_log_if, store
 use Rattle.store.specs.StorePage.{store_page_asks, page_stored, store_page_if, store_page_of}
 use Rattle.store.specs.Checkpoint.{checkpoint_asks, checkpoint_step, checkpoint_if, checkpoint_of}
 use Rattle.store.specs.Relief.{relief_of}
-use Rattle.relief.specs.Free.{made_of, call_text, end_text, Freed, freed, behind, freed_by, freed_from}
+use Rattle.relief.specs.Free.{made_of, call_text, end_text, Freed, freed, behind, freed_by, freed_from, LeftAs}
 use Rattle.relief.specs.Words.{state_of, with_places}
 
 -- of a room in which this comes next; x is what was printed, and w the whole
@@ -86,6 +86,13 @@ pub held : {f : Freed} {t : List ℕ} {s : State} {m c : List ℕ} → freed t s
 held {t = t} {m = m} {c = c} e v tail k h =
     let same = ap (λ (g : Freed). g.state.tail) e ∙ k in
     ap (λ r. freed t r m c) (ap (state_of v) (sym same) ∙ h) ∙ e
+
+-- what is left, where the words v hold its state
+pub left_as : {f : Freed} {t : List ℕ} {s : State} {m c : List ℕ} → freed t s m c ≡ f → (v tail : List ℕ) → f.state.tail ≡ tail
+    → state_of v s.tail ≡ s → LeftAs f (state_of v tail) m c
+left_as e v tail k h =
+    let g = held e v tail k h in
+    (ap (λ (f : Freed). f.state) g, ap (λ (f : Freed). f.medium) g, ap (λ (f : Freed). f.cache) g)
 
 -- whether a state fits, its places do not say
 pub fit_alike : (s : State) (ps : List Place) (m c : ℕ) → length s.places ≡ length ps → fits s m c ≡ fits (with_places s ps) m c
